@@ -1,0 +1,175 @@
+-- Laws about bits and fields, for any place and any width.
+use mathlib.Core.Path.{_≡_, refl, sym, ap, _∙_}
+use mathlib.Core.List.{List}
+use mathlib.Core.Logic.{⊎-elim, _⊎_, inl, inr, _≢_}
+use mathlib.Core.Bool.{true}
+use borrow.Author.Tests.{eq-eqb}
+use native.Mathlib.Decide.{decLt, ℕ-discrete}
+use Prim.Native.Nat.{ℕ, zero, suc, _+_, _-_, _*_, _/_, _%_, _^_, _≤_, _<_}
+use native.Mathlib.Nat.{pow-suc, pow-succ', add-mul, mul-assoc, add-assoc, mod-lt, mod-eq-of-lt, div-lt-iff-lt-mul, mul-left-comm, lt-of-lt-of-le, zero-mod}
+use native.Mathlib.Omega.{arith}
+use native.Mathlib.Numerals.{add-one}
+use lib.Pow.{pow-pos, pow-mono, pow-add, shr-shr, high, low, field, mod-mod-pow, mod-pow-add}
+use lib.Arith.{digits-lt, digits-div, digits-mod}
+use lib.ListN.{length, getD, set, length-set}
+use lib.Seq.{getD-set-same, getD-set-other, set-out}
+use Rattle.bits.specs.Bits.{after, bitAt, valueAt, withDigit, withBit, withField, endsAt, bytesTo, restOf}
+
+pub bit-lt : (s : List ℕ) (i : ℕ) → bitAt s i < 2
+unfolding bitAt
+bit-lt s i = omega arith
+
+-- A field of w bits is below 2 ^ w.
+pub value-lt : (s : List ℕ) (i w : ℕ) → valueAt s i w < 2 ^ w
+unfolding valueAt
+value-lt s i zero = omega arith
+value-lt s i (suc w) = rw pow-suc (omega (arith, value-lt s i w, bit-lt s (i + w)))
+
+pub value-small : (s : List ℕ) (i w m : ℕ) → w ≤ m → valueAt s i w < 2 ^ m
+value-small s i w m h = lt-of-lt-of-le (value-lt s i w) (pow-mono h)
+
+-- One bit more of a field.
+pub value-more : (s : List ℕ) (i k v b : ℕ) → v ≡ valueAt s i k → b ≡ bitAt s (i + k) → 2 * v + b ≡ valueAt s i (k + 1)
+unfolding valueAt
+value-more s i k v b p q = rw (p, q, add-one, valueAt)
+
+pub after-lt : (i : ℕ) → after i < 8
+unfolding after
+after-lt i = omega arith
+
+-- A place is known from its byte and the bits after it.
+place-of : (j i : ℕ) → j / 8 ≡ i / 8 → after j ≡ after i → j ≡ i
+unfolding after
+place-of j i e a = omega arith
+
+-- A byte stays a byte.
+pub digit-lt : (x k b : ℕ) → x < 256 → k < 8 → b < 2 → withDigit x k b < 256
+unfolding withDigit
+digit-lt x k b hx hk hb =
+    let seven : 7 - k + k ≡ 7 = omega arith in
+    let half : 2 ^ (7 - k) * 2 ^ k ≡ 128 = sym (pow-add 2 (7 - k) k) ∙ ap (λ (e : ℕ). 2 ^ e) seven in
+    let whole : 2 ^ (7 - k) * (2 * 2 ^ k) ≡ 256 = mul-left-comm (2 ^ (7 - k)) 2 (2 ^ k) ∙ ap (λ (e : ℕ). 2 * e) half in
+    let full : 0 < 2 * 2 ^ k = omega (arith, pow-pos k) in
+    let top : x / (2 * 2 ^ k) < 2 ^ (7 - k) = div-lt-iff-lt-mul full .1 (rw whole hx) in
+    rw whole at (digits-lt top (digits-lt hb (mod-lt x (pow-pos k))))
+
+pub digit-is : (x h k b : ℕ) → h ≡ 2 ^ k → x / (2 * h) * (2 * h) + (b * h + x % h) ≡ withDigit x k b
+unfolding withDigit
+digit-is x h k b e = rw e
+
+-- ---- what a written bit is, and what it leaves
+
+-- The bit written is the bit read.
+digit-same : (x k b : ℕ) → b < 2 → withDigit x k b / 2 ^ k % 2 ≡ b
+unfolding withDigit
+digit-same x k b h =
+    let regroup : x / (2 * 2 ^ k) * (2 * 2 ^ k) + (b * 2 ^ k + x % 2 ^ k) ≡ (x / (2 * 2 ^ k) * 2 + b) * 2 ^ k + x % 2 ^ k =
+            simp (add-mul, mul-assoc, add-assoc) in
+    rw (regroup, digits-div (x / (2 * 2 ^ k) * 2 + b) (mod-lt x (pow-pos k))) (digits-mod (x / (2 * 2 ^ k)) h)
+
+-- Bits of a higher worth are kept.
+digit-high : (x k b m : ℕ) → b < 2 → k < m → withDigit x k b / 2 ^ m ≡ x / 2 ^ m
+unfolding withDigit
+digit-high x k b m h l =
+    let p : 2 * 2 ^ k ≡ 2 ^ suc k = sym (pow-succ' 2 k) in
+    let low : b * 2 ^ k + x % 2 ^ k < 2 * 2 ^ k = digits-lt h (mod-lt x (pow-pos k)) in
+    let e : suc k + (m - suc k) ≡ m = omega arith in
+    let up : (y : ℕ) → y / 2 ^ m ≡ y / (2 * 2 ^ k) / 2 ^ (m - suc k) = λ y. rw p (rw (shr-shr y (suc k) (m - suc k), e)) in
+    up (x / (2 * 2 ^ k) * (2 * 2 ^ k) + (b * 2 ^ k + x % 2 ^ k)) ∙ ap (λ (y : ℕ). y / 2 ^ (m - suc k)) (digits-div (x / (2 * 2 ^ k)) low) ∙ sym (up x)
+
+-- Bits of a lower worth are kept.
+digit-low : (x k b m : ℕ) → m < k → withDigit x k b / 2 ^ m % 2 ≡ x / 2 ^ m % 2
+unfolding withDigit
+digit-low x k b m l =
+    let regroup : x / (2 * 2 ^ k) * (2 * 2 ^ k) + (b * 2 ^ k + x % 2 ^ k) ≡ (x / (2 * 2 ^ k) * 2 + b) * 2 ^ k + x % 2 ^ k =
+            simp (add-mul, mul-assoc, add-assoc) in
+    let e : k ≡ k - m - 1 + 1 + m = omega arith in
+    let part : (y : ℕ) → y / 2 ^ m % 2 ≡ y % 2 ^ k / 2 ^ m % 2 =
+            λ y. sym (ap (λ (j : ℕ). y % 2 ^ j / 2 ^ m % 2) e ∙ ap (λ (z : ℕ). z % 2) (field y (k - m - 1 + 1) m) ∙ mod-mod-pow (y / 2 ^ m) (k - m - 1) 1) in
+    part (x / (2 * 2 ^ k) * (2 * 2 ^ k) + (b * 2 ^ k + x % 2 ^ k))
+    ∙ ap (λ (y : ℕ). y / 2 ^ m % 2) (ap (λ (y : ℕ). y % 2 ^ k) regroup ∙ digits-mod (x / (2 * 2 ^ k) * 2 + b) (mod-lt x (pow-pos k)))
+    ∙ sym (part x)
+
+pub bit-same : (s : List ℕ) (i b : ℕ) → b < 2 → i < 8 * length s → bitAt (withBit s i b) i ≡ b
+unfolding bitAt withBit
+bit-same s i b h l =
+    let at : i / 8 < length s = omega arith in
+    rw (getD-set-same s (i / 8) (withDigit (getD s (i / 8) 0) (after i) b) 0 at) (digit-same (getD s (i / 8) 0) (after i) b h)
+
+same-byte : (x k b m : ℕ) → b < 2 → m ≢ k → withDigit x k b / 2 ^ m % 2 ≡ x / 2 ^ m % 2
+same-byte x k b m h n = go (decLt m k)
+  where
+    go : Dec (m < k) → withDigit x k b / 2 ^ m % 2 ≡ x / 2 ^ m % 2
+    go (yes l) = digit-low x k b m l
+    go (no l) = ap (λ (y : ℕ). y % 2) (digit-high x k b m h (omega arith))
+
+-- All other bits are kept.
+pub bit-other : (s : List ℕ) (i b j : ℕ) → b < 2 → j ≢ i → bitAt (withBit s i b) j ≡ bitAt s j
+unfolding bitAt withBit
+bit-other s i b j h n = go (ℕ-discrete (j / 8) (i / 8)) (decLt (i / 8) (length s))
+  where
+    go : Dec (j / 8 ≡ i / 8) → Dec (i / 8 < length s) →
+        getD (set s (i / 8) (withDigit (getD s (i / 8) 0) (after i) b)) (j / 8) 0 / 2 ^ after j % 2 ≡ getD s (j / 8) 0 / 2 ^ after j % 2
+    go (no d) l = ap (λ (y : ℕ). y / 2 ^ after j % 2) (getD-set-other s (i / 8) (j / 8) (withDigit (getD s (i / 8) 0) (after i) b) 0 d)
+    go (yes e) (no l) = ap (λ (y : List ℕ). getD y (j / 8) 0 / 2 ^ after j % 2) (set-out s (i / 8) (withDigit (getD s (i / 8) 0) (after i) b) (omega arith))
+    go (yes e) (yes l) =
+        rw (e, getD-set-same s (i / 8) (withDigit (getD s (i / 8) 0) (after i) b) 0 l)
+        (same-byte (getD s (i / 8) 0) (after i) b (after j) h (λ a. n (place-of j i e a)))
+
+-- The last bit of a field is written first.
+pub field-step : (s : List ℕ) (i k v : ℕ) → 0 < k → withField s i k v ≡ withField (withBit s (i + (k - 1)) (v % 2)) i (k - 1) (v / 2)
+unfolding withField
+field-step s i zero v h = absurd (omega arith)
+field-step s i (suc k) v h =
+    let e : suc k - 1 ≡ k = omega arith in
+    rw e
+
+pub length-bit : (s : List ℕ) (i b : ℕ) → length (withBit s i b) ≡ length s
+unfolding withBit
+length-bit s i b = simp length-set
+
+pub length-field : (s : List ℕ) (i w v : ℕ) → length (withField s i w v) ≡ length s
+unfolding withField
+length-field s i zero v = refl
+length-field s i (suc w) v = length-field (withBit s (i + w) (v % 2)) i w (v / 2) ∙ length-bit s (i + w) (v % 2)
+
+-- ---- what a written field is, and what it leaves
+
+-- Bits outside the field are kept.
+pub field-other : (s : List ℕ) (i w v j : ℕ) → (j < i) ⊎ (i + w ≤ j) → bitAt (withField s i w v) j ≡ bitAt s j
+unfolding withField
+field-other s i zero v j o = refl
+field-other s i (suc w) v j o =
+    field-other (withBit s (i + w) (v % 2)) i w (v / 2) j (⊎-elim (λ l. inl l) (λ g. inr (omega arith)) o)
+    ∙ bit-other s (i + w) (v % 2) j (omega arith) (⊎-elim (λ l. omega arith) (λ g. omega arith) o)
+
+-- Equal bits make equal fields.
+pub value-cong : (s t : List ℕ) (i w : ℕ) → ((j : ℕ) → i ≤ j → j < i + w → bitAt s j ≡ bitAt t j) → valueAt s i w ≡ valueAt t i w
+unfolding valueAt
+value-cong s t i zero h = refl
+value-cong s t i (suc w) h = rw (value-cong s t i w (λ j a b. h j a (omega arith)), h (i + w) (omega arith) (omega arith))
+
+-- The field written is the field read.
+pub value-field : (s : List ℕ) (i w v : ℕ) → i + w ≤ 8 * length s → valueAt (withField s i w v) i w ≡ v % 2 ^ w
+unfolding valueAt withField
+value-field s i zero v h = omega arith
+value-field s i (suc w) v h =
+    let t = withBit s (i + w) (v % 2) in
+    let last : bitAt (withField t i w (v / 2)) (i + w) ≡ v % 2 =
+            field-other t i w (v / 2) (i + w) (inr (omega arith)) ∙ bit-same s (i + w) (v % 2) (omega arith) (omega arith) in
+    let rest : valueAt (withField t i w (v / 2)) i w ≡ v / 2 % 2 ^ w = value-field t i w (v / 2) (omega (arith, length-bit s (i + w) (v % 2))) in
+    let whole : v % 2 ^ suc w ≡ v / 2 % 2 ^ w * 2 + v % 2 = ap (λ (k : ℕ). v % 2 ^ k) (sym (add-one w)) ∙ mod-pow-add v w 1 in
+    omega (arith, last, rest, whole)
+
+-- A field beside the one written is kept.
+pub value-beside : (s : List ℕ) (i w v j u : ℕ) → (j + u ≤ i) ⊎ (i + w ≤ j) → valueAt (withField s i w v) j u ≡ valueAt s j u
+value-beside s i w v j u o =
+    value-cong (withField s i w v) s j u (λ k a b. field-other s i w v k (⊎-elim (λ l. inl (omega arith)) (λ g. inr (omega arith)) o))
+
+-- Zero bits written to the byte end the bytes.
+pub zeros-end : (s : List ℕ) (i : ℕ) → length s ≡ bytesTo i → endsAt (withField s i (restOf i) 0) i ≡ true
+unfolding endsAt bytesTo restOf
+zeros-end s i h =
+    let zero-rest : valueAt (withField s i (8 * ((i + 7) / 8) - i) 0) i (8 * ((i + 7) / 8) - i) ≡ 0 =
+            value-field s i (8 * ((i + 7) / 8) - i) 0 (omega arith) ∙ zero-mod (2 ^ (8 * ((i + 7) / 8) - i)) in
+    simp (length-field, eq-eqb (length s) ((i + 7) / 8) h, zero-rest)

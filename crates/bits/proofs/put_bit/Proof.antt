@@ -1,0 +1,108 @@
+use borrow.Author.Needs.{needs}
+use native.Mathlib.Omega.{arith}
+use Prim.Native.Nat.{ℕ, _+_, _*_, _/_, _%_, _<_}
+use native.Mathlib.Nat.{mod-eq-of-lt}
+use mathlib.Core.Path.{_≡_, ap, _∙_}
+use lib.ListN.{getD, set}
+use Rattle.bits.specs.Bits.{after, withDigit, withBit}
+use Rattle.bits.proofs.Laws.{after-lt, digit-lt, digit-is}
+use Rattle.bits.proofs.put_bit.Statement.{statement}
+use Rattle.bits.proofs.put_bit.Tie as tie
+use Rattle.bits.proofs.put_bit.Reads as reads
+use Rattle.bits.proofs.put_bit.Lts as lts
+use Rattle.bits.proofs.weight.Reads as weight-reads
+use Rattle.bits.proofs.wide.Reads as wide-reads
+
+-- the byte that is stored, and that it is a byte
+made : (c : tie.After-wide) →
+    let x = c .wide .result in let h = c .before .before .weight .result in let a = c .before .before .before .before .args in
+    x / (2 * h) * (2 * h) + (a .b * h + x % h) ≡ withDigit (getD (a .s .now) (a .i / 8) 0) (after (a .i)) (a .b)
+made c =
+    let a = c .before .before .before .before .args in
+    digit-is (c .wide .result) (c .before .before .weight .result) (after (a .i)) (a .b) (c .before .before .weight .ensures .worth)
+    ∙ ap (λ (x : ℕ). withDigit x (after (a .i)) (a .b)) (c .wide .ensures)
+
+fits : (c : tie.After-wide) →
+    let x = c .wide .result in let h = c .before .before .weight .result in let a = c .before .before .before .before .args in
+    x / (2 * h) * (2 * h) + (a .b * h + x % h) < 256
+fits c =
+    let a = c .before .before .before .before .args in
+    rw (made c) (digit-lt (getD (a .s .now) (a .i / 8) 0) (after (a .i)) (a .b) (omega (arith, c .before .slice-known2 .given (a .i / 8))) (after-lt (a .i)) (omega arith))
+
+-- src/lib.rt:93:9
+weight-requires : tie.Need-weight-requires
+weight-requires c κs = search needs
+
+-- src/lib.rt:94:16
+mul-full : tie.Need-mul-full
+mul-full c = search needs
+
+-- src/lib.rt:95:21
+slice-read-wide : tie.Need-slice-read-wide
+slice-read-wide c = search needs
+
+-- src/lib.rt:95:9
+wide-requires : tie.Need-wide-requires
+wide-requires c κs = search needs
+
+-- src/lib.rt:96:18
+div-s : tie.Need-div-s
+div-s c = search needs
+
+-- src/lib.rt:96:18
+mul-s : tie.Need-mul-s
+mul-s c = omega (arith, fits c)
+
+-- src/lib.rt:96:40
+mul-s-2 : tie.Need-mul-s-2
+mul-s-2 c = omega (arith, fits c)
+
+-- src/lib.rt:96:51
+rem-s : tie.Need-rem-s
+rem-s c = search needs
+
+-- src/lib.rt:96:40
+add-s : tie.Need-add-s
+add-s c = omega (arith, fits c)
+
+-- src/lib.rt:96:18
+add-s-2 : tie.Need-add-s-2
+add-s-2 c = omega (arith, fits c)
+
+-- src/lib.rt:96:16
+cast-s : tie.Need-cast-s
+cast-s c = search needs
+
+-- src/lib.rt:96:5
+slice-write-s : tie.Need-slice-write-s
+slice-write-s c = search needs
+
+-- src/lib.rt:89:1
+same-length : tie.Need-same-length
+same-length c = search needs
+
+-- src/lib.rt:89:1
+returns : tie.Need-returns
+unfolding withBit
+returns c =
+    let a = c .before .before .before .before .args in
+    ap (set (a .s .now) (a .i / 8)) (mod-eq-of-lt (fits c) ∙ made c)
+
+pub put-bit-spec : {M : Type 1} → statement M
+put-bit-spec =
+    tie.close
+    (tie.spec
+    weight-requires
+    mul-full
+    slice-read-wide
+    wide-requires
+    div-s
+    mul-s
+    mul-s-2
+    rem-s
+    add-s
+    add-s-2
+    cast-s
+    slice-write-s
+    same-length
+    returns)

@@ -1,0 +1,37 @@
+use borrow.Author.Needs.{needs}
+use native.Mathlib.Omega.{arith}
+use Prim.Native.Nat.{_*_, _%_, _^_, _≤_}
+use native.Mathlib.Nat.{one-mul, mod-eq-of-lt}
+use mathlib.Core.Path.{_≡_}
+use lib.Pow.{pow-pos, pow-mono}
+use Rattle.bits.specs.Bits.{after}
+use Rattle.bits.proofs.Laws.{after-lt}
+use Rattle.bits.proofs.weight.Statement.{statement}
+use Rattle.bits.proofs.weight.Tie as tie
+use Rattle.bits.proofs.weight.Reads as reads
+use Rattle.bits.proofs.weight.Lts as lts
+
+-- src/lib.rt:85:14
+sub-result : tie.Need-sub-result
+sub-result c = search needs
+
+-- src/lib.rt:85:14
+cast-result : tie.Need-cast-result
+cast-result c = search needs
+
+-- src/lib.rt:85:5
+shl-result : tie.Need-shl-result
+shl-result c = search needs
+
+-- src/lib.rt:82:1
+returns : tie.Need-returns
+unfolding after
+returns c =
+    let k = after (c .args .i) in
+    let below : k ≤ 7 = omega (arith, after-lt (c .args .i)) in
+    let most : 2 ^ k ≤ 128 = pow-mono below in
+    let e : 1 * 2 ^ k % 4294967296 ≡ 2 ^ k = rw one-mul (mod-eq-of-lt (omega arith)) in
+    record { worth = e; least = rw e (pow-pos k); most = rw e most }
+
+pub weight-spec : {M : Type 1} → statement M
+weight-spec = tie.close (tie.spec sub-result cast-result shl-result returns)

@@ -1,0 +1,2 @@
+-- What the contracts of `bits` say.
+pub mod Bits

@@ -1,0 +1,2 @@
+-- What the contracts of `sheets` say, in reading order.
+pub mod Model

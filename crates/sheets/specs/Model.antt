@@ -1,0 +1,65 @@
+-- The values that a sound library and a sound tree stand for. Every later definition speaks of these.
+use Prim.Native.Nat.{ℕ, suc, _+_}
+use mathlib.Core.List.{List, [], _∷_, _++_}
+use mathlib.Core.Bool.{Bool}
+
+-- A tree of inverters and two-input NANDs in drawn order. The number at a leaf is a pattern's pin number or a subject tree's arrival.
+pub data Shape : Type 0 where
+  leaf : ℕ → Shape
+  inv : Shape → Shape
+  nand : Shape → Shape → Shape
+
+-- How many nodes a shape has.
+unfoldable pub size : Shape → ℕ
+size (leaf x) = 1
+size (inv a) = suc (size a)
+size (nand a b) = suc (size a + size b)
+
+-- The numbers at the leaves, in drawn order.
+unfoldable pub leaves : Shape → List ℕ
+leaves (leaf x) = x ∷ []
+leaves (inv a) = leaves a
+leaves (nand a b) = leaves a ++ leaves b
+
+-- One input pin of a cell: the number of its load bin, its intrinsic delay and its drive.
+pub record Pin : Type 0 where
+  pub bin : ℕ
+  pub intrinsic : ℕ
+  pub drive : ℕ
+
+-- A cell. A held cell (hold mark 1) is never matched; `highest` is the highest load at which the cell was measured.
+pub record Cell : Type 0 where
+  pub held : Bool
+  pub area : ℕ
+  pub highest : ℕ
+  pub pins : List Pin
+  pub drawings : List Shape
+
+-- A library: the bin loads, ascending, and the cells.
+pub record Library : Type 0 where
+  pub bins : List ℕ
+  pub cells : List Cell
+
+-- A pattern: the number of its cell, the cell, and the shape drawn.
+pub record Pattern : Type 0 where
+  pub number : ℕ
+  pub cell : Cell
+  pub drawing : Shape
+
+unfoldable pub drawn : ℕ → Cell → List Shape → List Pattern
+drawn n c [] = []
+drawn n c (d ∷ ds) = record { number = n; cell = c; drawing = d } ∷ drawn n c ds
+
+unfoldable pub patternsFrom : ℕ → List Cell → List Pattern
+patternsFrom n [] = []
+patternsFrom n (c ∷ cs) = drawn n c (c .drawings) ++ patternsFrom (suc n) cs
+
+-- The patterns, numbered by their place in this list: from 0 through the whole sheet, held cells included.
+unfoldable pub patterns : Library → List Pattern
+patterns l = patternsFrom 0 (l .cells)
+
+-- A subject tree with its root load and its required time.
+pub record Tree : Type 0 where
+  pub load : ℕ
+  pub required : ℕ
+  pub shape : Shape

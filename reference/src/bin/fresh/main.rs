@@ -1,0 +1,28 @@
+//! Runs fresh random sheets through the product and the reference and compares.
+//!
+//! `fresh judge [COUNT] [SEED]`: the two judges.
+//! `fresh map [COUNT] [SEED]`: map and list (feature `product_map`).
+//!
+//! The exit status is 1 if anything disagrees.
+
+mod judge;
+mod tally;
+
+use std::process::ExitCode;
+
+fn main() -> ExitCode {
+    let arguments: Vec<String> = std::env::args().skip(1).collect();
+    let number = |position: usize, default: u64| match arguments.get(position) {
+        Some(text) => text.parse().expect("a number"),
+        None => default,
+    };
+    let tally = match arguments.first().map(String::as_str) {
+        Some("judge") => judge::run(number(1, 100_000), number(2, 1)),
+        _ => {
+            eprintln!("usage: fresh judge [COUNT] [SEED]");
+            return ExitCode::from(2);
+        }
+    };
+    tally.print();
+    ExitCode::from(!tally.all_agree() as u8)
+}

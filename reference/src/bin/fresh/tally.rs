@@ -1,0 +1,57 @@
+//! Counts of agreement, and the first disagreement.
+
+use std::collections::BTreeMap;
+
+#[derive(Default)]
+pub struct Tally {
+    agreed: BTreeMap<String, u64>,
+    disagreed: u64,
+    first: Option<String>,
+}
+
+impl Tally {
+    pub fn agree(&mut self, key: String) {
+        *self.agreed.entry(key).or_insert(0) += 1;
+    }
+
+    /// `story` is told for the first disagreement only.
+    pub fn disagree(&mut self, story: impl FnOnce() -> String) {
+        self.disagreed += 1;
+        self.first.get_or_insert_with(story);
+    }
+
+    pub fn all_agree(&self) -> bool {
+        self.disagreed == 0
+    }
+
+    pub fn print(&self) {
+        let agreed: u64 = self.agreed.values().sum();
+        for (key, count) in &self.agreed {
+            println!("  {key}: {count}");
+        }
+        println!("agreed {agreed} of {}", agreed + self.disagreed);
+        if let Some(story) = &self.first {
+            println!("first disagreement:\n{story}");
+        }
+    }
+}
+
+/// How an answer is counted: refusals by number.
+pub fn key(success: &str, coded: u64) -> String {
+    match coded >> 32 {
+        0 => success.to_string(),
+        number => format!("refused {number:>2}"),
+    }
+}
+
+/// An answer in words.
+pub fn words(coded: u64) -> String {
+    match coded >> 32 {
+        0 => format!("success {coded}"),
+        number => format!("refused {number} {}", coded as u32),
+    }
+}
+
+pub fn hex(bytes: &[u8]) -> String {
+    bytes.iter().map(|byte| format!("{byte:02x}")).collect()
+}

@@ -1,0 +1,112 @@
+//! Whole curves: how they are delayed, joined and united.
+
+use crate::cover::Pair;
+
+/// A trade-off and the lowest pattern that reaches it (at a leaf, 0).
+#[derive(Clone, Copy, PartialEq, Eq, Debug)]
+pub struct Point {
+    pub pair: Pair,
+    pub pattern: usize,
+}
+
+/// Trade-offs, arrivals rising and areas falling. Empty if there is no cover.
+#[derive(Clone, Default, Debug)]
+pub struct Curve {
+    pub points: Vec<Point>,
+}
+
+impl Curve {
+    pub fn single(arrival: u32, area: u32, pattern: usize) -> Curve {
+        Curve { points: vec![Point { pair: Pair { arrival, area }, pattern }] }
+    }
+
+    /// The last point that arrives by `time`: of those in time it has the least area.
+    pub fn at(&self, time: u32) -> Option<&Point> {
+        let in_time = self.points.partition_point(|point| point.pair.arrival <= time);
+        self.points[..in_time].last()
+    }
+
+    /// Both together: the later arrival and the sum of the areas, with this curve's
+    /// pattern, after the other has been delayed.
+    pub fn join(&self, other: &Curve, delay: u32) -> Curve {
+        let mut joined = Vec::new();
+        let (mut here, mut there) = (self.points.iter().peekable(), other.points.iter().peekable());
+        let (mut left, mut right) = (None, None);
+        loop {
+            let next_left = here.peek().map(|point| point.pair.arrival);
+            let next_right = there.peek().map(|point| point.pair.arrival + delay);
+            let Some(arrival) = earlier(next_left, next_right) else { break };
+            if next_left == Some(arrival) {
+                left = here.next();
+            }
+            if next_right == Some(arrival) {
+                right = there.next();
+            }
+            if let (Some(left), Some(right)) = (left, right) {
+                let area = left.pair.area + right.pair.area;
+                joined.push(Point { pair: Pair { arrival, area }, pattern: left.pattern });
+            }
+        }
+        Curve { points: joined }
+    }
+
+    /// The trade-offs among the points of both; of equal points the lower pattern's stays.
+    pub fn unite(&mut self, other: Curve) {
+        self.points.extend(other.points);
+        self.points.sort_by_key(|point| (point.pair, point.pattern));
+        let mut least = u32::MAX;
+        self.points.retain(|point| {
+            let improves = point.pair.area < least;
+            least = least.min(point.pair.area);
+            improves
+        });
+    }
+
+    pub fn pairs(&self) -> Vec<Pair> {
+        self.points.iter().map(|point| point.pair).collect()
+    }
+}
+
+/// The earlier of two times, where there are any.
+fn earlier(one: Option<u32>, other: Option<u32>) -> Option<u32> {
+    [one, other].into_iter().flatten().min()
+}
+
+#[cfg(test)]
+mod tests {
+    use super::*;
+
+    fn curve(pairs: &[(u32, u32)], pattern: usize) -> Curve {
+        let mut curve = Curve::default();
+        pairs.iter().for_each(|&(arrival, area)| curve.unite(Curve::single(arrival, area, pattern)));
+        curve
+    }
+
+    fn pairs(curve: &Curve) -> Vec<(u32, u32)> {
+        curve.pairs().iter().map(|pair| (pair.arrival, pair.area)).collect()
+    }
+
+    #[test]
+    fn a_union_keeps_what_nothing_improves_on() {
+        let mut both = curve(&[(1, 9), (4, 6), (8, 2)], 3);
+        both.unite(curve(&[(1, 10), (3, 6), (8, 2), (9, 2), (10, 1)], 2));
+        assert_eq!(pairs(&both), [(1, 9), (3, 6), (8, 2), (10, 1)]);
+        assert_eq!(both.points.iter().map(|point| point.pattern).collect::<Vec<_>>(), [3, 2, 2, 2]);
+    }
+
+    #[test]
+    fn a_join_waits_for_both() {
+        let joined = curve(&[(1, 9), (4, 6)], 0).join(&curve(&[(0, 5), (1, 3), (7, 1)], 0), 2);
+        assert_eq!(pairs(&joined), [(2, 14), (3, 12), (4, 9), (9, 7)]);
+        assert!(curve(&[(1, 9)], 0).join(&Curve::default(), 0).points.is_empty());
+    }
+
+    #[test]
+    fn a_time_selects_the_last_point_in_time() {
+        let curve = curve(&[(2, 9), (5, 6)], 0);
+        assert_eq!(curve.at(1), None);
+        assert_eq!(curve.at(2).unwrap().pair.area, 9);
+        assert_eq!(curve.at(4).unwrap().pair.area, 9);
+        assert_eq!(curve.at(5).unwrap().pair.area, 6);
+    }
+}

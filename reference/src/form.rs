@@ -1,0 +1,131 @@
+//! A sheet as the list of its fields, so that each can be found and damaged.
+
+use crate::bits::Writer;
+use crate::library::{Cell, Library, Pin};
+use crate::shape::{Shape, Step};
+use crate::tree::Tree;
+
+#[derive(Clone, Copy, PartialEq, Eq, Debug)]
+pub enum Role {
+    BinCount,
+    BinLoad,
+    CellCount,
+    Hold,
+    Area,
+    HighestLoad,
+    PinCount,
+    PinBin,
+    Intrinsic,
+    Drive,
+    PatternCount,
+    Code,
+    PinNumber,
+    RootLoad,
+    Required,
+    Arrival,
+}
+
+impl Role {
+    pub fn width(self) -> usize {
+        match self {
+            Role::Hold => 1,
+            Role::PinBin | Role::Code => 2,
+            Role::BinCount | Role::PinCount | Role::PatternCount | Role::PinNumber => 3,
+            Role::CellCount => 7,
+            Role::BinLoad | Role::HighestLoad | Role::Drive | Role::RootLoad => 8,
+            Role::Area | Role::Intrinsic => 16,
+            Role::Arrival => 20,
+            Role::Required => 24,
+        }
+    }
+}
+
+#[derive(Clone, Copy, PartialEq, Eq, Debug)]
+pub struct Field {
+    pub role: Role,
+    pub value: u32,
+}
+
+/// Fields in order. Nothing keeps them sound.
+#[derive(Clone, Default, PartialEq, Eq, Debug)]
+pub struct Form {
+    pub fields: Vec<Field>,
+}
+
+impl Form {
+    pub fn of_library(library: &Library) -> Form {
+        let mut form = Form::default();
+        form.push(Role::BinCount, library.bins.len() as u32);
+        library.bins.iter().for_each(|&load| form.push(Role::BinLoad, load));
+        form.push(Role::CellCount, library.cells.len() as u32);
+        library.cells.iter().for_each(|cell| form.push_cell(cell));
+        form
+    }
+
+    pub fn of_tree(tree: &Tree) -> Form {
+        let mut form = Form::default();
+        form.push(Role::RootLoad, tree.root_load);
+        form.push(Role::Required, tree.required);
+        form.push_shape(&tree.shape, Role::Arrival);
+        form
+    }
+
+    fn push(&mut self, role: Role, value: u32) {
+        self.fields.push(Field { role, value });
+    }
+
+    fn push_cell(&mut self, cell: &Cell) {
+        self.push(Role::Hold, cell.held as u32);
+        self.push(Role::Area, cell.area);
+        self.push(Role::HighestLoad, cell.highest_load);
+        self.push(Role::PinCount, cell.pins.len() as u32);
+        cell.pins.iter().for_each(|pin| self.push_pin(pin));
+        self.push(Role::PatternCount, cell.patterns.len() as u32);
+        cell.patterns.iter().for_each(|shape| self.push_shape(shape, Role::PinNumber));
+    }
+
+    fn push_pin(&mut self, pin: &Pin) {
+        self.push(Role::PinBin, pin.bin);
+        self.push(Role::Intrinsic, pin.intrinsic);
+        self.push(Role::Drive, pin.drive);
+    }
+
+    fn push_shape(&mut self, shape: &Shape, leaf: Role) {
+        for step in shape.steps() {
+            match step {
+                Step::Leaf(value) => {
+                    self.push(Role::Code, 0);
+                    self.push(leaf, value);
+                }
+                Step::Inv => self.push(Role::Code, 1),
+                Step::Nand => self.push(Role::Code, 2),
+            }
+        }
+    }
+
+    /// The first bit of a field, or for the field count the first bit after the last field.
+    pub fn place(&self, field: usize) -> usize {
+        self.fields[..field].iter().map(|field| field.role.width()).sum()
+    }
+
+    /// The positions of the fields of one role.
+    pub fn find(&self, role: Role) -> Vec<usize> {
+        (0..self.fields.len()).filter(|&field| self.fields[field].role == role).collect()
+    }
+
+    /// The same form with one value changed.
+    pub fn with(&self, field: usize, value: u32) -> Form {
+        let mut changed = self.clone();
+        changed.fields[field].value = value;
+        changed
+    }
+
+    /// The sheet, with zero bits after the last field.
+    pub fn bytes(&self) -> Vec<u8> {
+        let mut writer = Writer::new();
+        for field in &self.fields {
+            writer.put(field.value, field.role.width());
+        }
+        writer.finish()
+    }
+}

@@ -1,0 +1,7 @@
+//! Sheets for tests: sound ones, damaged ones, and ones at the limits.
+
+pub mod damage;
+pub mod limits;
+pub mod longest;
+pub mod sound;
+pub mod specimen;

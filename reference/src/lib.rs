@@ -1,0 +1,21 @@
+//! A second implementation of the mapper, written from the documents and by another
+//! method than the product: it makes stored cases and checks fresh ones.
+
+pub mod bits;
+pub mod brute;
+pub mod cover;
+pub mod curve;
+pub mod form;
+pub mod generate;
+pub mod library;
+pub mod matching;
+pub mod merging;
+pub mod operation;
+#[cfg(feature = "product")]
+pub mod product;
+pub mod refusal;
+pub mod rng;
+pub mod shape;
+pub mod sheet;
+pub mod tree;
+pub mod verdict;

@@ -1,0 +1,100 @@
+//! Map and list by merging whole curves, from the highest node to the root.
+
+use crate::cover::{Cover, Pair};
+use crate::curve::{Curve, Point};
+use crate::library::Library;
+use crate::matching::{matches_at, Input, Match};
+use crate::refusal::{Refusal, CROWDED, NO_COVER};
+use crate::shape::{Node, Shape};
+use crate::tree::Tree;
+
+/// The most trade-offs of a node under one load.
+pub const MOST_TRADE_OFFS: usize = 31;
+
+pub fn map(library: &Library, tree: &Tree) -> Result<Cover, Refusal> {
+    let curves = Curves::of(library, tree)?;
+    let Some(point) = curves.root.at(tree.required) else {
+        return Err(Refusal::new(NO_COVER, 0));
+    };
+    let mut matches = Vec::new();
+    curves.follow(0, tree.root_load, point, &mut matches);
+    matches.sort();
+    Ok(Cover { area: point.pair.area, arrival: point.pair.arrival, matches })
+}
+
+pub fn list(library: &Library, tree: &Tree) -> Result<Vec<Pair>, Refusal> {
+    match Curves::of(library, tree)?.root.pairs() {
+        pairs if pairs.is_empty() => Err(Refusal::new(NO_COVER, 0)),
+        pairs => Ok(pairs),
+    }
+}
+
+/// The curves of every node below the root by bin, and the root's.
+struct Curves<'a> {
+    library: &'a Library,
+    shape: &'a Shape,
+    /// By node; filled from the highest down.
+    matches: Vec<Vec<Match<'a>>>,
+    below: Vec<Vec<Curve>>,
+    root: Curve,
+}
+
+impl<'a> Curves<'a> {
+    fn of(library: &'a Library, tree: &'a Tree) -> Result<Self, Refusal> {
+        let shape = &tree.shape;
+        let count = shape.nodes.len();
+        let matches = (0..count).map(|node| matches_at(library, shape, node)).collect();
+        let mut curves = Curves { library, shape, matches, below: vec![Vec::new(); count], root: Curve::default() };
+        for node in (1..count).rev() {
+            let by_bin = |&load: &u32| curves.checked(node, load);
+            curves.below[node] = library.bins.iter().map(by_bin).collect::<Result<_, _>>()?;
+        }
+        curves.root = curves.checked(0, tree.root_load)?;
+        Ok(curves)
+    }
+
+    fn checked(&self, node: usize, load: u32) -> Result<Curve, Refusal> {
+        let curve = self.curve(node, load);
+        if curve.points.len() > MOST_TRADE_OFFS {
+            return Err(Refusal::new(CROWDED, node));
+        }
+        Ok(curve)
+    }
+
+    fn curve(&self, node: usize, load: u32) -> Curve {
+        if let Node::Leaf(arrival) = self.shape.nodes[node] {
+            return Curve::single(arrival, 0, 0);
+        }
+        let mut curve = Curve::default();
+        for found in self.matches[node].iter().filter(|found| found.is_legal(load)) {
+            curve.unite(self.of_match(found, load));
+        }
+        curve
+    }
+
+    /// The covers that begin with one match.
+    fn of_match(&self, found: &Match, load: u32) -> Curve {
+        let cell = Curve::single(0, found.cell.area, found.pattern);
+        found.inputs.iter().fold(cell, |joined, input| {
+            joined.join(self.input(found, input), found.delay(input, load))
+        })
+    }
+
+    fn input(&self, found: &Match, input: &Input) -> &Curve {
+        &self.below[input.node][found.bin(input)]
+    }
+
+    /// Lists the matches of the cover that reaches a point.
+    fn follow(&self, node: usize, load: u32, point: &Point, matches: &mut Vec<(usize, usize)>) {
+        if self.shape.is_leaf(node) {
+            return;
+        }
+        matches.push((node, point.pattern));
+        let found = self.matches[node].iter().find(|found| found.pattern == point.pattern).unwrap();
+        for input in &found.inputs {
+            let time = point.pair.arrival - found.delay(input, load);
+            let next = self.input(found, input).at(time).expect("the point is reached through this input");
+            self.follow(input.node, self.library.bins[found.bin(input)], next, matches);
+        }
+    }
+}

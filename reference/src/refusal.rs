@@ -1,0 +1,37 @@
+//! Why an operation gives no result.
+
+/// Output or work area below its least length (document 01: short tray).
+pub const SHORT: u32 = 1;
+/// The sheet ends before or inside a field (torn).
+pub const TRUNCATED: u32 = 2;
+/// Something after the last field (loose tail).
+pub const LOOSE: u32 = 3;
+/// A value outside its range (off the scale).
+pub const RANGE: u32 = 4;
+/// A pattern's leaves are wrong (misdrawn).
+pub const MISDRAWN: u32 = 5;
+/// Too many nodes or patterns (overgrown).
+pub const OVERGROWN: u32 = 6;
+/// More than 31 trade-offs (crowded).
+pub const CROWDED: u32 = 7;
+/// No cover (arrives in time).
+pub const NO_COVER: u32 = 8;
+/// Added to a sheet's number when the sheet is a tree.
+pub const IN_TREE: u32 = 10;
+
+#[derive(Clone, Copy, PartialEq, Eq, Debug)]
+pub struct Refusal {
+    pub number: u32,
+    pub place: u32,
+}
+
+impl Refusal {
+    pub fn new(number: u32, place: usize) -> Self {
+        Refusal { number, place: place as u32 }
+    }
+
+    /// The form in which the C interface hands a refusal over.
+    pub fn coded(&self) -> u64 {
+        (self.number as u64) << 32 | self.place as u64
+    }
+}

@@ -1,0 +1,40 @@
+//! What a judge says of a sheet.
+
+use crate::generate::damage::Kind;
+use crate::refusal::Refusal;
+use crate::{library, tree};
+
+#[derive(Clone, Copy, PartialEq, Eq, Debug)]
+pub enum Verdict {
+    Library { cells: usize, patterns: usize },
+    Tree { nodes: usize },
+    Refused(Refusal),
+}
+
+impl Verdict {
+    pub fn of(kind: Kind, bytes: &[u8]) -> Verdict {
+        let accepted = match kind {
+            Kind::Library => library::judge(bytes).map(|(cells, patterns)| Verdict::Library { cells, patterns }),
+            Kind::Tree => tree::judge(bytes).map(|nodes| Verdict::Tree { nodes }),
+        };
+        accepted.unwrap_or_else(Verdict::Refused)
+    }
+
+    /// As a line of the stored results.
+    pub fn line(&self) -> String {
+        match self {
+            Verdict::Library { cells, patterns } => format!("library {cells} {patterns}"),
+            Verdict::Tree { nodes } => format!("tree {nodes}"),
+            Verdict::Refused(refusal) => format!("refused {} {}", refusal.number, refusal.place),
+        }
+    }
+
+    /// As the C interface hands it over.
+    pub fn coded(&self) -> u64 {
+        match self {
+            Verdict::Library { cells, patterns } => (cells * 256 + patterns) as u64,
+            Verdict::Tree { nodes } => *nodes as u64,
+            Verdict::Refused(refusal) => refusal.coded(),
+        }
+    }
+}
