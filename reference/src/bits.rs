@@ -19,11 +19,22 @@ impl<'a> Reader<'a> {
     /// The next field of 1 to 32 bits; `None` if the bytes end before or inside it.
     pub fn take(&mut self, width: usize) -> Option<u32> {
         let end = self.at + width;
-        let touched = self.bytes.get(self.at / 8..end.div_ceil(8))?;
-        let joined = touched.iter().fold(0u64, |sum, &byte| sum << 8 | byte as u64);
+        if end > self.bytes.len() * 8 {
+            return None;
+        }
+        let before = self.at % 8;
+        let value = self.window() << before >> (64 - width);
         self.at = end;
-        let after = touched.len() * 8 - (end - width) % 8 - width;
-        Some((joined >> after & ((1 << width) - 1)) as u32)
+        Some(value as u32)
+    }
+
+    /// The eight bytes from the one that holds the next bit, with zeros past the end.
+    fn window(&self) -> u64 {
+        let rest = &self.bytes[self.at / 8..];
+        match rest.first_chunk::<8>() {
+            Some(eight) => u64::from_be_bytes(*eight),
+            None => (0..8).fold(0, |sum, place| sum << 8 | *rest.get(place).unwrap_or(&0) as u64),
+        }
     }
 
     /// Whether only zero bits are left in the last byte, and no byte follows it.

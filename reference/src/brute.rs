@@ -8,34 +8,45 @@ use crate::refusal::{Refusal, CROWDED, NO_COVER};
 use crate::shape::Node;
 use crate::tree::Tree;
 
-pub fn map(library: &Library, tree: &Tree) -> Result<Cover, Refusal> {
-    let search = Search { library, tree };
-    search.refuse_crowded()?;
-    search.choose(0, tree.root_load, tree.required).ok_or(Refusal::new(NO_COVER, 0))
-}
+/// What is known of a node under each load considered there, in the order of the loads.
+type ByLoad<T> = Vec<Vec<T>>;
 
-pub fn list(library: &Library, tree: &Tree) -> Result<Vec<Pair>, Refusal> {
-    let search = Search { library, tree };
-    search.refuse_crowded()?;
-    match search.trade_offs(0, tree.root_load) {
-        pairs if pairs.is_empty() => Err(Refusal::new(NO_COVER, 0)),
-        pairs => Ok(pairs),
-    }
-}
-
-/// Whether no node has more covers than `most` under any load considered.
-pub fn is_small(library: &Library, tree: &Tree, most: u64) -> bool {
-    let search = Search { library, tree };
-    let mut nodes = 0..tree.shape.nodes.len();
-    nodes.all(|node| search.loads(node).iter().all(|&load| search.count(node, load) <= most))
-}
-
-struct Search<'a> {
+/// Every cover of every node under every load considered there.
+pub struct Listing<'a> {
     library: &'a Library,
     tree: &'a Tree,
+    matches: Vec<Vec<Match<'a>>>,
+    covers: ByLoad<Vec<Cover>>,
 }
 
-impl<'a> Search<'a> {
+impl<'a> Listing<'a> {
+    /// `None` if a node has more than `most` covers under some load.
+    pub fn new(library: &'a Library, tree: &'a Tree, most: u64) -> Option<Self> {
+        let count = tree.shape.nodes.len();
+        let matches = (0..count).map(|node| matches_at(library, &tree.shape, node)).collect();
+        let mut listing = Listing { library, tree, matches, covers: vec![Vec::new(); count] };
+        if listing.counts().iter().flatten().any(|&covers| covers > most) {
+            return None;
+        }
+        for node in (0..count).rev() {
+            listing.covers[node] = listing.loads(node).into_iter().map(|load| listing.list_covers(node, load)).collect();
+        }
+        Some(listing)
+    }
+
+    pub fn map(&self) -> Result<Cover, Refusal> {
+        self.refuse_crowded()?;
+        self.choose(0, 0, self.tree.required).ok_or(Refusal::new(NO_COVER, 0))
+    }
+
+    pub fn list(&self) -> Result<Vec<Pair>, Refusal> {
+        self.refuse_crowded()?;
+        match trade_offs(&self.covers[0][0]) {
+            pairs if pairs.is_empty() => Err(Refusal::new(NO_COVER, 0)),
+            pairs => Ok(pairs),
+        }
+    }
+
     /// The loads considered at a node.
     fn loads(&self, node: usize) -> Vec<u32> {
         if node == 0 {
@@ -45,75 +56,60 @@ impl<'a> Search<'a> {
         }
     }
 
-    fn legal_matches(&self, node: usize, load: u32) -> Vec<Match<'a>> {
-        let mut matches = matches_at(self.library, &self.tree.shape, node);
-        matches.retain(|found| found.is_legal(load));
-        matches
+    fn legal_matches(&self, node: usize, load: u32) -> impl Iterator<Item = &Match<'a>> {
+        self.matches[node].iter().filter(move |found| found.is_legal(load))
     }
 
-    /// Each input's node, load and delay.
-    fn inputs(&self, found: &Match, load: u32) -> Vec<(usize, u32, u32)> {
-        let parts = |input| (self.library.bins[found.bin(input)], found.delay(input, load));
-        found.inputs.iter().map(|input| (input.node, parts(input).0, parts(input).1)).collect()
+    /// How many covers there are, without listing them.
+    fn counts(&self) -> ByLoad<u64> {
+        let mut counts: ByLoad<u64> = vec![Vec::new(); self.matches.len()];
+        for node in (0..counts.len()).rev() {
+            let count = |load| self.count(node, load, &counts);
+            counts[node] = self.loads(node).into_iter().map(count).collect();
+        }
+        counts
     }
 
-    /// How many covers a node has, without listing them.
-    fn count(&self, node: usize, load: u32) -> u64 {
+    fn count(&self, node: usize, load: u32, counts: &ByLoad<u64>) -> u64 {
         if self.tree.shape.is_leaf(node) {
             return 1;
         }
         let of_match = |found: &Match| {
-            let counts = self.inputs(found, load).into_iter().map(|(node, load, _)| self.count(node, load));
-            counts.fold(1u64, u64::saturating_mul)
+            let inputs = found.inputs.iter().map(|input| counts[input.node][found.bin(input)]);
+            inputs.fold(1, u64::saturating_mul)
         };
-        self.legal_matches(node, load).iter().map(of_match).fold(0, u64::saturating_add)
+        self.legal_matches(node, load).map(of_match).fold(0, u64::saturating_add)
     }
 
-    /// Every cover of a node under a load.
-    fn covers(&self, node: usize, load: u32) -> Vec<Cover> {
+    fn list_covers(&self, node: usize, load: u32) -> Vec<Cover> {
         if let Node::Leaf(arrival) = self.tree.shape.nodes[node] {
             return vec![Cover { area: 0, arrival, matches: vec![] }];
         }
-        let matches = self.legal_matches(node, load);
-        matches.iter().flat_map(|found| self.covers_from(node, load, found)).collect()
+        self.legal_matches(node, load).flat_map(|found| self.covers_from(node, load, found)).collect()
     }
 
     /// Every cover that begins with one match.
     fn covers_from(&self, node: usize, load: u32, found: &Match) -> Vec<Cover> {
         let mut covers = vec![Cover { area: found.cell.area, arrival: 0, matches: vec![(node, found.pattern)] }];
-        for (input, input_load, delay) in self.inputs(found, load) {
-            let choices = self.covers(input, input_load);
+        for input in &found.inputs {
+            let choices = &self.covers[input.node][found.bin(input)];
+            let delay = found.delay(input, load);
             covers = covers.iter().flat_map(|cover| choices.iter().map(|choice| beside(cover, choice, delay))).collect();
         }
         covers
     }
 
-    fn trade_offs(&self, node: usize, load: u32) -> Vec<Pair> {
-        let pair = |cover: &Cover| Pair { arrival: cover.arrival, area: cover.area };
-        let mut pairs: Vec<Pair> = self.covers(node, load).iter().map(pair).collect();
-        pairs.sort();
-        pairs.dedup();
-        let improved = |pair: &Pair| {
-            pairs.iter().any(|other| other != pair && other.arrival <= pair.arrival && other.area <= pair.area)
-        };
-        pairs.iter().filter(|pair| !improved(pair)).copied().collect()
-    }
-
     fn refuse_crowded(&self) -> Result<(), Refusal> {
-        let crowded = |&node: &usize| {
-            let loads = self.loads(node);
-            loads.iter().any(|&load| self.trade_offs(node, load).len() > MOST_TRADE_OFFS)
-        };
-        match (0..self.tree.shape.nodes.len()).rev().find(crowded) {
+        let crowded = |&node: &usize| self.covers[node].iter().any(|covers| trade_offs(covers).len() > MOST_TRADE_OFFS);
+        match (0..self.covers.len()).rev().find(crowded) {
             Some(node) => Err(Refusal::new(CROWDED, node)),
             None => Ok(()),
         }
     }
 
-    /// Document 01's choice, sentence by sentence.
-    fn choose(&self, node: usize, load: u32, time: u32) -> Option<Cover> {
-        let mut covers = self.covers(node, load);
-        covers.retain(|cover| cover.arrival <= time);
+    /// Document 01's choice, sentence by sentence, under a load given by its position.
+    fn choose(&self, node: usize, load: usize, time: u32) -> Option<Cover> {
+        let mut covers: Vec<&Cover> = self.covers[node][load].iter().filter(|cover| cover.arrival <= time).collect();
         let area = covers.iter().map(|cover| cover.area).min()?;
         covers.retain(|cover| cover.area == area);
         let arrival = covers.iter().map(|cover| cover.arrival).min()?;
@@ -127,12 +123,12 @@ impl<'a> Search<'a> {
     }
 
     /// The match of `pattern` and the matches chosen for its inputs, ascending by node.
-    fn choose_inputs(&self, node: usize, load: u32, arrival: u32, pattern: usize) -> Option<Vec<(usize, usize)>> {
+    fn choose_inputs(&self, node: usize, load: usize, arrival: u32, pattern: usize) -> Option<Vec<(usize, usize)>> {
         let mut matches = vec![(node, pattern)];
-        let all = self.legal_matches(node, load);
-        let found = all.iter().find(|found| found.pattern == pattern)?;
-        for (input, input_load, delay) in self.inputs(found, load) {
-            matches.extend(self.choose(input, input_load, arrival.checked_sub(delay)?)?.matches);
+        let found = self.matches[node].iter().find(|found| found.pattern == pattern)?;
+        for input in &found.inputs {
+            let time = arrival.checked_sub(found.delay(input, self.loads(node)[load]))?;
+            matches.extend(self.choose(input.node, found.bin(input), time)?.matches);
         }
         matches.sort();
         Some(matches)
@@ -146,4 +142,16 @@ fn beside(cover: &Cover, input: &Cover, delay: u32) -> Cover {
         arrival: cover.arrival.max(input.arrival + delay),
         matches: [cover.matches.as_slice(), &input.matches].concat(),
     }
+}
+
+/// The pairs of some covers that no other pair improves on, earliest first.
+fn trade_offs(covers: &[Cover]) -> Vec<Pair> {
+    let pair = |cover: &Cover| Pair { arrival: cover.arrival, area: cover.area };
+    let mut pairs: Vec<Pair> = covers.iter().map(pair).collect();
+    pairs.sort();
+    pairs.dedup();
+    let improved = |pair: &Pair| {
+        pairs.iter().any(|other| other != pair && other.arrival <= pair.arrival && other.area <= pair.area)
+    };
+    pairs.iter().filter(|pair| !improved(pair)).copied().collect()
 }

@@ -45,9 +45,10 @@ pub fn decode(bytes: &[u8]) -> Result<Library, Refusal> {
     let mut sheet = Sheet::new(bytes, 0);
     let bins = read_bins(&mut sheet)?;
     let mut library = Library { bins, cells: Vec::new() };
+    let mut room = MOST_PATTERNS;
     for _ in 0..sheet.within(7, 1..=64)?.value {
-        let room = MOST_PATTERNS - library.pattern_count();
         let cell = read_cell(&mut sheet, library.bins.len(), room)?;
+        room -= cell.patterns.len();
         library.cells.push(cell);
     }
     sheet.end()?;
@@ -77,7 +78,7 @@ fn read_cell(sheet: &mut Sheet, bin_count: usize, pattern_room: usize) -> Result
     let area = sheet.within(16, 1..=65_535)?.value;
     let highest_load = sheet.any(8)?.value;
     let pin_count = sheet.within(3, 1..=6)?.value;
-    let mut pins = Vec::new();
+    let mut pins = Vec::with_capacity(pin_count as usize);
     for _ in 0..pin_count {
         pins.push(read_pin(sheet, bin_count)?);
     }
@@ -108,12 +109,13 @@ fn read_pattern_count(sheet: &mut Sheet, room: usize) -> Result<u32, Refusal> {
 
 fn read_pattern(sheet: &mut Sheet, pin_count: usize) -> Result<Shape, Refusal> {
     let first = sheet.at();
-    let mut seen = vec![false; pin_count];
+    let mut marks = [false; 6];
+    let seen = &mut marks[..pin_count];
     let steps = sheet.nodes(MOST_PATTERN_NODES, |sheet, code_place| {
         if code_place == first {
             return sheet.refuse(MISDRAWN, first);
         }
-        read_pin_number(sheet, &mut seen)
+        read_pin_number(sheet, seen)
     })?;
     if seen.contains(&false) {
         return sheet.refuse(MISDRAWN, first);

@@ -36,7 +36,7 @@ impl Shape {
     /// Finds every node's branches, from the last node to the first.
     pub fn from_steps(steps: &[Step]) -> Self {
         let mut nodes = vec![Node::Leaf(0); steps.len()];
-        let mut whole = Vec::new();
+        let mut whole = Vec::with_capacity(steps.len());
         for (number, step) in steps.iter().enumerate().rev() {
             nodes[number] = match *step {
                 Step::Leaf(leaf) => Node::Leaf(leaf),

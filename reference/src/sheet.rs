@@ -57,7 +57,7 @@ impl<'a> Sheet<'a> {
     where
         F: FnMut(&mut Self, usize) -> Result<u32, Refusal>,
     {
-        let mut steps = Vec::new();
+        let mut steps = Vec::with_capacity(most);
         let mut open_branches = 1;
         while open_branches > 0 {
             let code = self.any(2)?;

@@ -1,7 +1,9 @@
 //! Sheets for tests: sound ones, damaged ones, and ones at the limits.
 
+pub mod chosen;
 pub mod damage;
 pub mod limits;
 pub mod longest;
+pub mod problem;
 pub mod sound;
 pub mod specimen;

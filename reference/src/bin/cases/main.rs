@@ -2,6 +2,7 @@
 //! (the first argument; `cases` if there is none).
 
 mod judge;
+mod map;
 mod single;
 
 use std::collections::BTreeMap;
@@ -12,7 +13,8 @@ fn main() -> io::Result<()> {
     let directory = std::env::args().nth(1).map_or_else(|| PathBuf::from("cases"), PathBuf::from);
     std::fs::create_dir_all(&directory)?;
     single::write(&directory)?;
-    judge::write(&directory)
+    judge::write(&directory)?;
+    map::write(&directory)
 }
 
 /// Writes a file of cases and the file of its results, and says what they are.

@@ -1,0 +1,187 @@
+//! Random libraries and trees made for each other, so that many patterns match.
+
+use super::sound;
+use crate::form::Form;
+use crate::library::{Cell, Library, Pin};
+use crate::merging;
+use crate::rng::Rng;
+use crate::shape::{Node, Shape, Step};
+use crate::tree::{Tree, LATEST_LEAF, LATEST_REQUIRED};
+use Step::{Inv, Leaf, Nand};
+
+#[derive(Clone, Debug)]
+pub struct Problem {
+    pub library: Library,
+    pub tree: Tree,
+}
+
+impl Problem {
+    pub fn library_sheet(&self) -> Vec<u8> {
+        Form::of_library(&self.library).bytes()
+    }
+
+    pub fn tree_sheet(&self) -> Vec<u8> {
+        Form::of_tree(&self.tree).bytes()
+    }
+}
+
+/// How large a problem is and how its values lie.
+#[derive(Clone, Copy, Debug)]
+pub struct Style {
+    pub cells: usize,
+    pub nodes: usize,
+    /// The most area, intrinsic and drive of a cell, load and leaf arrival.
+    pub area: u32,
+    pub intrinsic: u32,
+    pub drive: u32,
+    pub load: u32,
+    pub arrival: u32,
+    /// Whether larger cells are faster.
+    pub graded: bool,
+}
+
+const SMALL: Style =
+    Style { cells: 8, nodes: 12, area: 6, intrinsic: 8, drive: 3, load: 6, arrival: 12, graded: false };
+const GRADED: Style =
+    Style { cells: 12, nodes: 10, area: 12, intrinsic: 24, drive: 2, load: 5, arrival: 9, graded: true };
+const STEEP: Style =
+    Style { cells: 64, nodes: 4, area: 90, intrinsic: 360, drive: 1, load: 4, arrival: 5, graded: true };
+const FULL: Style = Style {
+    cells: 8,
+    nodes: 12,
+    area: 65_535,
+    intrinsic: 65_535,
+    drive: 255,
+    load: 255,
+    arrival: LATEST_LEAF,
+    graded: false,
+};
+const LARGE: Style = Style { cells: 30, nodes: 64, ..SMALL };
+const LONG: Style = Style { cells: 3, nodes: 64, ..GRADED };
+const FULL_LONG: Style = Style { cells: 4, nodes: 64, ..FULL };
+
+pub fn any_style(rng: &mut Rng) -> Style {
+    rng.pick(&[SMALL, SMALL, SMALL, GRADED, GRADED, STEEP, FULL, LARGE, LONG, FULL_LONG])
+}
+
+/// A style whose covers can be listed one by one.
+pub fn small_style(rng: &mut Rng) -> Style {
+    let style = rng.pick(&[SMALL, SMALL, GRADED, STEEP, FULL]);
+    Style { nodes: rng.pick(&[2, 3, 5, 8, 10]), ..style }
+}
+
+/// A problem whose required time is often one of the root's arrivals, or next to one.
+pub fn problem(rng: &mut Rng, style: Style) -> Problem {
+    let library = library(rng, style);
+    let tree = tree(rng, style, &library);
+    let mut problem = Problem { library, tree };
+    problem.tree.required = required(rng, &problem);
+    problem
+}
+
+fn required(rng: &mut Rng, problem: &Problem) -> u32 {
+    let anything = rng.value(0, LATEST_REQUIRED);
+    match merging::list(&problem.library, &problem.tree) {
+        Ok(pairs) if !rng.once_in(5) => {
+            let point = rng.pick(&pairs).arrival;
+            rng.pick(&[point, point, point + 1, point.saturating_sub(1)])
+        }
+        _ => rng.pick(&[0, LATEST_REQUIRED, LATEST_REQUIRED, anything]),
+    }
+}
+
+/// Shapes that occur in libraries; pins are numbered in drawn order.
+const GATES: [&[Step]; 12] = [
+    &[Inv, Leaf(0)],
+    &[Nand, Leaf(0), Leaf(1)],
+    &[Inv, Inv, Leaf(0)],
+    &[Inv, Nand, Leaf(0), Leaf(1)],
+    &[Nand, Inv, Leaf(0), Inv, Leaf(1)],
+    &[Inv, Nand, Inv, Leaf(0), Inv, Leaf(1)],
+    &[Nand, Inv, Leaf(0), Leaf(1)],
+    &[Nand, Leaf(0), Inv, Leaf(1)],
+    &[Nand, Inv, Nand, Leaf(0), Leaf(1), Leaf(2)],
+    &[Nand, Leaf(0), Inv, Nand, Leaf(1), Leaf(2)],
+    &[Inv, Nand, Nand, Leaf(0), Leaf(1), Inv, Leaf(2)],
+    &[Nand, Nand, Leaf(0), Leaf(1), Nand, Leaf(2), Leaf(3)],
+];
+
+fn library(rng: &mut Rng, style: Style) -> Library {
+    let bins = bins(rng, style.load);
+    let mut gates: Vec<Shape> = GATES.iter().map(|steps| Shape::from_steps(steps)).collect();
+    gates.truncate(if style.graded { rng.pick(&[1, 2, 2, 4]) } else { rng.pick(&[2, 2, 4, 8, 12]) });
+    let mut library = Library { bins, cells: Vec::new() };
+    for number in 0..rng.between(1, style.cells) {
+        let shape = match number {
+            0 | 1 => gates[number % gates.len()].clone(),
+            _ if rng.once_in(8) => any_gate(rng),
+            _ => gates[rng.below(gates.len())].clone(),
+        };
+        let cell = cell(rng, style, library.bins.len(), shape);
+        library.cells.push(cell);
+    }
+    if rng.once_in(3) {
+        rng.shuffle(&mut library.cells);
+    }
+    library
+}
+
+fn any_gate(rng: &mut Rng) -> Shape {
+    let pins = rng.between(1, 4);
+    sound::pattern(rng, pins, 3)
+}
+
+fn bins(rng: &mut Rng, most: u32) -> Vec<u32> {
+    let count = rng.between(1, 4);
+    let mut bins: Vec<u32> = (0..count).map(|_| rng.value(1, most)).collect();
+    bins.sort();
+    bins.dedup();
+    bins
+}
+
+fn cell(rng: &mut Rng, style: Style, bin_count: usize, shape: Shape) -> Cell {
+    let area = rng.value(1, style.area);
+    let fastest = if style.graded { (style.area - area) * style.intrinsic / style.area } else { 0 };
+    let slowest = if style.graded { fastest + rng.value(0, 2) } else { style.intrinsic };
+    let leaves = shape.nodes.iter().filter(|node| matches!(node, Node::Leaf(_))).count();
+    let alike = pin(rng, style, bin_count, fastest, slowest);
+    let pins = (0..leaves).map(|_| if style.graded { alike } else { pin(rng, style, bin_count, fastest, slowest) });
+    let pins: Vec<Pin> = pins.collect();
+    let mut patterns = vec![shape];
+    while rng.once_in(5) && patterns.len() < 2 {
+        patterns.push(sound::pattern(rng, leaves, 2));
+    }
+    if rng.once_in(6) {
+        patterns.reverse();
+    }
+    Cell { held: rng.once_in(12), area, highest_load: highest_load(rng, style.load), pins, patterns }
+}
+
+fn highest_load(rng: &mut Rng, load: u32) -> u32 {
+    match rng.below(6) {
+        0 => rng.value(0, load),
+        1 => load,
+        _ => (2 * load).min(255),
+    }
+}
+
+fn pin(rng: &mut Rng, style: Style, bin_count: usize, fastest: u32, slowest: u32) -> Pin {
+    Pin {
+        bin: rng.below(bin_count) as u32,
+        intrinsic: rng.value(fastest, slowest.max(fastest)),
+        drive: rng.value(0, style.drive),
+    }
+}
+
+/// A random tree of the style; its root load is often a bin, or just above one.
+fn tree(rng: &mut Rng, style: Style, library: &Library) -> Tree {
+    let mut tree = sound::tree(rng, style.nodes);
+    let bin = rng.pick(&library.bins);
+    tree.root_load = rng.pick(&[0, bin, bin, (bin + 1).min(255), style.load, (2 * style.load).min(255)]);
+    for node in tree.shape.nodes.iter_mut() {
+        if let Node::Leaf(arrival) = node {
+            *arrival = if rng.once_in(2) { 0 } else { rng.value(0, style.arrival) };
+        }
+    }
+    tree
+}
