@@ -13,7 +13,10 @@ fn main() {
 }
 
 fn link_product() {
-    let directory = env::var("TREECOVER_LIB_DIR").expect("TREECOVER_LIB_DIR: the static library's directory");
+    let Ok(directory) = env::var("TREECOVER_LIB_DIR") else {
+        eprintln!("the feature product needs TREECOVER_LIB_DIR, the static library's directory");
+        std::process::exit(1);
+    };
     let name = env::var("TREECOVER_LIB_NAME").unwrap_or_else(|_| "treecover".to_string());
     println!("cargo:rerun-if-changed={directory}/lib{name}.a");
     println!("cargo:rustc-link-search=native={directory}");

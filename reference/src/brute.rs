@@ -29,7 +29,8 @@ impl<'a> Listing<'a> {
             return None;
         }
         for node in (0..count).rev() {
-            listing.covers[node] = listing.loads(node).into_iter().map(|load| listing.list_covers(node, load)).collect();
+            listing.covers[node] =
+                listing.loads(node).into_iter().map(|load| listing.list_covers(node, load)).collect();
         }
         Some(listing)
     }
@@ -94,7 +95,8 @@ impl<'a> Listing<'a> {
         for input in &found.inputs {
             let choices = &self.covers[input.node][found.bin(input)];
             let delay = found.delay(input, load);
-            covers = covers.iter().flat_map(|cover| choices.iter().map(|choice| beside(cover, choice, delay))).collect();
+            covers =
+                covers.iter().flat_map(|cover| choices.iter().map(|choice| beside(cover, choice, delay))).collect();
         }
         covers
     }

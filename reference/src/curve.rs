@@ -1,6 +1,7 @@
 //! Whole curves: how they are delayed, joined and united.
 
 use crate::cover::Pair;
+use std::iter::Peekable;
 
 /// A trade-off and the lowest pattern that reaches it (at a leaf, 0).
 #[derive(Clone, Copy, PartialEq, Eq, Debug)]
@@ -14,6 +15,8 @@ pub struct Point {
 pub struct Curve {
     pub points: Vec<Point>,
 }
+
+type Points<'a> = Peekable<std::slice::Iter<'a, Point>>;
 
 impl Curve {
     pub fn single(arrival: u32, area: u32, pattern: usize) -> Curve {
@@ -29,7 +32,7 @@ impl Curve {
     /// Both together: the later arrival and the sum of the areas, with this curve's
     /// pattern, after the other has been delayed.
     pub fn join(&self, other: &Curve, delay: u32) -> Curve {
-        let mut joined = Vec::new();
+        let mut joined = Vec::with_capacity(self.points.len() + other.points.len());
         let (mut here, mut there) = (self.points.iter().peekable(), other.points.iter().peekable());
         let (mut left, mut right) = (None, None);
         loop {
@@ -52,18 +55,28 @@ impl Curve {
 
     /// The trade-offs among the points of both; of equal points the lower pattern's stays.
     pub fn unite(&mut self, other: Curve) {
-        self.points.extend(other.points);
-        self.points.sort_by_key(|point| (point.pair, point.pattern));
-        let mut least = u32::MAX;
-        self.points.retain(|point| {
-            let improves = point.pair.area < least;
-            least = least.min(point.pair.area);
-            improves
-        });
+        let mut united: Vec<Point> = Vec::with_capacity(self.points.len() + other.points.len());
+        let (mut here, mut there) = (self.points.iter().peekable(), other.points.iter().peekable());
+        while let Some(point) = next_of(&mut here, &mut there) {
+            if united.last().is_none_or(|last| point.pair.area < last.pair.area) {
+                united.push(*point);
+            }
+        }
+        self.points = united;
     }
 
     pub fn pairs(&self) -> Vec<Pair> {
         self.points.iter().map(|point| point.pair).collect()
+    }
+}
+
+/// The first of the points that come next: the earlier, the smaller, the lower pattern's.
+fn next_of<'a>(here: &mut Points<'a>, there: &mut Points<'a>) -> Option<&'a Point> {
+    let rank = |point: &&Point| (point.pair, point.pattern);
+    match (here.peek().map(rank), there.peek().map(rank)) {
+        (Some(left), Some(right)) if right < left => there.next(),
+        (None, _) => there.next(),
+        _ => here.next(),
     }
 }
 

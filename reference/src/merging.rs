@@ -75,9 +75,7 @@ impl<'a> Curves<'a> {
     /// The covers that begin with one match.
     fn of_match(&self, found: &Match, load: u32) -> Curve {
         let cell = Curve::single(0, found.cell.area, found.pattern);
-        found.inputs.iter().fold(cell, |joined, input| {
-            joined.join(self.input(found, input), found.delay(input, load))
-        })
+        found.inputs.iter().fold(cell, |joined, input| joined.join(self.input(found, input), found.delay(input, load)))
     }
 
     fn input(&self, found: &Match, input: &Input) -> &Curve {

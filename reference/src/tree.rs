@@ -21,9 +21,8 @@ pub fn decode(bytes: &[u8]) -> Result<Tree, Refusal> {
     let mut sheet = Sheet::new(bytes, IN_TREE);
     let root_load = sheet.any(8)?.value;
     let required = sheet.any(24)?.value;
-    let steps = sheet.nodes(MOST_TREE_NODES, |sheet, _| {
-        sheet.within(20, 0..=LATEST_LEAF).map(|arrival| arrival.value)
-    })?;
+    let steps =
+        sheet.nodes(MOST_TREE_NODES, |sheet, _| sheet.within(20, 0..=LATEST_LEAF).map(|arrival| arrival.value))?;
     sheet.end()?;
     Ok(Tree { root_load, required, shape: Shape::from_steps(&steps) })
 }

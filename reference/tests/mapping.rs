@@ -2,48 +2,48 @@
 
 use reference::brute::Listing;
 use reference::cover::{list_sheet, Cover, Pair};
+use reference::deadline;
 use reference::form::Form;
 use reference::generate::chosen::{self, Outcome};
-use reference::generate::problem::{problem, small_style, Problem};
+use reference::generate::problem::{any_style, problem, small_style, Problem};
 use reference::generate::specimen;
 use reference::merging;
-use reference::operation::{Lent, Operation};
+use reference::operation::{Lent, Operation, LEAST_WORK};
 use reference::refusal::Refusal;
 use reference::rng::Rng;
-use reference::shape::Step::{self, Inv, Leaf, Nand};
 
-/// Root load, required time, tree; then the patterns, area and arrival, or none for refusal 8.
-type Specimen = (u32, u32, &'static [Step], Option<(&'static [usize], u32, u32)>);
-
-const SPECIMENS: [Specimen; 13] = [
-    (1, 6, &[Inv, Leaf(0)], Some((&[0], 1, 6))),
-    (1, 5, &[Inv, Leaf(0)], Some((&[1], 2, 5))),
-    (1, 4, &[Inv, Leaf(0)], None),
-    (4, 12, &[Inv, Leaf(0)], Some((&[0], 1, 12))),
-    (5, 14, &[Inv, Leaf(0)], Some((&[1], 2, 9))),
-    (9, 16_777_215, &[Inv, Leaf(0)], None),
-    (1, 14, &[Inv, Nand, Leaf(0), Leaf(0)], Some((&[3], 3, 10))),
-    (8, 22, &[Inv, Nand, Leaf(0), Leaf(0)], Some((&[1, 2], 4, 22))),
-    (1, 12, &[Inv, Inv, Leaf(0)], Some((&[0, 0], 2, 12))),
-    (1, 11, &[Inv, Inv, Leaf(0)], Some((&[0, 1], 3, 11))),
-    (1, 11, &[Nand, Leaf(3), Leaf(0)], Some((&[2], 2, 11))),
-    (200, 7, &[Leaf(7)], Some((&[], 0, 7))),
-    (200, 6, &[Leaf(7)], None),
+/// What cases a to l give: patterns, area and arrival, or none for refusal 8.
+const SPECIMENS: [Option<(&[usize], u32, u32)>; 14] = [
+    Some((&[0], 1, 6)),
+    Some((&[1], 2, 5)),
+    None,
+    Some((&[0], 1, 12)),
+    Some((&[1], 2, 9)),
+    None,
+    Some((&[3], 3, 10)),
+    Some((&[1, 2], 4, 22)),
+    Some((&[0, 0], 2, 12)),
+    Some((&[0, 1], 3, 11)),
+    Some((&[2], 2, 11)),
+    Some((&[], 0, 7)),
+    Some((&[], 0, 7)),
+    None,
 ];
 
 #[test]
 fn the_specimens_map_as_stated() {
     let library = specimen::library();
-    for (root_load, required, steps, result) in SPECIMENS {
-        let tree = specimen::tree(root_load, required, steps);
-        let by_merging = merging::map(&library, &tree);
-        assert_eq!(by_merging, Listing::new(&library, &tree, 99).unwrap().map());
-        match result {
-            None => assert_eq!(by_merging, Err(Refusal { number: 8, place: 0 })),
-            Some((patterns, area, arrival)) => {
-                let cover = by_merging.unwrap();
-                let used: Vec<usize> = cover.matches.iter().map(|&(_, pattern)| pattern).collect();
-                assert_eq!((used.as_slice(), cover.area, cover.arrival), (patterns, area, arrival));
+    let trees = specimen::trees();
+    assert_eq!(trees.len(), SPECIMENS.len());
+    for (tree, expected) in trees.iter().zip(SPECIMENS) {
+        let result = merging::map(&library, tree);
+        assert_eq!(result, Listing::new(&library, tree, 99).unwrap().map());
+        let patterns = |cover: &Cover| cover.matches.iter().map(|found| found.1).collect::<Vec<_>>();
+        match expected {
+            None => assert_eq!(result, Err(Refusal { number: 8, place: 0 })),
+            Some(expected) => {
+                let cover = result.unwrap();
+                assert_eq!((patterns(&cover).as_slice(), cover.area, cover.arrival), expected);
             }
         }
     }
@@ -108,5 +108,24 @@ fn chosen_problems_end_as_stated() {
             },
         };
         assert_eq!(outcome, chosen.outcome, "{}", chosen.name);
+    }
+}
+
+/// The benchmark's yardstick gives the same sheets, and clears what it was lent.
+#[test]
+fn deadlines_agree_with_merging() {
+    let mut rng = Rng::new(5);
+    let mut output = [0; 179];
+    let mut work = vec![0; LEAST_WORK];
+    for turn in 0..6_000 {
+        let style = any_style(&mut rng);
+        let problem = problem(&mut rng, style);
+        let (library, tree) = (problem.library_sheet(), problem.tree_sheet());
+        let operation = if turn % 3 == 0 { Operation::List } else { Operation::Map };
+        work.iter_mut().for_each(|word| *word = rng.next());
+        let sheet =
+            deadline::run(operation, &library, &tree, &mut output, &mut work).map(|length| output[..length].to_vec());
+        assert_eq!(sheet, operation.run(Lent::ENOUGH, &library, &tree), "{problem:?}");
+        assert!(work.iter().all(|&word| word == 0));
     }
 }

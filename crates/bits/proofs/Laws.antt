@@ -64,7 +64,7 @@ digit-same : (x k b : ℕ) → b < 2 → withDigit x k b / 2 ^ k % 2 ≡ b
 unfolding withDigit
 digit-same x k b h =
     let regroup : x / (2 * 2 ^ k) * (2 * 2 ^ k) + (b * 2 ^ k + x % 2 ^ k) ≡ (x / (2 * 2 ^ k) * 2 + b) * 2 ^ k + x % 2 ^ k =
-            simp (add-mul, mul-assoc, add-assoc) in
+    simp (add-mul, mul-assoc, add-assoc) in
     rw (regroup, digits-div (x / (2 * 2 ^ k) * 2 + b) (mod-lt x (pow-pos k))) (digits-mod (x / (2 * 2 ^ k)) h)
 
 -- Bits of a higher worth are kept.
@@ -82,10 +82,10 @@ digit-low : (x k b m : ℕ) → m < k → withDigit x k b / 2 ^ m % 2 ≡ x / 2 
 unfolding withDigit
 digit-low x k b m l =
     let regroup : x / (2 * 2 ^ k) * (2 * 2 ^ k) + (b * 2 ^ k + x % 2 ^ k) ≡ (x / (2 * 2 ^ k) * 2 + b) * 2 ^ k + x % 2 ^ k =
-            simp (add-mul, mul-assoc, add-assoc) in
+    simp (add-mul, mul-assoc, add-assoc) in
     let e : k ≡ k - m - 1 + 1 + m = omega arith in
     let part : (y : ℕ) → y / 2 ^ m % 2 ≡ y % 2 ^ k / 2 ^ m % 2 =
-            λ y. sym (ap (λ (j : ℕ). y % 2 ^ j / 2 ^ m % 2) e ∙ ap (λ (z : ℕ). z % 2) (field y (k - m - 1 + 1) m) ∙ mod-mod-pow (y / 2 ^ m) (k - m - 1) 1) in
+    λ y. sym (ap (λ (j : ℕ). y % 2 ^ j / 2 ^ m % 2) e ∙ ap (λ (z : ℕ). z % 2) (field y (k - m - 1 + 1) m) ∙ mod-mod-pow (y / 2 ^ m) (k - m - 1) 1) in
     part (x / (2 * 2 ^ k) * (2 * 2 ^ k) + (b * 2 ^ k + x % 2 ^ k))
     ∙ ap (λ (y : ℕ). y / 2 ^ m % 2) (ap (λ (y : ℕ). y % 2 ^ k) regroup ∙ digits-mod (x / (2 * 2 ^ k) * 2 + b) (mod-lt x (pow-pos k)))
     ∙ sym (part x)
@@ -156,7 +156,7 @@ value-field s i zero v h = omega arith
 value-field s i (suc w) v h =
     let t = withBit s (i + w) (v % 2) in
     let last : bitAt (withField t i w (v / 2)) (i + w) ≡ v % 2 =
-            field-other t i w (v / 2) (i + w) (inr (omega arith)) ∙ bit-same s (i + w) (v % 2) (omega arith) (omega arith) in
+    field-other t i w (v / 2) (i + w) (inr (omega arith)) ∙ bit-same s (i + w) (v % 2) (omega arith) (omega arith) in
     let rest : valueAt (withField t i w (v / 2)) i w ≡ v / 2 % 2 ^ w = value-field t i w (v / 2) (omega (arith, length-bit s (i + w) (v % 2))) in
     let whole : v % 2 ^ suc w ≡ v / 2 % 2 ^ w * 2 + v % 2 = ap (λ (k : ℕ). v % 2 ^ k) (sym (add-one w)) ∙ mod-pow-add v w 1 in
     omega (arith, last, rest, whole)
@@ -171,5 +171,5 @@ pub zeros-end : (s : List ℕ) (i : ℕ) → length s ≡ bytesTo i → endsAt (
 unfolding endsAt bytesTo restOf
 zeros-end s i h =
     let zero-rest : valueAt (withField s i (8 * ((i + 7) / 8) - i) 0) i (8 * ((i + 7) / 8) - i) ≡ 0 =
-            value-field s i (8 * ((i + 7) / 8) - i) 0 (omega arith) ∙ zero-mod (2 ^ (8 * ((i + 7) / 8) - i)) in
+    value-field s i (8 * ((i + 7) / 8) - i) 0 (omega arith) ∙ zero-mod (2 ^ (8 * ((i + 7) / 8) - i)) in
     simp (length-field, eq-eqb (length s) ((i + 7) / 8) h, zero-rest)

@@ -41,7 +41,7 @@ module _ (s : List ℕ) (rules : Rules) where
     laid = record { scan = refl; symbols = λ x. absurd x; sizes = λ x. absurd x; next = λ x. absurd x };
     went = λ x. absurd x;
     near = omega arith;
-    stays = λ x. (refl, refl)
+    stays = λ x. (refl, refl);
   }
 
   pub leaf-live : (scan : Scan) (n : ℕ) (l m : List ℕ) (r : Got) → Live scan → rules .width ≤ 24 →
@@ -52,14 +52,19 @@ module _ (s : List ℕ) (rules : Rules) where
     laid = record { scan = e .scan; symbols = λ x. ap (λ (v : ℕ). set l n (2 + v)) (e .value); sizes = λ x. refl; next = λ x. refl };
     went = λ x. omega arith;
     near = omega (arith, e .near);
-    stays = λ d. absurd (d h)
+    stays = λ d. absurd (d h);
   }
 
 -- ---- room for more nodes
 
 pub room-more : {rules : Rules} {n : ℕ} {l m : List ℕ} (k : ℕ) (l′ m′ : List ℕ) → Room rules n l m → length l′ ≡ length l → length m′ ≡ length m → k ≤ rules .nodes → Room rules k l′ m′
 room-more k l′ m′ room el em h = record {
-  width = room .width; most = room .most; nodes = room .nodes; symbols = el ∙ room .symbols; sizes = em ∙ room .sizes; read = h
+  width = room .width;
+  most = room .most;
+  nodes = room .nodes;
+  symbols = el ∙ room .symbols;
+  sizes = em ∙ room .sizes;
+  read = h;
 }
 
 -- ---- a node, by its code
@@ -91,7 +96,7 @@ gate-laid n l m l′ m₁ m′ v w below r after ss zs h er em ew = record {
       let grown : below .next - n ≡ w = omega (arith, h .next (was x)) in
       em ∙ ap (λ (k : ℕ). set m₁ n k) grown ∙ ap (λ (k : List ℕ). set k n w) (h .sizes (was x))
       ∙ set-sets m (n + 1) n w zs (omega arith) ∙ ap (λ (k : ℕ). sets (set m n w) k zs) (add-one n);
-  next = λ x. ap (λ (b : Branch). b .next) er ∙ omega (arith, h .next (was x))
+  next = λ x. ap (λ (b : Branch). b .next) er ∙ omega (arith, h .next (was x));
 }
   where
     was : Live (r .scan) → Live (below .scan)
@@ -125,6 +130,7 @@ module _ (s : List ℕ) (rules : Rules) (scan : Scan) (n : ℕ) (l m : List ℕ)
       laid : (depth : ℕ) → rules .nodes - n < depth → let x = node s rules depth (take n l) scan in Laid n l m l′ m′ r (x .1) (symbols (x .0)) (sizes (x .0))
       laid zero k = absurd (omega arith)
       laid (suc d) k = subst (λ (x : Shape × Scan). Laid n l m l′ m′ r (x .1) (symbols (x .0)) (sizes (x .0))) (sym (node-code d 0 e ∙ leaf-branch s rules (node s rules d) (take n l) (got .scan))) (h .laid)
+
       went : Dec (Live (got .scan)) → Went rules scan n r
       went (yes a) = record { from = omega (arith, h .went a); upto = omega (arith, h .went a, code .room a); near = omega (arith, h .went a, code .room a, h .near, code .reads .near) }
       went (no a) =
@@ -158,6 +164,7 @@ module _ (s : List ℕ) (rules : Rules) (scan : Scan) (n : ℕ) (l m : List ℕ)
       where
         h : NodeRead s rules (got .scan) (n + 1) (set l n 0) m l′ m₁ below
         h = subst (λ (v : ℕ). NodeRead s rules (got .scan) (n + 1) (set l n (v - 1)) m l′ m₁ below) e h₀
+
         laid : (depth : ℕ) → rules .nodes - n < depth → let x = node s rules depth (take n l) scan in Laid n l m l′ m′ r (x .1) (symbols (x .0)) (sizes (x .0))
         laid zero k = absurd (omega arith)
         laid (suc d) k =
@@ -174,6 +181,7 @@ module _ (s : List ℕ) (rules : Rules) (scan : Scan) (n : ℕ) (l m : List ℕ)
       where
         h : PairRead s rules (got .scan) (n + 1) (set l n 1) m l′ m₁ below
         h = subst (λ (v : ℕ). PairRead s rules (got .scan) (n + 1) (set l n (v - 1)) m l′ m₁ below) e h₀
+
         laid : (depth : ℕ) → rules .nodes - n < depth → let x = node s rules depth (take n l) scan in Laid n l m l′ m′ r (x .1) (symbols (x .0)) (sizes (x .0))
         laid zero k = absurd (omega arith)
         laid (suc d) k =
@@ -181,7 +189,7 @@ module _ (s : List ℕ) (rules : Rules) (scan : Scan) (n : ℕ) (l m : List ℕ)
             gate-whole d 1 2 (nand (y .0 .0) (y .0 .1)) (y .1) (symbols (y .0 .0) ++ symbols (y .0 .1)) (sizes (y .0 .0) ++ sizes (y .0 .1)) l′ m₁ m′ below r e
             (nand-branch s rules (node s rules d) (take n l) (got .scan)) refl refl
             (subst (λ (seen : List ℕ). let z = pair s rules (node s rules d) seen (got .scan) in
-              Laid (n + 1) (set l n 1) m l′ m₁ below (z .1) (symbols (z .0 .0) ++ symbols (z .0 .1)) (sizes (z .0 .0) ++ sizes (z .0 .1)))
+            Laid (n + 1) (set l n 1) m l′ m₁ below (z .1) (symbols (z .0 .0) ++ symbols (z .0 .1)) (sizes (z .0 .0) ++ sizes (z .0 .1)))
             (gate-seen 1 (omega arith)) (h .laid d (omega (arith, code .room (code .gate (omega arith))))))
             er em
 
@@ -201,7 +209,7 @@ run-laid n l m l₁ m₁ l₂ m₂ first r after₁ after₂ ss₁ zs₁ ss₂ z
   scan = b .scan;
   symbols = λ x. b .symbols x ∙ ap₂ (λ (k : List ℕ) (i : ℕ). sets k i ss₂) (a .symbols z) (a .next z) ∙ sym (sets-append l n ss₁ ss₂);
   sizes = λ x. b .sizes x ∙ ap₂ (λ (k : List ℕ) (i : ℕ). sets k i zs₂) (a .sizes z) (a .next z ∙ ap (λ (i : ℕ). n + i) (sym e)) ∙ sym (sets-append m n zs₁ zs₂);
-  next = λ x. omega (arith, a .next z, b .next x, length-append ss₁ ss₂)
+  next = λ x. omega (arith, a .next z, b .next x, length-append ss₁ ss₂);
 }
 
 pub pair-read : (s : List ℕ) (rules : Rules) (scan : Scan) (n : ℕ) (l m l₁ m₁ l₂ m₂ : List ℕ) (first r : Branch) → Room rules n l m →
@@ -209,7 +217,7 @@ pub pair-read : (s : List ℕ) (rules : Rules) (scan : Scan) (n : ℕ) (l m l₁
 unfolding pair
 pair-read s rules scan n l m l₁ m₁ l₂ m₂ first r room a b = record {
   laid = λ d k. laid d k (live? (first .scan));
-  went = record { from = omega (arith, a .went .from, b .went .from); upto = b .went .upto; near = omega (arith, a .went .near, b .went .near) }
+  went = record { from = omega (arith, a .went .from, b .went .from); upto = b .went .upto; near = omega (arith, a .went .near, b .went .near) };
 }
   where
     laid : (d : ℕ) → rules .nodes - n < d → Dec (Live (first .scan)) →
@@ -222,14 +230,16 @@ pair-read s rules scan n l m l₁ m₁ l₂ m₂ first r room a b = record {
         let dead : Live (r .scan) → ⊥ = λ q. z (subst Live r-is q) in
         record {
           scan = r-is ∙ first-is ∙ sym (node-dead s rules d (take n l ++ symbols (x .0)) (x .1) (λ q. z (subst Live (sym first-is) q)));
-          symbols = λ q. absurd (dead q); sizes = λ q. absurd (dead q); next = λ q. absurd (dead q)
+          symbols = λ q. absurd (dead q);
+          sizes = λ q. absurd (dead q);
+          next = λ q. absurd (dead q);
         }
     laid d k (yes z) =
         let x = node s rules d (take n l) scan in
         let x-laid = a .laid d k in
         let seen : take (first .next) l₁ ≡ take n l ++ symbols (x .0) =
-                ap₂ (λ (i : ℕ) (q : List ℕ). take i q) (x-laid .next z) (x-laid .symbols z)
-                ∙ take-sets l n (symbols (x .0)) (omega (arith, x-laid .next z, a .went .upto, room .symbols)) in
+        ap₂ (λ (i : ℕ) (q : List ℕ). take i q) (x-laid .next z) (x-laid .symbols z)
+        ∙ take-sets l n (symbols (x .0)) (omega (arith, x-laid .next z, a .went .upto, room .symbols)) in
         let y = node s rules d (take n l ++ symbols (x .0)) (x .1) in
         run-laid n l m l₁ m₁ l₂ m₂ first r (x .1) (y .1) (symbols (x .0)) (sizes (x .0)) (symbols (y .0)) (sizes (y .0)) z
         (length-sizes (x .0) ∙ sym (length-symbols (x .0))) x-laid

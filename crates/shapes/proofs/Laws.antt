@@ -1,12 +1,12 @@
 -- Laws about scans and fields: one for each way out of a reader.
 use mathlib.Core.Path.{_≡_, refl, sym, ap, subst, _∙_}
-use mathlib.Core.List.{List}
+use mathlib.Core.List.{List, _∷_, [], _++_}
 use mathlib.Core.Bool.{Bool, true, false, cond, _&&_}
 use Prim.Native.Nat.{ℕ, zero, suc, _+_, _-_, _*_, _≤_, _<_, _^_}
 use native.Mathlib.Omega.{arith}
 use native.Mathlib.Nat.{lt-of-lt-of-le}
 use lib.Pow.{pow-mono}
-use lib.ListN.{length, getD}
+use lib.ListN.{length, getD, length-append}
 use lib.Seq.{slice, slice-cons}
 use native.Mathlib.Numerals.{add-one}
 use lib.Dec.{leb, eqb}
@@ -22,7 +22,7 @@ use Rattle.shapes.specs.declared.Fault.{Fault}
 use Rattle.shapes.specs.declared.Fault.the-variants.{Truncated, Tail, Range, Drawing, Size}
 use Rattle.shapes.specs.declared.Verdict.{Verdict}
 use Rattle.shapes.specs.declared.Verdict.the-variants.{Sound, Faulty}
-use Rattle.shapes.specs.Reading.{place, free, within, field, found, settled, ended}
+use Rattle.shapes.specs.Reading.{Reader, times, place, free, within, field, found, settled, ended}
 use Rattle.shapes.specs.Promises.{Reads, Live, Coded, settling, settlingAt}
 use Rattle.shapes.specs.declared.Rules.{Rules}
 use Rattle.shapes.specs.Drawing.{elem, codeVerdict, leafVerdict}
@@ -78,7 +78,7 @@ module _ (s : List ℕ) (w : ℕ) (verdict : ℕ → Verdict) where
     value = ap (λ (x : ℕ × Scan). x .0) e;
     scan = ap (λ (x : ℕ × Scan). x .1) e;
     near = subst (λ (x : ℕ × Scan). place (x .1) ≤ place scan + w) (sym e) (field-near scan);
-    small = subst (λ (x : ℕ × Scan). x .0 ≤ most) (sym e) (field-small scan most h)
+    small = subst (λ (x : ℕ × Scan). x .0 ≤ most) (sym e) (field-small scan most h);
   }
 
   -- After a field that was not refused the verdict on its value is sound, and the scan was not refused before.
@@ -89,6 +89,7 @@ module _ (s : List ℕ) (w : ℕ) (verdict : ℕ → Verdict) where
       judged : (v : Verdict) (x : ℕ) (n : Cursor) → v ≡ verdict x → Live (settled (c .at) v x (At n) .1) → verdict (settled (c .at) v x (At n) .0) ≡ Sound
       judged Sound x n e h = sym e
       judged (Faulty f) x n e h = absurd h
+
       go : (f : Field.Field) → Live (found (c .at) verdict f .1) → (verdict (found (c .at) verdict f .0) ≡ Sound) × Unit {0}
       go Field.the-variants.Truncated h = absurd h
       go (Field.the-variants.Value x n) h = (judged (verdict x) x n refl h, tt)
@@ -101,6 +102,7 @@ module _ (s : List ℕ) (w : ℕ) (verdict : ℕ → Verdict) where
       judged : (v : Verdict) (x : ℕ) (n : Cursor) → 0 < settled (c .at) v x (At n) .0 → Live (settled (c .at) v x (At n) .1)
       judged Sound x n h = tt
       judged (Faulty f) x n h = omega arith
+
       go : (f : Field.Field) → 0 < found (c .at) verdict f .0 → Live (found (c .at) verdict f .1)
       go Field.the-variants.Truncated h = omega arith
       go (Field.the-variants.Value x n) h = judged (verdict x) x n h
@@ -113,6 +115,7 @@ module _ (s : List ℕ) (w : ℕ) (verdict : ℕ → Verdict) where
       judged : (v : Verdict) (x : ℕ) (n : Cursor) → (Live (settled (c .at) v x (At n) .1) → ⊥) → place (settled (c .at) v x (At n) .1) ≤ c .at
       judged Sound x n h = absurd (h tt)
       judged (Faulty f) x n h = omega arith
+
       go : (f : Field.Field) → (Live (found (c .at) verdict f .1) → ⊥) → place (found (c .at) verdict f .1) ≤ c .at
       go Field.the-variants.Truncated h = omega arith
       go (Field.the-variants.Value x n) h = judged (verdict x) x n h
@@ -130,6 +133,7 @@ module _ (s : List ℕ) (w : ℕ) (verdict : ℕ → Verdict) where
           ≡ settled (c .at) v x (At n)
       judged Sound x n = refl
       judged (Faulty f) x n = refl
+
       go : (f : Field.Field) → after (At c) (found (c .at) free f) ≡ found (c .at) verdict f
       go Field.the-variants.Truncated = refl
       go (Field.the-variants.Value x n) = judged (verdict x) x n
@@ -148,6 +152,14 @@ free-passes w h x l e = omega (arith, lt-of-lt-of-le l (pow-mono h))
 pub both : {r : Got} {x : ℕ × Scan} {reach most : ℕ} → Reads r x reach most → (r .value, r .scan) ≡ x
 both h = λ i. (h .value i, h .scan i)
 
+-- A field read at a scan that is known.
+module _ (s : List ℕ) (w : ℕ) (verdict : ℕ → Verdict) (c : Scan) {c′ : Scan} {r : Got} {reach most : ℕ} (h : Reads r (field s w verdict c) reach most) (e : c ≡ c′) where
+  pub value-at : r .value ≡ field s w verdict c′ .0
+  value-at = h .value ∙ ap (λ (k : Scan). field s w verdict k .0) e
+
+  pub scan-at : r .scan ≡ field s w verdict c′ .1
+  scan-at = h .scan ∙ ap (λ (k : Scan). field s w verdict k .1) e
+
 -- A field of any value, by what was found at the cursor.
 pub reads-found : (s : List ℕ) (w : ℕ) (scan : Scan) (c : Cursor) (f : Field.Field) (r : Got) → w ≤ 24 → scan ≡ At c → f ≡ fieldAt s (c .at) w →
     (r .value, r .scan) ≡ found (c .at) free f → Reads r (field s w free scan) (place scan + w) 16777215
@@ -155,14 +167,17 @@ reads-found s w scan c f r h e ef er =
     reads-field s w free scan r 16777215 (er ∙ ap (found (c .at) free) ef ∙ sym (ap (field s w free) e)) (free-passes w h)
 
 -- What a range lets pass.
-pub within-passes : (least most w : ℕ) → Passes (within least most) w most
+pub range-passes : (least most x : ℕ) → within least most x ≡ Sound → x ≤ most
 unfolding within
-within-passes least most w x l e = go (leb least x) (leb x most) refl e
+range-passes least most x e = go (leb least x) (leb x most) refl e
   where
     go : (a b : Bool) → leb x most ≡ b → cond (a && b) Sound (Faulty Range) ≡ Sound → x ≤ most
     go true true m e = leb-true x most m
     go true false m e = let z : _≡_ {A = ℕ} 0 1 = cc in omega arith
     go false b m e = let z : _≡_ {A = ℕ} 0 1 = cc in omega arith
+
+pub within-passes : (least most w : ℕ) → Passes (within least most) w most
+within-passes least most w x l e = range-passes least most x e
 
 -- ---- a verdict, and the end
 
@@ -193,7 +208,7 @@ coded s rules scan n r h =
       reads = h;
       gate = λ g. subst Live (sym (h .scan)) (positive-live s 2 v scan (rw (← h .value) g));
       room = λ l. code-room rules n (field s 2 v scan .0) (live-sound s 2 v scan (subst Live (h .scan) l) .0) .0;
-      stays = λ d. rw (h .scan) (dead-stays s 2 v scan (λ l. d (subst Live (sym (h .scan)) l)))
+      stays = λ d. rw (h .scan) (dead-stays s 2 v scan (λ l. d (subst Live (sym (h .scan)) l)));
     }
 
 -- What is looked for among the symbols from k up to n.
@@ -204,3 +219,21 @@ elem-here x n l k h g e = rw (slice-cons k n l 0 h g) (simp (eq-eqb x (getD l k 
 pub elem-later : (x n : ℕ) (l : List ℕ) (k : ℕ) → k < n → n ≤ length l → (getD l k 0 ≡ x → ⊥) → elem x (slice k n l) ≡ elem x (slice (k + 1) n l)
 unfolding elem
 elem-later x n l k h g e = rw (slice-cons k n l 0 h g, add-one k) (simp (ne-eqb x (getD l k 0) (λ q. e (sym q))))
+
+-- ---- n times
+
+pub length-times : {A : Type 0} (n : ℕ) (r : List A → Reader A) (c : Scan) → length (times n r c .0) ≡ n
+unfolding times
+length-times zero r c = refl
+length-times (suc n) r c =
+    length-append (times n r c .0) (r (times n r c .0) (times n r c .1) .0 ∷ []) ∙ ap (λ (k : ℕ). k + 1) (length-times n r c) ∙ add-one n
+
+-- One turn more.
+module _ {A : Type 0} (n : ℕ) (r : List A → Reader A) (c : Scan) where
+  pub times-value : times (n + 1) r c .0 ≡ times n r c .0 ++ (r (times n r c .0) (times n r c .1) .0 ∷ [])
+  unfolding times
+  times-value = rw add-one
+
+  pub times-scan : times (n + 1) r c .1 ≡ r (times n r c .0) (times n r c .1) .1
+  unfolding times
+  times-scan = rw add-one

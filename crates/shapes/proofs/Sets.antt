@@ -1,11 +1,12 @@
 -- Laws about lists that are written from a place on.
 use mathlib.Core.Path.{_≡_, refl, sym, ap, _∙_}
-use mathlib.Core.List.{List, [], _∷_, _++_}
+use mathlib.Core.List.{List, [], _∷_, _++_, append-assoc}
 use Prim.Native.Nat.{ℕ, zero, suc, _+_, _≤_, _<_}
-use native.Mathlib.Nat.{add-zero, add-suc, suc-add}
+use native.Mathlib.Nat.{add-zero, zero-add, add-suc, suc-add}
 use native.Mathlib.Omega.{arith}
-use lib.ListN.{length, take, set, length-append}
-use lib.Seq.{sets, sets-eq, set-comm, take-at, length-take-le}
+use lib.ListN.{length, take, drop, set, length-append, length-drop, take-append-drop}
+use lib.Seq.{sets, sets-eq, set-comm, take-at, length-take-le, drop-append-le, drop-drop}
+use borrow.Rule.Slice.PartMut.{putMid}
 
 module _ {A : Type 0} where
   -- One run after another is one run.
@@ -26,3 +27,15 @@ module _ {A : Type 0} where
   take-sets l i xs h =
       rw (sets-eq xs l i h)
       (take-at (take i l ++ xs) _ (i + length xs) (length-append (take i l) xs ∙ ap (λ (k : ℕ). k + length xs) (length-take-le i l (omega arith))))
+
+  -- A run that was written into a part that was lent stands in the whole.
+  pub mid-sets : (l : List A) (a k : ℕ) (xs : List A) → a + k ≤ length l → length xs ≤ k → putMid a k l (sets (take k (drop a l)) 0 xs) ≡ sets l a xs
+  mid-sets l a k xs h g =
+      let d = drop a l in
+      let part : length (take k d) ≡ k = length-take-le k d (omega (arith, length-drop a l)) in
+      let rest : drop (length xs) (take k d) ++ drop k d ≡ drop (a + length xs) l =
+      sym (drop-append-le (length xs) (take k d) (drop k d) (omega arith)) ∙ ap (drop (length xs)) (take-append-drop k d) ∙ drop-drop (length xs) a l in
+      ap (λ (ys : List A). take a l ++ (ys ++ drop k d)) (sets-eq xs (take k d) 0 (omega arith) ∙ ap (λ (n : ℕ). xs ++ drop n (take k d)) (zero-add (length xs)))
+      ∙ ap (λ (ys : List A). take a l ++ ys) (append-assoc xs (drop (length xs) (take k d)) (drop k d) ∙ ap (λ (ys : List A). xs ++ ys) rest)
+      ∙ sym (append-assoc (take a l) xs (drop (a + length xs) l))
+      ∙ sym (sets-eq xs l a (omega arith))

@@ -62,7 +62,7 @@ pub fn place_of(scan: Scan) -> usize
 }
 
 // A field of any value.
-fn raw(scan: Scan, s: &[u8], width: usize) -> Got
+pub fn raw(scan: Scan, s: &[u8], width: usize) -> Got
     requires { ⌜ (place scan < 2 ^ 32) × (width ≤ 24) ⌝ }
     ensures { λ r. ⌜ Reads r (field (now (s .entry)) width free scan) (place scan + width) 16777215 ⌝ }
 {
@@ -83,7 +83,7 @@ fn raw(scan: Scan, s: &[u8], width: usize) -> Got
 }
 
 // The field `got`, read at `before`, with a verdict on its value.
-fn settle(before: Scan, got: Got, verdict: Verdict) -> Got
+pub fn settle(before: Scan, got: Got, verdict: Verdict) -> Got
     ensures { λ r. ⌜ r ≡ settling before got verdict ⌝ }
 {
     let after = got.scan;
@@ -100,7 +100,7 @@ fn settle(before: Scan, got: Got, verdict: Verdict) -> Got
 }
 
 // Whether a value lies between two bounds.
-fn in_range(least: u32, most: u32, value: u32) -> Verdict
+pub fn in_range(least: u32, most: u32, value: u32) -> Verdict
     ensures { λ r. ⌜ r ≡ within least most value ⌝ }
 {
     if value < least {
@@ -197,7 +197,14 @@ fn leaf_verdict(rules: Rules, symbols: &[u32], n: usize, number: u32) -> Verdict
 }
 
 // A leaf after its code: node `n`.
-fn read_leaf(scan: Scan, s: &[u8], rules: Rules, n: usize, symbols: &mut [u32], sizes: &mut [u8]) -> Branch
+fn read_leaf(
+    scan: Scan,
+    s: &[u8],
+    rules: Rules,
+    n: usize,
+    symbols: &mut [u32],
+    sizes: &mut [u8],
+) -> Branch
     requires { ⌜ Room rules n (now symbols) (now sizes) ⌝ }
     requires { ⌜ (Live scan → n < rules .nodes) ⌝ }
     requires { ⌜ place scan < 2 ^ 32 ⌝ }
@@ -227,7 +234,14 @@ fn closed(below: Branch, n: usize, sizes: &mut [u8]) -> Branch
 }
 
 // Node `n` and all below it.
-pub fn read_node(scan: Scan, s: &[u8], rules: Rules, n: usize, symbols: &mut [u32], sizes: &mut [u8]) -> Branch
+pub fn read_node(
+    scan: Scan,
+    s: &[u8],
+    rules: Rules,
+    n: usize,
+    symbols: &mut [u32],
+    sizes: &mut [u8],
+) -> Branch
     requires { ⌜ Room rules n (now symbols) (now sizes) ⌝ }
     requires { ⌜ Near rules scan n ⌝ }
     ensures { λ r. ⌜ NodeRead (now (s .entry)) rules scan n (now (symbols .entry)) (now (sizes .entry)) (now (symbols .exit)) (now (sizes .exit)) r ⌝ }
@@ -248,7 +262,14 @@ pub fn read_node(scan: Scan, s: &[u8], rules: Rules, n: usize, symbols: &mut [u3
 }
 
 // A NAND's two branches, from node `n` on.
-fn read_pair(scan: Scan, s: &[u8], rules: Rules, n: usize, symbols: &mut [u32], sizes: &mut [u8]) -> Branch
+fn read_pair(
+    scan: Scan,
+    s: &[u8],
+    rules: Rules,
+    n: usize,
+    symbols: &mut [u32],
+    sizes: &mut [u8],
+) -> Branch
     requires { ⌜ Room rules n (now symbols) (now sizes) ⌝ }
     requires { ⌜ Near rules scan n ⌝ }
     ensures { λ r. ⌜ PairRead (now (s .entry)) rules scan n (now (symbols .entry)) (now (sizes .entry)) (now (symbols .exit)) (now (sizes .exit)) r ⌝ }

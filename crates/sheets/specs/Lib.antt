@@ -1,2 +1,7 @@
 -- What the contracts of `sheets` say, in reading order.
 pub mod Model
+pub mod LibrarySheet
+pub mod TreeSheet
+pub mod Report
+pub mod Layout
+pub mod Promises

@@ -1,25 +1,8 @@
 -- The values that a sound library and a sound tree stand for. Every later definition speaks of these.
-use Prim.Native.Nat.{ℕ, suc, _+_}
+use Prim.Native.Nat.{ℕ, suc}
 use mathlib.Core.List.{List, [], _∷_, _++_}
 use mathlib.Core.Bool.{Bool}
-
--- A tree of inverters and two-input NANDs in drawn order. The number at a leaf is a pattern's pin number or a subject tree's arrival.
-pub data Shape : Type 0 where
-  leaf : ℕ → Shape
-  inv : Shape → Shape
-  nand : Shape → Shape → Shape
-
--- How many nodes a shape has.
-unfoldable pub size : Shape → ℕ
-size (leaf x) = 1
-size (inv a) = suc (size a)
-size (nand a b) = suc (size a + size b)
-
--- The numbers at the leaves, in drawn order.
-unfoldable pub leaves : Shape → List ℕ
-leaves (leaf x) = x ∷ []
-leaves (inv a) = leaves a
-leaves (nand a b) = leaves a ++ leaves b
+pub use Rattle.shapes.specs.Shape.{Shape, leaf, inv, nand, size, leaves}
 
 -- One input pin of a cell: the number of its load bin, its intrinsic delay and its drive.
 pub record Pin : Type 0 where

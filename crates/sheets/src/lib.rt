@@ -1,1 +1,533 @@
-// The two sheets.
+// The library sheet and the tree sheet: what is decoded from them, and the two judges.
+use bits::Cursor;
+use shapes::Fault;
+use shapes::Rules;
+use shapes::Scan;
+use shapes::Verdict;
+ghost use mathlib.Core.Path.{_≡_};
+ghost use Prim.Native.Nat.{_+_, _-_, _*_, _<_, _≤_, _^_};
+ghost use lib.ListN.{length, take};
+ghost use Rattle.shapes.specs.Reading.{place};
+ghost use Rattle.sheets.specs.LibrarySheet.{hasAll, complete, countVerdict};
+ghost use Rattle.sheets.specs.Layout.{blankCell};
+ghost use Rattle.sheets.specs.Promises.{BinsAre, HeadIs, PinIs, PinsAre, PatternIs, RowIs, RowsAre, DrawingsAre, CountIs, CellIs, CellsAre, LibraryIs, TreeIs};
+ghost use Rattle.sheets.specs.Report.{ofLibraryJudged, libraryReport, ofTreeJudged, treeReport};
+
+// Document 01's limits.
+pub struct Limits {
+    pub none: u8,
+}
+
+impl Limits {
+    pub const BINS: u32 = 4;
+
+    pub const LOAD: u32 = 255;
+
+    pub const CELLS: u32 = 64;
+
+    pub const AREA: u32 = 65535;
+
+    pub const PINS: u32 = 6;
+
+    pub const DRAWINGS: u32 = 7;
+
+    pub const PATTERNS: usize = 128;
+
+    pub const PATTERN_NODES: usize = 16;
+
+    pub const ROW: usize = 18;
+
+    pub const ROWS: usize = 2304;
+
+    pub const TREE_NODES: usize = 64;
+
+    pub const ARRIVAL: u32 = 1000000;
+
+    pub const TIME: u32 = 16777215;
+}
+
+// A cell as decoded. Its pins are the first `pins` places of the three arrays: load bins, intrinsic delays and drives.
+pub struct CellRecord {
+    pub held: bool,
+    pub area: u16,
+    pub highest: u8,
+    pub pins: u8,
+    pub loads: [u8; 6],
+    pub intrinsics: [u16; 6],
+    pub drives: [u8; 6],
+}
+
+// A library as decoded: the bin loads, the cells, and a row of 18 words for each pattern, each with its count.
+pub struct LibraryRecord {
+    pub bins: u32,
+    pub loads: [u8; 4],
+    pub count: usize,
+    pub total: usize,
+    pub cells: [CellRecord; 64],
+    pub rows: [u32; Limits::ROWS],
+}
+
+// A tree as decoded: its nodes' symbols in preorder, and how many nodes stand under each.
+pub struct TreeRecord {
+    pub load: u8,
+    pub required: u32,
+    pub count: usize,
+    pub symbols: [u32; Limits::TREE_NODES],
+    pub sizes: [u8; Limits::TREE_NODES],
+}
+
+// What a judge of libraries answers.
+pub enum LibraryJudged {
+    Sound(usize, usize),
+    Refused(shapes::Fault, usize),
+}
+
+// What a judge of trees answers.
+pub enum TreeJudged {
+    Sound(usize),
+    Refused(shapes::Fault, usize),
+}
+
+// The bin loads, and the scan after them.
+pub struct BinsRead {
+    pub scan: Scan,
+    pub loads: [u8; 4],
+}
+
+// A cell's first fields, and the scan after them.
+pub struct HeadRead {
+    pub scan: Scan,
+    pub held: bool,
+    pub area: u16,
+    pub highest: u8,
+    pub pins: u32,
+}
+
+// One pin, and the scan after it.
+pub struct PinRead {
+    pub scan: Scan,
+    pub load: u8,
+    pub intrinsic: u16,
+    pub drive: u8,
+}
+
+// A cell's pins, and the scan after them.
+pub struct PinsRead {
+    pub scan: Scan,
+    pub loads: [u8; 6],
+    pub intrinsics: [u16; 6],
+    pub drives: [u8; 6],
+}
+
+// The bin loads: each above the one before.
+fn read_bins(scan: Scan, s: &[u8], count: u32) -> BinsRead
+    requires { ⌜ (count ≤ 4) × (place scan < 2 ^ 20) ⌝ }
+    ensures { λ r. ⌜ BinsAre (now (s .entry)) count scan r ⌝ }
+{
+    let mut loads = [0u8; 4];
+    let mut at = scan;
+    let mut before: u32 = 0;
+    let mut k: u32 = 0;
+    while k < count {
+        let got = shapes::ranged(at, s, 8, before + 1, Limits::LOAD);
+        at = got.scan;
+        before = got.value;
+        loads[k as usize] = before as u8;
+        k += 1;
+    }
+    BinsRead { scan: at, loads }
+}
+
+// A cell's hold mark, area, highest load and pin count.
+fn read_head(scan: Scan, s: &[u8]) -> HeadRead
+    requires { ⌜ place scan < 2 ^ 20 ⌝ }
+    ensures { λ r. ⌜ HeadIs (now (s .entry)) scan r ⌝ }
+{
+    let held = shapes::ranged(scan, s, 1, 0, 1);
+    let at = held.scan;
+    let area = shapes::ranged(at, s, 16, 1, Limits::AREA);
+    let at = area.scan;
+    let highest = shapes::ranged(at, s, 8, 0, Limits::LOAD);
+    let at = highest.scan;
+    let pins = shapes::ranged(at, s, 3, 1, Limits::PINS);
+    let at = pins.scan;
+    HeadRead {
+        scan: at,
+        held: held.value == 1,
+        area: area.value as u16,
+        highest: highest.value as u8,
+        pins: pins.value,
+    }
+}
+
+// The greatest number below `count`; 0 after a refusal.
+fn last_of(count: u32) -> u32
+    ensures { λ r. ⌜ r ≡ count - 1 ⌝ }
+{
+    if count == 0 {
+        return 0;
+    }
+    count - 1
+}
+
+// A pin: bin number, intrinsic delay and drive.
+fn read_pin(scan: Scan, s: &[u8], bins: u32) -> PinRead
+    requires { ⌜ (bins ≤ 4) × (place scan < 2 ^ 30) ⌝ }
+    ensures { λ r. ⌜ PinIs (now (s .entry)) bins scan r ⌝ }
+{
+    let load = shapes::ranged(scan, s, 2, 0, last_of(bins));
+    let at = load.scan;
+    let intrinsic = shapes::ranged(at, s, 16, 0, 65535);
+    let at = intrinsic.scan;
+    let drive = shapes::ranged(at, s, 8, 0, 255);
+    let at = drive.scan;
+    PinRead {
+        scan: at,
+        load: load.value as u8,
+        intrinsic: intrinsic.value as u16,
+        drive: drive.value as u8,
+    }
+}
+
+// A cell's pins.
+fn read_pins(scan: Scan, s: &[u8], bins: u32, count: u32) -> PinsRead
+    requires { ⌜ (bins ≤ 4) × (count ≤ 6) × (place scan < 2 ^ 20) ⌝ }
+    ensures { λ r. ⌜ PinsAre (now (s .entry)) bins count scan r ⌝ }
+{
+    let mut loads = [0u8; 6];
+    let mut intrinsics = [0u16; 6];
+    let mut drives = [0u8; 6];
+    let mut at = scan;
+    let mut k: u32 = 0;
+    while k < count {
+        let pin = read_pin(at, s, bins);
+        at = pin.scan;
+        loads[k as usize] = pin.load;
+        intrinsics[k as usize] = pin.intrinsic;
+        drives[k as usize] = pin.drive;
+        k += 1;
+    }
+    PinsRead {
+        scan: at,
+        loads,
+        intrinsics,
+        drives,
+    }
+}
+
+// The size of a pattern, and the scan after it.
+pub struct PatternRead {
+    pub scan: Scan,
+    pub size: u32,
+}
+
+// How many patterns a cell has, and the scan after them.
+pub struct DrawingsRead {
+    pub scan: Scan,
+    pub count: u32,
+}
+
+// A cell, how many patterns it has, and the scan after them.
+pub struct CellRead {
+    pub scan: Scan,
+    pub count: u32,
+    pub cell: CellRecord,
+}
+
+// The cells, how many patterns they have together, and the scan after them.
+pub struct CellsRead {
+    pub scan: Scan,
+    pub total: usize,
+    pub cells: [CellRecord; 64],
+}
+
+// Whether each of the first `pins` pins stands at a leaf among the first `n` symbols.
+fn has_pins(symbols: &[u32], n: usize, pins: u32) -> bool
+    requires { ⌜ (n ≤ length (now symbols)) × (pins ≤ 6) ⌝ }
+    ensures { λ r. ⌜ r ≡ hasAll pins (take n (now (symbols .entry))) ⌝ }
+{
+    let mut p = 0;
+    while p < pins {
+        if !shapes::contains(symbols, n, 2 + p) {
+            return false;
+        }
+        p += 1;
+    }
+    true
+}
+
+// The scan after a pattern that starts at `first`, which may lack a pin.
+fn completed(whole: bool, first: usize, after: Scan) -> Scan
+    ensures { λ r. ⌜ r ≡ complete whole first after ⌝ }
+{
+    let Scan::At(_) = after else {
+        return after;
+    };
+    if whole {
+        return after;
+    }
+    Scan::Refused(Fault::Drawing, first)
+}
+
+// A pattern of a cell with so many pins.
+fn read_pattern(scan: Scan, s: &[u8], pins: u32, symbols: &mut [u32]) -> PatternRead
+    requires { ⌜ (pins ≤ 6) × (length (now symbols) ≡ 16) × (place scan < 2 ^ 19) ⌝ }
+    ensures { λ r. ⌜ PatternIs (now (s .entry)) pins scan (now (symbols .entry)) (now (symbols .exit)) r ⌝ }
+{
+    let rules = Rules {
+        width: 3,
+        most: last_of(pins),
+        nodes: Limits::PATTERN_NODES,
+        pattern: true,
+    };
+    let mut sizes = [0u8; Limits::PATTERN_NODES];
+    let read = shapes::read_node(scan, s, rules, 0, symbols, &mut sizes);
+    let after = read.scan;
+    let size = read.next;
+    let whole = has_pins(symbols, size, pins);
+    PatternRead {
+        scan: completed(whole, shapes::place_of(scan), after),
+        size: size as u32,
+    }
+}
+
+// A pattern's row: its cell, its size and its symbols.
+fn read_row(scan: Scan, s: &[u8], pins: u32, cell: u32, row: &mut [u32]) -> Scan
+    requires { ⌜ (pins ≤ 6) × (length (now row) ≡ 18) × (place scan < 2 ^ 19) ⌝ }
+    ensures { λ r. ⌜ RowIs (now (s .entry)) pins cell scan (now (row .entry)) (now (row .exit)) r ⌝ }
+{
+    row[0] = cell;
+    let read = read_pattern(scan, s, pins, &mut row[2..]);
+    row[1] = read.size;
+    read.scan
+}
+
+// The rows of a cell's patterns, after `total` rows.
+fn read_rows(
+    scan: Scan,
+    s: &[u8],
+    pins: u32,
+    cell: u32,
+    total: usize,
+    count: u32,
+    rows: &mut [u32],
+) -> Scan
+    requires { ⌜ (pins ≤ 6) × (length (now rows) ≡ 2304) × (total + count ≤ 128) × (count ≤ 7) × (place scan < 310000) ⌝ }
+    ensures { λ r. ⌜ RowsAre (now (s .entry)) pins cell total count scan (now (rows .entry)) (now (rows .exit)) r ⌝ }
+{
+    let mut at = scan;
+    let mut k: u32 = 0;
+    while k < count {
+        let first = Limits::ROW * (total + k as usize);
+        at = read_row(at, s, pins, cell, &mut rows[first..first + Limits::ROW]);
+        k += 1;
+    }
+    at
+}
+
+// The verdict on a pattern count, after `total` patterns.
+fn count_verdict(total: usize, count: u32) -> Verdict
+    requires { ⌜ total ≤ 128 ⌝ }
+    ensures { λ r. ⌜ r ≡ countVerdict total count ⌝ }
+{
+    if Limits::PATTERNS < total + count as usize {
+        return Verdict::Faulty(Fault::Size);
+    }
+    shapes::in_range(1, Limits::DRAWINGS, count)
+}
+
+// A cell's pattern count, after `total` patterns.
+fn read_count(scan: Scan, s: &[u8], total: usize) -> shapes::Got
+    requires { ⌜ (total ≤ 128) × (place scan < 2 ^ 20) ⌝ }
+    ensures { λ r. ⌜ CountIs (now (s .entry)) total scan r ⌝ }
+{
+    let got = shapes::raw(scan, s, 3);
+    shapes::settle(scan, got, count_verdict(total, got.value))
+}
+
+// A cell's patterns, after `total` rows.
+fn read_drawings(
+    scan: Scan,
+    s: &[u8],
+    pins: u32,
+    cell: u32,
+    total: usize,
+    rows: &mut [u32],
+) -> DrawingsRead
+    requires { ⌜ (pins ≤ 6) × (length (now rows) ≡ 2304) × (total ≤ 128) × (place scan < 300000) ⌝ }
+    ensures { λ r. ⌜ DrawingsAre (now (s .entry)) pins cell total scan (now (rows .entry)) (now (rows .exit)) r ⌝ }
+{
+    let got = read_count(scan, s, total);
+    let at = got.scan;
+    let count = got.value;
+    DrawingsRead {
+        scan: read_rows(at, s, pins, cell, total, count, rows),
+        count,
+    }
+}
+
+// A cell, after `total` patterns.
+fn read_cell(scan: Scan, s: &[u8], bins: u32, cell: u32, total: usize, rows: &mut [u32]) -> CellRead
+    requires { ⌜ (bins ≤ 4) × (length (now rows) ≡ 2304) × (total ≤ 128) × (place scan < 2 ^ 18) ⌝ }
+    ensures { λ r. ⌜ CellIs (now (s .entry)) bins cell total scan (now (rows .entry)) (now (rows .exit)) r ⌝ }
+{
+    let head = read_head(scan, s);
+    let at = head.scan;
+    let count = head.pins;
+    let pins = read_pins(at, s, bins, count);
+    let at = pins.scan;
+    let drawings = read_drawings(at, s, count, cell, total, rows);
+    let loads = pins.loads;
+    let intrinsics = pins.intrinsics;
+    let drives = pins.drives;
+    let after = drawings.scan;
+    CellRead {
+        scan: after,
+        count: drawings.count,
+        cell: CellRecord {
+            held: head.held,
+            area: head.area,
+            highest: head.highest,
+            pins: count as u8,
+            loads,
+            intrinsics,
+            drives,
+        },
+    }
+}
+
+// The whole library, and the scan after it.
+pub struct LibraryRead {
+    pub scan: Scan,
+    pub library: LibraryRecord,
+}
+
+// The whole tree, and the scan after it.
+pub struct TreeRead {
+    pub scan: Scan,
+    pub tree: TreeRecord,
+}
+
+// A cell of which nothing is read.
+fn blank_cell() -> CellRecord
+    ensures { λ r. ⌜ r ≡ blankCell ⌝ }
+{
+    CellRecord {
+        held: false,
+        area: 0,
+        highest: 0,
+        pins: 0,
+        loads: [0u8; 6],
+        intrinsics: [0u16; 6],
+        drives: [0u8; 6],
+    }
+}
+
+// The cells.
+fn read_cells(scan: Scan, s: &[u8], bins: u32, count: u32, rows: &mut [u32]) -> CellsRead
+    requires { ⌜ (bins ≤ 4) × (length (now rows) ≡ 2304) × (count ≤ 64) × (place scan < 2 ^ 10) ⌝ }
+    ensures { λ r. ⌜ CellsAre (now (s .entry)) bins count scan (now (rows .entry)) (now (rows .exit)) r ⌝ }
+{
+    let blank = blank_cell();
+    let mut cells = [blank; 64];
+    let mut at = scan;
+    let mut total: usize = 0;
+    let mut k: u32 = 0;
+    while k < count {
+        let read = read_cell(at, s, bins, k, total, rows);
+        at = read.scan;
+        let cell = read.cell;
+        cells[k as usize] = cell;
+        total += read.count as usize;
+        k += 1;
+    }
+    CellsRead {
+        scan: at,
+        total,
+        cells,
+    }
+}
+
+// The library sheet.
+pub fn read_library(s: &[u8]) -> LibraryRead
+    ensures { λ r. ⌜ LibraryIs (now (s .entry)) r ⌝ }
+{
+    let start = Scan::At(Cursor::new());
+    let bins = shapes::ranged(start, s, 3, 1, Limits::BINS);
+    let at = bins.scan;
+    let loads = read_bins(at, s, bins.value);
+    let at = loads.scan;
+    let count = shapes::ranged(at, s, 7, 1, Limits::CELLS);
+    let at = count.scan;
+    let mut rows = [0u32; Limits::ROWS];
+    let cells = read_cells(at, s, bins.value, count.value, &mut rows);
+    let at = cells.scan;
+    let bin_loads = loads.loads;
+    let records = cells.cells;
+    LibraryRead {
+        scan: shapes::end(at, s),
+        library: LibraryRecord {
+            bins: bins.value,
+            loads: bin_loads,
+            count: count.value as usize,
+            total: cells.total,
+            cells: records,
+            rows,
+        },
+    }
+}
+
+// The tree sheet.
+pub fn read_tree(s: &[u8]) -> TreeRead
+    ensures { λ r. ⌜ TreeIs (now (s .entry)) r ⌝ }
+{
+    let start = Scan::At(Cursor::new());
+    let load = shapes::ranged(start, s, 8, 0, Limits::LOAD);
+    let at = load.scan;
+    let required = shapes::ranged(at, s, 24, 0, Limits::TIME);
+    let at = required.scan;
+    let rules = Rules {
+        width: 20,
+        most: Limits::ARRIVAL,
+        nodes: Limits::TREE_NODES,
+        pattern: false,
+    };
+    let mut symbols = [0u32; Limits::TREE_NODES];
+    let mut sizes = [0u8; Limits::TREE_NODES];
+    let read = shapes::read_node(at, s, rules, 0, &mut symbols, &mut sizes);
+    let at = read.scan;
+    TreeRead {
+        scan: shapes::end(at, s),
+        tree: TreeRecord {
+            load: load.value as u8,
+            required: required.value,
+            count: read.next,
+            symbols,
+            sizes,
+        },
+    }
+}
+
+// Judges a library: its cell count and its pattern count, or what is wrong with it and where.
+pub fn judge_library(s: &[u8]) -> LibraryJudged
+    ensures { λ r. ⌜ ofLibraryJudged r ≡ libraryReport (now (s .entry)) ⌝ }
+{
+    let read = read_library(s);
+    let scan = read.scan;
+    match scan {
+        Scan::At(_) => LibraryJudged::Sound(read.library.count, read.library.total),
+        Scan::Refused(fault, place) => LibraryJudged::Refused(fault, place),
+    }
+}
+
+// Judges a tree: its node count, or what is wrong with it and where.
+pub fn judge_tree(s: &[u8]) -> TreeJudged
+    ensures { λ r. ⌜ ofTreeJudged r ≡ treeReport (now (s .entry)) ⌝ }
+{
+    let read = read_tree(s);
+    let scan = read.scan;
+    match scan {
+        Scan::At(_) => TreeJudged::Sound(read.tree.count),
+        Scan::Refused(fault, place) => TreeJudged::Refused(fault, place),
+    }
+}

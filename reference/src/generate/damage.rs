@@ -78,7 +78,16 @@ fn chosen_field(rng: &mut Rng, form: &Form) -> usize {
     if rng.once_in(2) {
         return any;
     }
-    let roles = [Role::BinCount, Role::BinLoad, Role::CellCount, Role::PinCount, Role::PatternCount, Role::Code, Role::PinNumber, Role::Arrival];
+    let roles = [
+        Role::BinCount,
+        Role::BinLoad,
+        Role::CellCount,
+        Role::PinCount,
+        Role::PatternCount,
+        Role::Code,
+        Role::PinNumber,
+        Role::Arrival,
+    ];
     let alike = form.find(rng.pick(&roles));
     if alike.is_empty() {
         any

@@ -1,7 +1,8 @@
 //! The longest sound library: 4 bins, 64 cells of 6 pins, 128 patterns of 16 nodes.
 
+use super::parts::pin;
 use super::sound;
-use crate::library::{Cell, Library, Pin};
+use crate::library::{Cell, Library};
 use crate::rng::Rng;
 use crate::shape::Shape;
 
@@ -12,12 +13,11 @@ pub fn library() -> Library {
 }
 
 fn cell(rng: &mut Rng, number: u32) -> Cell {
-    let pin = |pin: u32| Pin { bin: pin % 4, intrinsic: number * 11 + pin, drive: 64 - number };
     Cell {
         held: false,
         area: number * 5,
         highest_load: 255,
-        pins: (0..6).map(pin).collect(),
+        pins: (0..6).map(|place| pin(place % 4, number * 11 + place, 64 - number)).collect(),
         patterns: (0..2).map(|_| pattern(rng)).collect(),
     }
 }

@@ -2,8 +2,10 @@
 
 pub mod chosen;
 pub mod damage;
+pub mod heavy;
 pub mod limits;
 pub mod longest;
+pub mod parts;
 pub mod problem;
 pub mod sound;
 pub mod specimen;

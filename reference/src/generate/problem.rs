@@ -1,5 +1,6 @@
 //! Random libraries and trees made for each other, so that many patterns match.
 
+use super::parts::{AND, AOI21, INVERTER, NAND, NOR, OR};
 use super::sound;
 use crate::form::Form;
 use crate::library::{Cell, Library, Pin};
@@ -79,6 +80,22 @@ pub fn problem(rng: &mut Rng, style: Style) -> Problem {
     problem
 }
 
+/// The same problem with another required time and, half the times, one value changed.
+pub fn varied(rng: &mut Rng, problem: &Problem) -> Problem {
+    let mut varied = problem.clone();
+    let number = rng.below(varied.library.cells.len());
+    let cell = &mut varied.library.cells[number];
+    match rng.below(8) {
+        0 => cell.area = rng.value(1, 40),
+        1 => cell.pins[0].intrinsic = rng.value(0, 40),
+        2 => cell.held = !cell.held,
+        3 => varied.tree.root_load = rng.value(0, 8),
+        _ => {}
+    }
+    varied.tree.required = required(rng, &varied);
+    varied
+}
+
 fn required(rng: &mut Rng, problem: &Problem) -> u32 {
     let anything = rng.value(0, LATEST_REQUIRED);
     match merging::list(&problem.library, &problem.tree) {
@@ -92,17 +109,17 @@ fn required(rng: &mut Rng, problem: &Problem) -> u32 {
 
 /// Shapes that occur in libraries; pins are numbered in drawn order.
 const GATES: [&[Step]; 12] = [
-    &[Inv, Leaf(0)],
-    &[Nand, Leaf(0), Leaf(1)],
+    INVERTER,
+    NAND,
     &[Inv, Inv, Leaf(0)],
-    &[Inv, Nand, Leaf(0), Leaf(1)],
-    &[Nand, Inv, Leaf(0), Inv, Leaf(1)],
-    &[Inv, Nand, Inv, Leaf(0), Inv, Leaf(1)],
+    AND,
+    OR,
+    NOR,
     &[Nand, Inv, Leaf(0), Leaf(1)],
     &[Nand, Leaf(0), Inv, Leaf(1)],
     &[Nand, Inv, Nand, Leaf(0), Leaf(1), Leaf(2)],
     &[Nand, Leaf(0), Inv, Nand, Leaf(1), Leaf(2)],
-    &[Inv, Nand, Nand, Leaf(0), Leaf(1), Inv, Leaf(2)],
+    AOI21,
     &[Nand, Nand, Leaf(0), Leaf(1), Nand, Leaf(2), Leaf(3)],
 ];
 
@@ -111,7 +128,7 @@ fn library(rng: &mut Rng, style: Style) -> Library {
     let mut gates: Vec<Shape> = GATES.iter().map(|steps| Shape::from_steps(steps)).collect();
     gates.truncate(if style.graded { rng.pick(&[1, 2, 2, 4]) } else { rng.pick(&[2, 2, 4, 8, 12]) });
     let mut library = Library { bins, cells: Vec::new() };
-    for number in 0..rng.between(1, style.cells) {
+    for number in 0..rng.between(2, style.cells) {
         let shape = match number {
             0 | 1 => gates[number % gates.len()].clone(),
             _ if rng.once_in(8) => any_gate(rng),
@@ -120,10 +137,24 @@ fn library(rng: &mut Rng, style: Style) -> Library {
         let cell = cell(rng, style, library.bins.len(), shape);
         library.cells.push(cell);
     }
+    if !rng.once_in(4) {
+        open_up(&mut library, style);
+    }
     if rng.once_in(3) {
         rng.shuffle(&mut library.cells);
     }
     library
+}
+
+/// Makes one inverter and one NAND good for every load of the style, so that all trees have covers.
+fn open_up(library: &mut Library, style: Style) {
+    for steps in &GATES[..2] {
+        let shape = Shape::from_steps(steps);
+        if let Some(cell) = library.cells.iter_mut().find(|cell| cell.patterns[0] == shape) {
+            cell.held = false;
+            cell.highest_load = (2 * style.load).min(255);
+        }
+    }
 }
 
 fn any_gate(rng: &mut Rng) -> Shape {

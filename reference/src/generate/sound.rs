@@ -83,11 +83,7 @@ fn cell(rng: &mut Rng, size: Size, bin_count: usize, room: usize) -> Cell {
 }
 
 fn pin(rng: &mut Rng, bin_count: usize) -> Pin {
-    Pin {
-        bin: rng.below(bin_count) as u32,
-        intrinsic: edge_or(rng, 0, 65_535),
-        drive: edge_or(rng, 0, 255),
-    }
+    Pin { bin: rng.below(bin_count) as u32, intrinsic: edge_or(rng, 0, 65_535), drive: edge_or(rng, 0, 255) }
 }
 
 /// A pattern in which every pin stands once, with up to `extra` inverters.

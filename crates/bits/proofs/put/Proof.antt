@@ -43,9 +43,11 @@ loop-again : tie.Need-loop-again Inv-loop μ-loop
 loop-again c =
     let a = c .before .before .before .before .before .before .before .args in
     let i = c .before .before .before .before .before .loop in
-    let e = c .before .before .put-bit .ensures in
-    (omega arith, ap length e ∙ length-bit (i .s) (a .at + (i .k - 1)) (i .rest % 2) ∙ i .inv .1,
-    ap (λ (l : List ℕ). withField l (a .at) (i .k - 1) (i .rest / 2)) e ∙ sym (field-step (i .s) (a .at) (i .k) (i .rest) (omega arith)) ∙ i .inv .2)
+    let e = c .before .before .put-bit .ensures in (
+      omega arith,
+      ap length e ∙ length-bit (i .s) (a .at + (i .k - 1)) (i .rest % 2) ∙ i .inv .1,
+      ap (λ (l : List ℕ). withField l (a .at) (i .k - 1) (i .rest / 2)) e ∙ sym (field-step (i .s) (a .at) (i .k) (i .rest) (omega arith)) ∙ i .inv .2,
+    )
 
 -- src/lib.rt:93:1
 same-length : tie.Need-same-length Inv-loop μ-loop

@@ -40,8 +40,16 @@ read-pair-below t = and 3 read-pair-kinds.ps (falls 3 read-pair-kinds.ps _<_ μ-
 -- what the node reader and the pair reader know of those that they call, at the measure t
 abbrev of-node : ℕ → read-node-lts.Claims
 of-node t = (
-  read-code-reads.Asked, read-code-reads.Learnt, read-leaf-reads.Asked, read-leaf-reads.Learnt, read-node-below t, read-node.Post,
-  closed-reads.Asked, closed-reads.Learnt, read-pair-below t, read-pair.Post
+  read-code-reads.Asked,
+  read-code-reads.Learnt,
+  read-leaf-reads.Asked,
+  read-leaf-reads.Learnt,
+  read-node-below t,
+  read-node.Post,
+  closed-reads.Asked,
+  closed-reads.Learnt,
+  read-pair-below t,
+  read-pair.Post,
 )
 
 abbrev of-pair : ℕ → read-pair-lts.Claims

@@ -1,17 +1,29 @@
 //! Median times.
 
-use std::hint::black_box;
 use std::time::Instant;
 
-/// The median over `rounds` of the nanoseconds that one call takes, where a round
-/// makes `calls` calls.
-pub fn median<T>(rounds: usize, calls: usize, mut call: impl FnMut() -> T) -> f64 {
-    let mut round = || {
-        let start = Instant::now();
-        (0..calls).for_each(|_| drop(black_box(call())));
-        start.elapsed().as_nanos() as f64 / calls as f64
-    };
-    let mut times: Vec<f64> = (0..rounds).map(|_| round()).collect();
+/// Something to be timed.
+pub type Contestant<'a> = Box<dyn FnMut() + 'a>;
+
+/// For each contestant the median over the rounds of the nanoseconds that one call takes.
+/// In a round they take turns, and each makes `calls` calls.
+pub fn medians(rounds: usize, calls: usize, mut contestants: Vec<Contestant>) -> Vec<f64> {
+    let mut times = vec![Vec::new(); contestants.len()];
+    for _ in 0..rounds {
+        for (contestant, times) in contestants.iter_mut().zip(&mut times) {
+            times.push(time(calls, contestant));
+        }
+    }
+    times.into_iter().map(median).collect()
+}
+
+fn time(calls: usize, contestant: &mut Contestant) -> f64 {
+    let start = Instant::now();
+    (0..calls).for_each(|_| contestant());
+    start.elapsed().as_nanos() as f64 / calls as f64
+}
+
+fn median(mut times: Vec<f64>) -> f64 {
     times.sort_by(f64::total_cmp);
-    times[rounds / 2]
+    times[times.len() / 2]
 }

@@ -1,5 +1,6 @@
 //! Single sheets as files of their own.
 
+use crate::map::line;
 use reference::form::Form;
 use reference::generate::{longest, specimen};
 use reference::operation::{Lent, Operation};
@@ -7,13 +8,15 @@ use std::io;
 use std::path::Path;
 
 pub fn write(directory: &Path) -> io::Result<()> {
-    let put = |name: &str, form: Form| std::fs::write(directory.join(name), form.bytes());
-    let example = [Form::of_library(&specimen::example_library()), Form::of_tree(&specimen::example_tree(39))];
-    put("specimen.library", Form::of_library(&specimen::library()))?;
-    put("specimen.tree", Form::of_tree(&specimen::tree_b()))?;
-    put("longest.library", Form::of_library(&longest::library()))?;
-    put("example003.library", example[0].clone())?;
-    put("example003.tree", example[1].clone())?;
-    let line = |operation| super::map::line(operation, Lent::ENOUGH, &example[0].bytes(), &example[1].bytes()) + "\n";
-    std::fs::write(directory.join("example003.expected"), line(Operation::List) + &line(Operation::Map))
+    let put = |name: &str, bytes: &[u8]| std::fs::write(directory.join(name), bytes);
+    put("specimen.library", &Form::of_library(&specimen::library()).bytes())?;
+    put("specimen.tree", &Form::of_tree(&specimen::tree_b()).bytes())?;
+    put("longest.library", &Form::of_library(&longest::library()).bytes())?;
+    let library = Form::of_library(&specimen::example_library()).bytes();
+    let tree = Form::of_tree(&specimen::example_tree(39)).bytes();
+    put("example003.library", &library)?;
+    put("example003.tree", &tree)?;
+    let lines =
+        [Operation::List, Operation::Map].map(|operation| line(operation, Lent::ENOUGH, &library, &tree) + "\n");
+    put("example003.expected", lines.concat().as_bytes())
 }

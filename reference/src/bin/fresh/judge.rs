@@ -1,7 +1,8 @@
 //! Fresh sheets for the two judges.
 
-use crate::tally::{hex, key, words, Tally};
+use crate::tally::{key, words, Tally};
 use reference::generate::damage::{any_sheet, Kind};
+use reference::hex::hex;
 use reference::product;
 use reference::rng::Rng;
 use reference::verdict::Verdict;

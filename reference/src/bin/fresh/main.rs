@@ -6,6 +6,8 @@
 //! The exit status is 1 if anything disagrees.
 
 mod judge;
+#[cfg(feature = "product_map")]
+mod map;
 mod tally;
 
 use std::process::ExitCode;
@@ -18,8 +20,10 @@ fn main() -> ExitCode {
     };
     let tally = match arguments.first().map(String::as_str) {
         Some("judge") => judge::run(number(1, 100_000), number(2, 1)),
+        #[cfg(feature = "product_map")]
+        Some("map") => map::run(number(1, 200_000), number(2, 1)),
         _ => {
-            eprintln!("usage: fresh judge [COUNT] [SEED]");
+            eprintln!("usage: fresh judge|map [COUNT] [SEED]; map needs the feature product_map");
             return ExitCode::from(2);
         }
     };

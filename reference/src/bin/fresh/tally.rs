@@ -51,7 +51,3 @@ pub fn words(coded: u64) -> String {
         number => format!("refused {number} {}", coded as u32),
     }
 }
-
-pub fn hex(bytes: &[u8]) -> String {
-    bytes.iter().map(|byte| format!("{byte:02x}")).collect()
-}

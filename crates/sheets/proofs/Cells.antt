@@ -1,0 +1,154 @@
+-- Laws about cells, and about the whole of each sheet.
+use mathlib.Core.Path.{_≡_, refl, sym, ap, ap₂, subst, subst₂, _∙_}
+use mathlib.Core.List.{List, [], _∷_, _++_, map, map-append, append-assoc, append-nil}
+use Prim.Native.Nat.{ℕ, zero, suc, _+_, _-_, _*_, _≤_, _<_}
+use native.Mathlib.Nat.{zero-add, add-zero, add-suc, suc-add}
+use native.Mathlib.Numerals.{add-one}
+use native.Mathlib.Omega.{arith}
+use lib.ListN.{length, set, replicate, length-map, length-append}
+use Rattle.shapes.specs.declared.Got.{Got}
+use Rattle.shapes.specs.declared.Scan.{Scan}
+use Rattle.shapes.specs.declared.Fault.{Fault}
+use Rattle.shapes.specs.declared.Scan.the-variants.{At, Refused}
+use Rattle.shapes.specs.Shape.{Shape}
+use Rattle.shapes.specs.Reading.{Reader, place, times, field}
+use Rattle.shapes.specs.Promises.{Live}
+use Rattle.shapes.proofs.Laws.{length-times, times-value, times-scan}
+use Rattle.sheets.specs.declared.HeadRead.{HeadRead}
+use Rattle.sheets.specs.declared.PinsRead.{PinsRead}
+use Rattle.sheets.specs.declared.DrawingsRead.{DrawingsRead}
+use Rattle.sheets.specs.declared.CellRead.{CellRead}
+use Rattle.sheets.specs.declared.CellRecord.{CellRecord}
+use Rattle.sheets.specs.Model.{Pin, Cell, Pattern, drawn, patternsFrom}
+use Rattle.sheets.specs.LibrarySheet.{head, pin, pattern, countVerdict, drawings, cell}
+use Rattle.sheets.specs.Layout.{padded, blankCell, cellLaid, row, rowsFrom, patternRows}
+use Rattle.sheets.specs.Promises.{HeadIs, PinsAre, RowsAre, CountIs, DrawingsAre, CellIs, cellAfter}
+use Rattle.sheets.proofs.Laws.{filled-more, rows-append}
+
+pub drawings-are : (s : List ℕ) (pins number total : ℕ) (scan : Scan) (l l′ : List ℕ) (got : Got) (r : Scan) →
+    CountIs s total scan got → RowsAre s pins number total (got .value) (got .scan) l l′ r →
+    DrawingsAre s pins number total scan l l′ (record { scan = r; count = got .value })
+unfolding drawings
+drawings-are s pins number total scan l l′ got r h w =
+    let f = field s 3 (countVerdict total) scan in
+    let same : times (got .value) (pattern s pins) (got .scan) ≡ times (f .0) (pattern s pins) (f .1) =
+    ap₂ (λ (n : ℕ) (c : Scan). times n (pattern s pins) c) (h .reads .value) (h .reads .scan) in
+    record {
+      scan-is = w .scan-is ∙ ap (λ (x : List Shape × Scan). x .1) same;
+      count-is = sym (length-times (got .value) (pattern s pins) (got .scan)) ∙ ap (λ (x : List Shape × Scan). length (x .0)) same;
+      laid = λ q. w .laid q ∙ ap (λ (x : List Shape × Scan). rowsFrom l total (map (row number) (x .0))) same;
+      fits = h .fits;
+      near = omega (arith, h .reads .near, h .reads .small, w .near);
+    }
+
+pub cell-is : (s : List ℕ) (bins number total : ℕ) (scan : Scan) (l l′ : List ℕ) (h : HeadRead) (p : PinsRead) (d : DrawingsRead) →
+    HeadIs s scan h → PinsAre s bins (h .pins) (h .scan) p → DrawingsAre s (h .pins) number total (p .scan) l l′ d →
+    CellIs s bins number total scan l l′ (record {
+      scan = d .scan;
+      count = d .count;
+      cell = record { held = h .held; area = h .area; highest = h .highest; pins = h .pins; loads = p .loads; intrinsics = p .intrinsics; drives = p .drives };
+    })
+unfolding cell cellLaid
+cell-is s bins number total scan l l′ h p d hh hp hd =
+    let H = head s scan in
+    let same : times (h .pins) (pin s bins) (h .scan) ≡ times (H .0 .pins) (pin s bins) (H .1) =
+    ap₂ (λ (n : ℕ) (c : Scan). times n (pin s bins) c) (hh .pins) (hh .scan-is) in
+    let P = times (H .0 .pins) (pin s bins) (H .1) in
+    let after : p .scan ≡ P .1 = hp .scan-is ∙ ap (λ (x : List Pin × Scan). x .1) same in
+    let drew : drawings s (h .pins) total (p .scan) ≡ drawings s (H .0 .pins) total (P .1) =
+    ap₂ (λ (n : ℕ) (c : Scan). drawings s n total c) (hh .pins) after in
+    let counted : h .pins ≡ length (P .0) = sym (length-times (h .pins) (pin s bins) (h .scan)) ∙ ap (λ (x : List Pin × Scan). length (x .0)) same in
+    let loads = hp .loads ∙ ap (λ (x : List Pin × Scan). padded 6 0 (map (λ (q : Pin). q .bin) (x .0))) same in
+    let intrinsics = hp .intrinsics ∙ ap (λ (x : List Pin × Scan). padded 6 0 (map (λ (q : Pin). q .intrinsic) (x .0))) same in
+    let drives = hp .drives ∙ ap (λ (x : List Pin × Scan). padded 6 0 (map (λ (q : Pin). q .drive) (x .0))) same in
+    record {
+      cell-is = λ i. record {
+        held = hh .held i;
+        area = hh .area i;
+        highest = hh .highest i;
+        pins = counted i;
+        loads = loads i;
+        intrinsics = intrinsics i;
+        drives = drives i;
+      };
+      scan-is = hd .scan-is ∙ ap (λ (x : List Shape × Scan). x .1) drew;
+      count-is = hd .count-is ∙ ap (λ (x : List Shape × Scan). length (x .0)) drew;
+      laid = λ q. hd .laid q ∙ ap (λ (x : List Shape × Scan). rowsFrom l total (map (row number) (x .0))) drew;
+      fits = hd .fits;
+      near = omega (arith, hh .near, hh .few, hp .near, hd .near);
+    }
+
+-- ---- a refused scan stays as it is
+
+times-dead : {A : Type 0} (n : ℕ) (r : List A → Reader A) (f : Fault) (p : ℕ) → ((xs : List A) → r xs (Refused f p) .1 ≡ Refused f p) → times n r (Refused f p) .1 ≡ Refused f p
+unfolding times
+times-dead zero r f p h = refl
+times-dead (suc n) r f p h = ap (λ (c : Scan). r (times n r (Refused f p) .0) c .1) (times-dead n r f p h) ∙ h (times n r (Refused f p) .0)
+
+pub cell-live : (s : List ℕ) (bins total : ℕ) (c : Scan) → Live (cell s bins total c .1) → Live c
+unfolding cell drawings head times pin
+cell-live s bins total (At c) h = tt
+cell-live s bins total (Refused f p) h =
+    let ps = times (head s (Refused f p) .0 .pins) (pin s bins) (Refused f p) .1 in
+    let still : ps ≡ Refused f p = times-dead (head s (Refused f p) .0 .pins) (pin s bins) f p (λ xs. refl) in
+    subst Live (ap (λ (q : Scan). drawings s (head s (Refused f p) .0 .pins) total q .1) still) h
+
+-- ---- the patterns of cells, numbered through the sheet
+
+length-drawn : (n : ℕ) (c : Cell) (ds : List Shape) → length (drawn n c ds) ≡ length ds
+unfolding drawn
+length-drawn n c [] = refl
+length-drawn n c (d ∷ ds) = ap suc (length-drawn n c ds)
+
+rows-drawn : (n : ℕ) (c : Cell) (ds : List Shape) → patternRows (drawn n c ds) ≡ map (row n) ds
+unfolding patternRows drawn
+rows-drawn n c [] = refl
+rows-drawn n c (d ∷ ds) = ap (λ (rs : List (List ℕ)). row n d ∷ rs) (rows-drawn n c ds)
+
+pub patterns-more : (n : ℕ) (cs : List Cell) (c : Cell) → patternsFrom n (cs ++ (c ∷ [])) ≡ patternsFrom n cs ++ drawn (n + length cs) c (c .drawings)
+unfolding patternsFrom
+patterns-more n [] c = append-nil (drawn n c (c .drawings)) ∙ ap (λ (k : ℕ). drawn k c (c .drawings)) (sym (add-zero n))
+patterns-more n (b ∷ cs) c =
+    ap (λ (ps : List Pattern). drawn n b (b .drawings) ++ ps)
+    (patterns-more (suc n) cs c ∙ ap (λ (k : ℕ). patternsFrom (suc n) cs ++ drawn k c (c .drawings)) (suc-add n (length cs) ∙ sym (add-suc n (length cs))))
+    ∙ sym (append-assoc (drawn n b (b .drawings)) (patternsFrom (suc n) cs) _)
+
+-- One cell more.
+module _ (s : List ℕ) (bins : ℕ) (scan : Scan) (l : List ℕ) (k total : ℕ) (l₁ l₂ : List ℕ) (at : Scan) (cells : List CellRecord) (r : CellRead)
+    (et : total ≡ length (patternsFrom 0 (times k (cellAfter s bins) scan .0))) (ea : at ≡ times k (cellAfter s bins) scan .1)
+    (w : CellIs s bins k total at l₁ l₂ r) where
+  same : cell s bins total at ≡ cellAfter s bins (times k (cellAfter s bins) scan .0) (times k (cellAfter s bins) scan .1)
+  same = ap₂ (λ (t : ℕ) (c : Scan). cell s bins t c) et ea
+
+  pub turn-scan : r .scan ≡ times (k + 1) (cellAfter s bins) scan .1
+  turn-scan = w .scan-is ∙ ap (λ (x : Cell × Scan). x .1) same ∙ sym (times-scan k (cellAfter s bins) scan)
+
+  pub turn-cells : cells ≡ padded 64 blankCell (map cellLaid (times k (cellAfter s bins) scan .0)) →
+      set cells k (r .cell) ≡ padded 64 blankCell (map cellLaid (times (k + 1) (cellAfter s bins) scan .0))
+  turn-cells e = filled-more 64 blankCell cellLaid (cellAfter s bins) scan k cells (r .cell) e (w .cell-is ∙ ap (λ (x : Cell × Scan). cellLaid (x .0)) same)
+
+  more : patternsFrom 0 (times (k + 1) (cellAfter s bins) scan .0) ≡ patternsFrom 0 (times k (cellAfter s bins) scan .0) ++ drawn k (cell s bins total at .0) (cell s bins total at .0 .drawings)
+  more =
+      ap (patternsFrom 0) (times-value k (cellAfter s bins) scan)
+      ∙ patterns-more 0 (times k (cellAfter s bins) scan .0) (cellAfter s bins (times k (cellAfter s bins) scan .0) (times k (cellAfter s bins) scan .1) .0)
+      ∙ ap₂ (λ (n : ℕ) (x : Cell × Scan). patternsFrom 0 (times k (cellAfter s bins) scan .0) ++ drawn n (x .0) (x .0 .drawings))
+      (zero-add _ ∙ length-times k (cellAfter s bins) scan) (sym same)
+
+  pub turn-total : total + r .count ≡ length (patternsFrom 0 (times (k + 1) (cellAfter s bins) scan .0))
+  turn-total =
+      ap₂ _+_ et (w .count-is ∙ sym (length-drawn k (cell s bins total at .0) (cell s bins total at .0 .drawings)))
+      ∙ sym (ap length more ∙ length-append (patternsFrom 0 (times k (cellAfter s bins) scan .0)) _)
+
+  pub turn-rows : (Live at → l₁ ≡ rowsFrom l 0 (patternRows (patternsFrom 0 (times k (cellAfter s bins) scan .0)))) →
+      Live (r .scan) → l₂ ≡ rowsFrom l 0 (patternRows (patternsFrom 0 (times (k + 1) (cellAfter s bins) scan .0)))
+  unfolding patternRows
+  turn-rows e q =
+      let before = patternsFrom 0 (times k (cellAfter s bins) scan .0) in
+      let ds = cell s bins total at .0 .drawings in
+      let start : total ≡ 0 + length (patternRows before) = et ∙ sym (zero-add _ ∙ length-map before _) in
+      w .laid q
+      ∙ ap₂ (λ (l′ : List ℕ) (i : ℕ). rowsFrom l′ i (map (row k) ds)) (e (cell-live s bins total at (subst Live (w .scan-is) q))) start
+      ∙ sym (rows-append l 0 (patternRows before) (map (row k) ds))
+      ∙ ap (rowsFrom l 0)
+      (ap (λ (rs : List (List ℕ)). patternRows before ++ rs) (sym (rows-drawn k (cell s bins total at .0) ds))
+      ∙ sym (ap patternRows more ∙ map-append _ before (drawn k (cell s bins total at .0) ds)))

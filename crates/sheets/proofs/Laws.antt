@@ -1,0 +1,229 @@
+-- Laws about the sheets' readers.
+use mathlib.Core.Path.{_≡_, refl, sym, ap, ap₂, subst, _∙_}
+use mathlib.Core.List.{List, [], _∷_, _++_, map, map-append}
+use Prim.Native.Nat.{ℕ, zero, suc, _+_, _-_, _*_, _≤_, _<_}
+use mathlib.Core.Bool.{Bool, true, false, cond, _&&_}
+use mathlib.Core.Logic.{_⊎_, inl, inr}
+use native.Mathlib.Nat.{zero-add, add-zero, add-suc, suc-add, eq-or-lt-of-le, le-of-suc-le-suc}
+use native.Mathlib.Numerals.{add-one}
+use native.Mathlib.Omega.{arith}
+use lib.ListN.{length, take, drop, set, length-map, length-set}
+use lib.Seq.{sets, length-sets}
+use Rattle.shapes.specs.declared.Scan.{Scan}
+use Rattle.shapes.specs.Reading.{Reader, place, times, within, field}
+use Rattle.shapes.specs.declared.Verdict.the-variants.{Sound, Faulty}
+use Rattle.shapes.specs.declared.Fault.the-variants.{Size}
+use borrow.Author.Tests.{leb-true}
+use lib.Dec.{leb}
+use Rattle.shapes.proofs.Laws.{length-times, times-value, times-scan, positive-live, live-sound, range-passes}
+use Rattle.shapes.proofs.Sets.{sets-append, set-sets, take-sets, mid-sets}
+use Rattle.shapes.proofs.Drawn.{live?, length-symbols, node-dead}
+use borrow.Rule.Slice.PartMut.{putMid}
+use Rattle.shapes.specs.declared.Scan.the-variants.{At, Refused}
+use Rattle.shapes.specs.declared.Branch.{Branch}
+use Rattle.shapes.specs.Shape.{Shape, symbols, sizes, size}
+use Rattle.shapes.specs.Drawing.{elem, shape}
+use Rattle.shapes.specs.Promises.{Live, Laid, NodeRead}
+use Rattle.sheets.specs.LibrarySheet.{last, binLoad, complete, hasAll, pattern, patternRules, countVerdict}
+use Rattle.sheets.specs.Layout.{padded, row, rowsFrom}
+use Rattle.sheets.specs.Promises.{PatternIs, RowIs}
+use Rattle.sheets.specs.declared.PatternRead.{PatternRead}
+
+-- ---- arrays that a loop fills
+
+-- One element more.
+pub padded-more : {A : Type 0} (n : ℕ) (blank v : A) (xs : List A) (k : ℕ) → k ≡ length xs → set (padded n blank xs) k v ≡ padded n blank (xs ++ (v ∷ []))
+padded-more n blank v xs k e = ap (λ (i : ℕ). set (padded n blank xs) i v) (e ∙ sym (zero-add (length xs))) ∙ sym (sets-append _ 0 xs (v ∷ []))
+
+-- What a loop has read so far, laid out by f, and one turn more.
+module _ {A B : Type 0} (n : ℕ) (blank : B) (f : A → B) (r : List A → Reader A) (c : Scan) where
+  pub filled-more : (k : ℕ) (l : List B) (v : B) → l ≡ padded n blank (map f (times k r c .0)) → v ≡ f (r (times k r c .0) (times k r c .1) .0) →
+      set l k v ≡ padded n blank (map f (times (k + 1) r c .0))
+  filled-more k l v el ev =
+      ap₂ (λ (l′ : List B) (v′ : B). set l′ k v′) el ev
+      ∙ padded-more n blank _ (map f (times k r c .0)) k (sym (length-map (times k r c .0) f ∙ length-times k r c))
+      ∙ ap (padded n blank) (sym (ap (map f) (times-value k r c) ∙ map-append f (times k r c .0) _))
+
+pub last-more : (xs : List ℕ) (x : ℕ) → last (xs ++ (x ∷ [])) ≡ x
+unfolding last
+last-more [] x = refl
+last-more (y ∷ []) x = refl
+last-more (y ∷ (z ∷ zs)) x = last-more (z ∷ zs) x
+
+-- One bin load more: its range starts above the load before.
+pub bin-range : (s : List ℕ) (xs : List ℕ) (before : ℕ) (c c′ : Scan) → before ≡ last xs → c ≡ c′ → field s 8 (within (before + 1) 255) c ≡ binLoad s xs c′
+unfolding binLoad
+bin-range s xs before c c′ e ec = rw (e, add-one) (ap (field s 8 (within (suc (last xs)) 255)) ec)
+
+-- ---- patterns
+
+pub complete-dead : (whole : Bool) (first : ℕ) (c : Scan) → (Live c → ⊥) → complete whole first c ≡ c
+unfolding complete
+complete-dead whole first (At c) h = absurd (h tt)
+complete-dead whole first (Refused f p) h = refl
+
+pub complete-whole : (first : ℕ) (c : Scan) → complete true first c ≡ c
+unfolding complete
+complete-whole first (At c) = refl
+complete-whole first (Refused f p) = refl
+
+-- A pattern that has the first n pins and not the next lacks a pin.
+pub lacks : (pins n : ℕ) (l : List ℕ) → n < pins → elem (2 + n) l ≡ false → hasAll pins l ≡ false
+unfolding hasAll
+lacks zero n l h e = absurd (omega arith)
+lacks (suc k) n l h e = go (λ q. lacks k n l q e) (eq-or-lt-of-le (le-of-suc-le-suc h))
+  where
+    and-false : (b : Bool) → (b && false) ≡ false
+    and-false true = refl
+    and-false false = refl
+
+    go : (n < k → hasAll k l ≡ false) → (n ≡ k) ⊎ (n < k) → (hasAll k l && elem (2 + k) l) ≡ false
+    go rec (inl q) = ap (λ (b : Bool). hasAll k l && b) (ap (λ (i : ℕ). elem (2 + i) l) (sym q) ∙ e) ∙ and-false (hasAll k l)
+    go rec (inr q) = ap (λ (b : Bool). b && elem (2 + k) l) (rec q)
+
+-- One pin more.
+pub has-more : (n : ℕ) (l : List ℕ) → hasAll n l ≡ true → elem (2 + n) l ≡ true → hasAll (n + 1) l ≡ true
+unfolding hasAll
+has-more n l h e = rw (add-one, hasAll, h) e
+
+complete-near : (whole : Bool) (first : ℕ) (c : Scan) (b : ℕ) → first ≤ b → place c ≤ b → place (complete whole first c) ≤ b
+unfolding complete
+complete-near true first (At c) b h g = g
+complete-near false first (At c) b h g = h
+complete-near whole first (Refused f p) b h g = g
+
+pub pattern-is : (s : List ℕ) (pins most : ℕ) (scan : Scan) (l m l′ m′ : List ℕ) (read : Branch) (whole : Bool) (first : ℕ) (res : Scan) →
+    most ≡ pins - 1 → length l ≡ 16 → NodeRead s (record { width = 3; most = most; nodes = 16; pattern = true }) scan 0 l m l′ m′ read →
+    whole ≡ hasAll pins (take (read .next) l′) → first ≡ place scan → res ≡ complete whole first (read .scan) →
+    PatternIs s pins scan l l′ (record { scan = res; size = read .next })
+unfolding pattern shape
+pattern-is s pins most scan l m l′ m′ read whole first res em el h ew ef er = go (live? (read .scan))
+  where
+    here : NodeRead s (patternRules pins) scan 0 l m l′ m′ read
+    here = subst (λ (k : ℕ). NodeRead s (record { width = 3; most = k; nodes = 16; pattern = true }) scan 0 l m l′ m′ read) em h
+
+    x : Shape × Scan
+    x = shape s (patternRules pins) scan
+
+    laid : Laid 0 l m l′ m′ read (x .1) (symbols (x .0)) (sizes (x .0))
+    laid = here .laid 17 (omega arith)
+
+    near : place res ≤ place scan + 416
+    near = rw er (complete-near whole first (read .scan) (place scan + 416) (omega arith) (omega (arith, here .went .near)))
+
+    go : Dec (Live (read .scan)) → PatternIs s pins scan l l′ (record { scan = res; size = read .next })
+    go (yes z) =
+        let seen : take (read .next) l′ ≡ symbols (x .0) =
+        ap₂ (λ (i : ℕ) (k : List ℕ). take i k) (laid .next z) (laid .symbols z)
+        ∙ take-sets l 0 (symbols (x .0)) (omega (arith, laid .next z, here .went .upto)) in
+        record {
+          scan-is = er ∙ ap₂ (λ (w : Bool) (c : Scan). complete w first c) (ew ∙ ap (hasAll pins) seen) (laid .scan) ∙ ap (λ (k : ℕ). complete (hasAll pins (symbols (x .0))) k (x .1)) ef;
+          size-is = λ q. laid .next z ∙ zero-add (length (symbols (x .0))) ∙ length-symbols (x .0);
+          small = here .went .upto;
+          laid = λ q. laid .symbols z;
+          near = near;
+        }
+    go (no z) =
+        let res-is : res ≡ read .scan = er ∙ complete-dead whole first (read .scan) z in
+        let dead : Live res → ⊥ = λ q. z (subst Live res-is q) in
+        record {
+          scan-is = res-is ∙ laid .scan ∙ sym (complete-dead (hasAll pins (symbols (x .0))) (place scan) (x .1) (λ q. z (subst Live (sym (laid .scan)) q)));
+          size-is = λ q. absurd (dead q);
+          small = here .went .upto;
+          laid = λ q. absurd (dead q);
+          near = near;
+        }
+
+-- A pattern's row, from its symbols.
+pub row-is : (s : List ℕ) (pins number : ℕ) (scan : Scan) (l ys : List ℕ) (r : PatternRead) → length l ≡ 18 →
+    let l₁ = set l 0 number in
+    PatternIs s pins scan (take (length l₁ - 2) (drop 2 l₁)) ys r → RowIs s pins number scan l (set (putMid 2 (length l₁ - 2) l₁ ys) 1 (r .size)) (r .scan)
+unfolding row
+row-is s pins number scan l ys r e h =
+    let l₁ = set l 0 number in
+    let x = pattern s pins [] scan .0 in
+    record {
+      scan-is = h .scan-is;
+      laid = λ q.
+          let few : length (symbols x) ≤ 16 = omega (arith, length-symbols x, h .size-is q, h .small) in
+          ap₂ (λ (k : List ℕ) (v : ℕ). set k 1 v)
+          (ap (putMid 2 (length l₁ - 2) l₁) (h .laid q) ∙ mid-sets l₁ 2 (length l₁ - 2) (symbols x) (omega (arith, length-set l 0 number)) (omega (arith, length-set l 0 number)))
+          (h .size-is q)
+          ∙ set-sets l₁ 2 1 (size x) (symbols x) (omega arith);
+      few = λ q. omega (arith, length-symbols x, h .size-is q, h .small);
+      near = h .near;
+    }
+
+-- A refused scan stays as it is.
+pub pattern-live : (s : List ℕ) (pins : ℕ) (xs : List Shape) (c : Scan) → Live (pattern s pins xs c .1) → Live c
+unfolding pattern shape
+pattern-live s pins xs (At c) h = tt
+pattern-live s pins xs (Refused f p) h =
+    let x = shape s (patternRules pins) (Refused f p) in
+    let dead : x .1 ≡ Refused f p = node-dead s (patternRules pins) 17 [] (Refused f p) (λ q. q) in
+    let gone : complete (hasAll pins (symbols (x .0))) p (x .1) ≡ Refused f p =
+    ap (complete (hasAll pins (symbols (x .0))) p) dead ∙ complete-dead (hasAll pins (symbols (x .0))) p (Refused f p) (λ q. q) in
+    subst Live gone h
+
+-- ---- the table of rows
+
+pub rows-more : (l : List ℕ) (i : ℕ) (rs : List (List ℕ)) (r : List ℕ) → rowsFrom l i (rs ++ (r ∷ [])) ≡ sets (rowsFrom l i rs) (18 * (i + length rs)) r
+unfolding rowsFrom
+rows-more l i [] r = ap (λ (k : ℕ). sets l (18 * k) r) (sym (add-zero i))
+rows-more l i (x ∷ rs) r =
+    rows-more (sets l (18 * i) x) (suc i) rs r ∙ ap (λ (k : ℕ). sets (rowsFrom (sets l (18 * i) x) (suc i) rs) (18 * k) r) (suc-add i (length rs) ∙ sym (add-suc i (length rs)))
+
+pub rows-append : (l : List ℕ) (i : ℕ) (rs qs : List (List ℕ)) → rowsFrom l i (rs ++ qs) ≡ rowsFrom (rowsFrom l i rs) (i + length rs) qs
+unfolding rowsFrom
+rows-append l i [] qs = ap (λ (k : ℕ). rowsFrom l k qs) (sym (add-zero i))
+rows-append l i (x ∷ rs) qs =
+    rows-append (sets l (18 * i) x) (suc i) rs qs ∙ ap (λ (k : ℕ). rowsFrom (rowsFrom (sets l (18 * i) x) (suc i) rs) k qs) (suc-add i (length rs) ∙ sym (add-suc i (length rs)))
+
+pub length-rows : (l : List ℕ) (i : ℕ) (rs : List (List ℕ)) → length (rowsFrom l i rs) ≡ length l
+unfolding rowsFrom
+length-rows l i [] = refl
+length-rows l i (r ∷ rs) = length-rows (sets l (18 * i) r) (suc i) rs ∙ length-sets l (18 * i) r
+
+-- What a loop has read so far, and one pattern more.
+module _ (s : List ℕ) (pins number total : ℕ) (scan : Scan) (l : List ℕ) where
+  pub rows-turn : (k : ℕ) (l₁ ys : List ℕ) (at r : Scan) → (m : ℕ) → m ≡ 18 → 18 * (total + k) + 18 ≤ length l₁ → at ≡ times k (pattern s pins) scan .1 →
+      (Live at → l₁ ≡ rowsFrom l total (map (row number) (times k (pattern s pins) scan .0))) →
+      RowIs s pins number at (take m (drop (18 * (total + k)) l₁)) ys r →
+      (r ≡ times (k + 1) (pattern s pins) scan .1)
+      × (Live r → putMid (18 * (total + k)) m l₁ ys ≡ rowsFrom l total (map (row number) (times (k + 1) (pattern s pins) scan .0)))
+  unfolding pattern
+  rows-turn k l₁ ys at r m em h ea el w =
+      let x = times k (pattern s pins) scan in
+      let first = 18 * (total + k) in
+      let made : r ≡ pattern s pins (x .0) (x .1) .1 = w .scan-is ∙ ap (λ (c : Scan). pattern s pins [] c .1) ea in
+      let y = pattern s pins [] at .0 in (
+        made ∙ sym (times-scan k (pattern s pins) scan),
+        λ q.
+            let was : Live at = pattern-live s pins [] at (subst Live (w .scan-is) q) in
+            ap (putMid first m l₁) (w .laid q)
+            ∙ mid-sets l₁ first m (row number y) (omega arith) (omega (arith, w .few q))
+            ∙ ap₂ (λ (l′ : List ℕ) (z : Shape). sets l′ first (row number z)) (el was) (ap (λ (c : Scan). pattern s pins [] c .0) ea)
+            ∙ ap (λ (i : ℕ). sets (rowsFrom l total (map (row number) (x .0))) (18 * (total + i)) (row number (pattern s pins [] (x .1) .0))) (sym (length-map (x .0) (row number) ∙ length-times k (pattern s pins) scan))
+            ∙ sym (rows-more l total (map (row number) (x .0)) (row number (pattern s pins [] (x .1) .0)))
+            ∙ ap (rowsFrom l total) (sym (ap (map (row number)) (times-value k (pattern s pins) scan) ∙ map-append (row number) (x .0) _)),
+      )
+
+-- ---- a cell's patterns
+
+pub count-passes : (total x : ℕ) → countVerdict total x ≡ Sound → (total + x ≤ 128) × (x ≤ 7)
+unfolding countVerdict
+count-passes total x e = go (leb (total + x) 128) refl e
+  where
+    go : (a : Bool) → leb (total + x) 128 ≡ a → cond a (within 1 7 x) (Faulty Size) ≡ Sound → (total + x ≤ 128) × (x ≤ 7)
+    go true ea e = (leb-true (total + x) 128 ea, range-passes 1 7 x e)
+    go false ea e = let z : _≡_ {A = ℕ} 0 1 = cc in absurd (omega arith)
+
+-- A count fits after the patterns before it: it is 0 if it was refused.
+pub count-fits : (s : List ℕ) (total : ℕ) (scan : Scan) → total ≤ 128 → total + field s 3 (countVerdict total) scan .0 ≤ 128
+count-fits s total scan h = go (field s 3 (countVerdict total) scan .0) refl
+  where
+    go : (v : ℕ) → field s 3 (countVerdict total) scan .0 ≡ v → total + v ≤ 128
+    go zero e = omega arith
+    go (suc v) e =
+        let live = positive-live s 3 (countVerdict total) scan (omega arith) in
+        rw (← e) (count-passes total (field s 3 (countVerdict total) scan .0) (live-sound s 3 (countVerdict total) scan live .0) .0)

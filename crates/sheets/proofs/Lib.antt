@@ -1,0 +1,4 @@
+-- Laws about the sheets, for the proofs of this crate and of those above it.
+pub mod Laws
+pub mod Cells
+pub mod Whole

@@ -1,0 +1,146 @@
+-- Laws about the whole of each sheet.
+use mathlib.Core.Path.{_≡_, refl, sym, ap, ap₂, subst, subst₂, _∙_}
+use mathlib.Core.List.{List, [], map}
+use mathlib.Core.Bool.{Bool, true, false, cond}
+use Prim.Native.Nat.{ℕ, _+_, _*_, _≤_, _<_}
+use native.Mathlib.Nat.{zero-add}
+use native.Mathlib.Omega.{arith}
+use lib.ListN.{length, replicate}
+use Rattle.bits.specs.Bits.{endsAt}
+use Rattle.bits.specs.declared.Cursor.{Cursor}
+use Rattle.shapes.specs.declared.Branch.{Branch}
+use Rattle.shapes.specs.declared.Fault.{Fault}
+use Rattle.shapes.specs.declared.Fault.the-variants.{Tail}
+use Rattle.shapes.specs.declared.Got.{Got}
+use Rattle.shapes.specs.declared.Scan.{Scan}
+use Rattle.shapes.specs.declared.Scan.the-variants.{At, Refused}
+use Rattle.shapes.specs.Shape.{Shape, symbols, sizes}
+use Rattle.shapes.specs.Reading.{place, times, field, within, ended}
+use Rattle.shapes.specs.Drawing.{shape, node}
+use Rattle.shapes.specs.Promises.{Live, Reads, Laid, NodeRead}
+use Rattle.shapes.proofs.Laws.{value-at, scan-at, length-times}
+use Rattle.shapes.proofs.Drawn.{length-symbols}
+use Rattle.sheets.specs.declared.BinsRead.{BinsRead}
+use Rattle.sheets.specs.declared.CellsRead.{CellsRead}
+use Rattle.sheets.specs.Model.{Cell, patterns, patternsFrom}
+use Rattle.sheets.specs.LibrarySheet.{binLoad, bins, cells, library}
+use Rattle.sheets.specs.TreeSheet.{tree, treeRules}
+use Rattle.sheets.specs.Report.{start, refused, soundLibrary, soundTree, libraryNumber, treeNumber, libraryRead, treeRead, libraryReport, treeReport}
+use Rattle.sheets.specs.declared.LibraryRead.{LibraryRead}
+use Rattle.sheets.specs.declared.LibraryRecord.{LibraryRecord}
+use Rattle.sheets.specs.declared.TreeRead.{TreeRead}
+use Rattle.sheets.specs.declared.TreeRecord.{TreeRecord}
+use Rattle.sheets.specs.Layout.{padded, blankCell, cellLaid, rowsFrom, patternRows, libraryLaid, treeLaid}
+use Rattle.sheets.specs.Promises.{BinsAre, CellsAre, cellAfter, LibraryIs, TreeIs}
+
+-- A scan that was not refused at the end was not refused before.
+pub ended-live : (s : List ℕ) (c : Scan) → Live (ended s c) → Live c
+ended-live s (At c) h = tt
+ended-live s (Refused f p) h = h
+
+ended-place : (s : List ℕ) (c : Scan) → place (ended s c) ≡ place c
+ended-place s (At c) = go (endsAt s (c .at))
+  where
+    go : (b : Bool) → place (cond b (At c) (Refused Tail (c .at))) ≡ c .at
+    go true = refl
+    go false = refl
+ended-place s (Refused f p) = refl
+
+at-start : (c : Cursor) → c .at ≡ 0 → At c ≡ start
+at-start c e = λ i. At (record { at = e i })
+
+pub tree-is : (s : List ℕ) (c : Cursor) (load req : Got) (read : Branch) (l′ m′ : List ℕ) (res : Scan) → c .at ≡ 0 →
+    Reads load (field s 8 (within 0 255) (At c)) (c .at + 8) 255 → Reads req (field s 24 (within 0 16777215) (load .scan)) (place (load .scan) + 24) 16777215 →
+    NodeRead s treeRules (req .scan) 0 (replicate 64 0) (replicate 64 0) l′ m′ read → res ≡ ended s (read .scan) →
+    TreeIs s (record { scan = res; tree = record { load = load .value; required = req .value; count = read .next; symbols = l′; sizes = m′ } })
+unfolding tree shape treeLaid
+tree-is s c load req read l′ m′ res ec hl hr hn er =
+    let L = field s 8 (within 0 255) start in
+    let R = field s 24 (within 0 16777215) (L .1) in
+    let X = node s treeRules 65 [] (R .1) in
+    let at-load = scan-at s 8 (within 0 255) (At c) hl (at-start c ec) in
+    let at-shape = scan-at s 24 (within 0 16777215) (load .scan) hr at-load in
+    let laid : Laid 0 (replicate 64 0) (replicate 64 0) l′ m′ read (X .1) (symbols (X .0)) (sizes (X .0)) =
+    subst (λ (q : Scan). let x = node s treeRules 65 [] q in Laid 0 (replicate 64 0) (replicate 64 0) l′ m′ read (x .1) (symbols (x .0)) (sizes (x .0))) at-shape
+    (hn .laid 65 (omega arith)) in
+    record {
+      scan-is = er ∙ ap (ended s) (laid .scan);
+      laid = λ q.
+          let z : Live (read .scan) = ended-live s (read .scan) (subst Live er q) in
+          let counted = laid .next z ∙ zero-add (length (symbols (X .0))) ∙ length-symbols (X .0) in
+          λ i. record {
+            load = value-at s 8 (within 0 255) (At c) hl (at-start c ec) i;
+            required = value-at s 24 (within 0 16777215) (load .scan) hr at-load i;
+            count = counted i;
+            symbols = laid .symbols z i;
+            sizes = laid .sizes z i;
+          };
+      near = omega (arith, ap place er, ended-place s (read .scan), hn .went .near, hl .near, hr .near, ec);
+    }
+
+pub library-is : (s : List ℕ) (c : Cursor) (nb : Got) (lb : BinsRead) (nc : Got) (rc : CellsRead) (l′ : List ℕ) (res : Scan) → c .at ≡ 0 →
+    Reads nb (field s 3 (within 1 4) (At c)) (c .at + 3) 4 → BinsAre s (nb .value) (nb .scan) lb →
+    Reads nc (field s 7 (within 1 64) (lb .scan)) (place (lb .scan) + 7) 64 →
+    CellsAre s (nb .value) (nc .value) (nc .scan) (replicate 2304 0) l′ rc → res ≡ ended s (rc .scan) →
+    LibraryIs s (record {
+      scan = res;
+      library = record {
+        bins = nb .value;
+        loads = lb .loads;
+        count = nc .value;
+        total = rc .total;
+        cells = rc .cells;
+        rows = l′;
+      };
+    })
+unfolding library bins cells libraryLaid patterns
+library-is s c nb lb nc rc l′ res ec hnb hlb hnc hrc er =
+    let N = field s 3 (within 1 4) start in
+    let B = times (N .0) (binLoad s) (N .1) in
+    let C = field s 7 (within 1 64) (B .1) in
+    let X = times (C .0) (cellAfter s (length (B .0))) (C .1) in
+    let counted-bins = value-at s 3 (within 1 4) (At c) hnb (at-start c ec) in
+    let at-bins = scan-at s 3 (within 1 4) (At c) hnb (at-start c ec) in
+    let same-bins : times (nb .value) (binLoad s) (nb .scan) ≡ B = ap₂ (λ (n : ℕ) (q : Scan). times n (binLoad s) q) counted-bins at-bins in
+    let at-count : lb .scan ≡ B .1 = hlb .scan-is ∙ ap (λ (x : List ℕ × Scan). x .1) same-bins in
+    let counted = value-at s 7 (within 1 64) (lb .scan) hnc at-count in
+    let at-cells = scan-at s 7 (within 1 64) (lb .scan) hnc at-count in
+    let all-bins : nb .value ≡ length (B .0) = sym (length-times (nb .value) (binLoad s) (nb .scan)) ∙ ap (λ (x : List ℕ × Scan). length (x .0)) same-bins in
+    let same : times (nc .value) (cellAfter s (nb .value)) (nc .scan) ≡ X =
+    ap₂ (λ (n : ℕ) (q : Scan). times n (cellAfter s (nb .value)) q) counted at-cells ∙ ap (λ (b : ℕ). times (C .0) (cellAfter s b) (C .1)) all-bins in
+    let all-cells : nc .value ≡ length (X .0) = counted ∙ sym (length-times (C .0) (cellAfter s (length (B .0))) (C .1)) in
+    let loads = hlb .loads ∙ ap (λ (x : List ℕ × Scan). padded 4 0 (x .0)) same-bins in
+    let total = hrc .total-is ∙ ap (λ (x : List Cell × Scan). length (patternsFrom 0 (x .0))) same in
+    let records = hrc .cells-are ∙ ap (λ (x : List Cell × Scan). padded 64 blankCell (map cellLaid (x .0))) same in
+    record {
+      scan-is = er ∙ ap (ended s) (hrc .scan-is ∙ ap (λ (x : List Cell × Scan). x .1) same);
+      laid = λ q.
+          let z : Live (rc .scan) = ended-live s (rc .scan) (subst Live er q) in
+          let rows = hrc .laid z ∙ ap (λ (x : List Cell × Scan). rowsFrom (replicate 2304 0) 0 (patternRows (patternsFrom 0 (x .0)))) same in
+          λ i. record { bins = all-bins i; loads = loads i; count = all-cells i; total = total i; cells = records i; rows = rows i };
+      near = omega (arith, ap place er, ended-place s (rc .scan), hnb .near, hnb .small, hlb .near, hnc .near, hnc .small, hrc .near, ec);
+    }
+
+-- ---- what the judges say
+
+module _ (s : List ℕ) (r : LibraryRead) (h : LibraryIs s r) where
+  pub library-sound : (c : Cursor) → r .scan ≡ At c → soundLibrary (r .library .count) (r .library .total) ≡ libraryReport s
+  unfolding libraryReport libraryRead libraryLaid
+  library-sound c e =
+      let same = h .laid (subst Live (sym e) tt) in
+      ap (λ (k : LibraryRecord). soundLibrary (k .count) (k .total)) same ∙ ap (λ (q : Scan). libraryRead (library s start .0, q)) (sym e ∙ h .scan-is)
+
+  pub library-refused : (f : Fault) (p : ℕ) → r .scan ≡ Refused f p → refused (libraryNumber f) p ≡ libraryReport s
+  unfolding libraryReport libraryRead
+  library-refused f p e = ap (λ (q : Scan). libraryRead (library s start .0, q)) (sym e ∙ h .scan-is)
+
+module _ (s : List ℕ) (r : TreeRead) (h : TreeIs s r) where
+  pub tree-sound : (c : Cursor) → r .scan ≡ At c → soundTree (r .tree .count) ≡ treeReport s
+  unfolding treeReport treeRead treeLaid
+  tree-sound c e =
+      let same = h .laid (subst Live (sym e) tt) in
+      ap (λ (k : TreeRecord). soundTree (k .count)) same ∙ ap (λ (q : Scan). treeRead (tree s start .0, q)) (sym e ∙ h .scan-is)
+
+  pub tree-refused : (f : Fault) (p : ℕ) → r .scan ≡ Refused f p → refused (treeNumber f) p ≡ treeReport s
+  unfolding treeReport treeRead
+  tree-refused f p e = ap (λ (q : Scan). treeRead (tree s start .0, q)) (sym e ∙ h .scan-is)

@@ -1,0 +1,40 @@
+use borrow.Author.Needs.{needs}
+use native.Mathlib.Omega.{arith}
+use Rattle.sheets.specs.Report.{ofLibraryJudged}
+use Rattle.sheets.proofs.Whole.{library-sound, library-refused}
+use Rattle.sheets.proofs.judge_library.Statement.{statement}
+use Rattle.sheets.proofs.judge_library.Tie as tie
+use Rattle.sheets.proofs.judge_library.Reads as reads
+use Rattle.sheets.proofs.judge_library.Lts as lts
+use Rattle.sheets.proofs.read_library.Reads as read-library-reads
+
+-- src/lib.rt:488:9
+read-library-requires : tie.Need-read-library-requires
+read-library-requires c κs = search needs
+
+-- src/lib.rt:491:24
+enum-told : tie.Need-enum-told
+enum-told c = search needs
+
+-- src/lib.rt:492:23
+enum-known-scan : tie.Need-enum-known-scan
+enum-known-scan c = search needs
+
+-- src/lib.rt:485:1
+returns : tie.Need-returns
+unfolding ofLibraryJudged
+returns c =
+    let r = c .before .before .read-library in
+    library-sound (c .before .before .before .before .args .s .now) (r .result) (r .ensures) (c .enum-told .given .0 .0) (c .enum-told .given .1)
+
+-- src/lib.rt:485:1
+returns-2 : tie.Need-returns-2
+unfolding ofLibraryJudged
+returns-2 c =
+    let r = c .before .before .before .read-library in
+    let told = c .before .scan .given in
+    library-refused (c .before .before .before .before .before .args .s .now) (r .result) (r .ensures) (told .0 .0) (told .0 .1 .0) (told .1)
+
+pub judge-library-spec : {M : Type 1} → statement M
+judge-library-spec =
+    tie.close (tie.spec read-library-requires enum-told enum-known-scan returns returns-2)

@@ -1,0 +1,119 @@
+-- What the readers of this crate promise, each by the sheets' definitions. The bound on the place is what the next reader needs.
+use Prim.Native.Nat.{ℕ, _+_, _*_, _≤_, _<_}
+use mathlib.Core.Path.{_≡_}
+use mathlib.Core.List.{List, [], _∷_, _++_, map}
+use lib.ListN.{length, replicate}
+use lib.Seq.{sets}
+use Rattle.shapes.specs.declared.Scan.{Scan}
+use Rattle.shapes.specs.Reading.{Reader, place, times, field}
+use Rattle.shapes.specs.Shape.{symbols}
+use Rattle.shapes.specs.declared.Got.{Got}
+use Rattle.shapes.specs.Promises.{Live, Reads}
+use Rattle.sheets.specs.declared.BinsRead.{BinsRead}
+use Rattle.sheets.specs.declared.HeadRead.{HeadRead}
+use Rattle.sheets.specs.declared.PinRead.{PinRead}
+use Rattle.sheets.specs.declared.PinsRead.{PinsRead}
+use Rattle.sheets.specs.declared.PatternRead.{PatternRead}
+use Rattle.sheets.specs.declared.DrawingsRead.{DrawingsRead}
+use Rattle.sheets.specs.declared.CellRead.{CellRead}
+use Rattle.sheets.specs.declared.CellsRead.{CellsRead}
+use Rattle.sheets.specs.declared.LibraryRead.{LibraryRead}
+use Rattle.sheets.specs.declared.TreeRead.{TreeRead}
+use Rattle.sheets.specs.Model.{Pin, Shape, size, Cell, patternsFrom}
+use Rattle.sheets.specs.LibrarySheet.{binLoad, head, pin, pattern, countVerdict, drawings, cell, library}
+use Rattle.sheets.specs.TreeSheet.{tree}
+use Rattle.sheets.specs.Layout.{padded, blankCell, cellLaid, row, rowsFrom, patternRows, libraryLaid, treeLaid}
+use Rattle.sheets.specs.Report.{start}
+
+module _ (s : List ℕ) where
+  pub record BinsAre (count : ℕ) (scan : Scan) (r : BinsRead) : Type 0 where
+    pub loads : r .loads ≡ padded 4 0 (times count (binLoad s) scan .0)
+    pub scan-is : r .scan ≡ times count (binLoad s) scan .1
+    pub near : place (r .scan) ≤ place scan + 8 * count
+
+  pub record HeadIs (scan : Scan) (r : HeadRead) : Type 0 where
+    pub held : r .held ≡ head s scan .0 .held
+    pub area : r .area ≡ head s scan .0 .area
+    pub highest : r .highest ≡ head s scan .0 .highest
+    pub pins : r .pins ≡ head s scan .0 .pins
+    pub few : r .pins ≤ 6
+    pub scan-is : r .scan ≡ head s scan .1
+    pub near : place (r .scan) ≤ place scan + 28
+
+  pub record PinIs (bins : ℕ) (scan : Scan) (r : PinRead) : Type 0 where
+    pub load : r .load ≡ pin s bins [] scan .0 .bin
+    pub intrinsic : r .intrinsic ≡ pin s bins [] scan .0 .intrinsic
+    pub drive : r .drive ≡ pin s bins [] scan .0 .drive
+    pub scan-is : r .scan ≡ pin s bins [] scan .1
+    pub near : place (r .scan) ≤ place scan + 26
+
+  pub record PinsAre (bins count : ℕ) (scan : Scan) (r : PinsRead) : Type 0 where
+    pub loads : r .loads ≡ padded 6 0 (map (λ (p : Pin). p .bin) (times count (pin s bins) scan .0))
+    pub intrinsics : r .intrinsics ≡ padded 6 0 (map (λ (p : Pin). p .intrinsic) (times count (pin s bins) scan .0))
+    pub drives : r .drives ≡ padded 6 0 (map (λ (p : Pin). p .drive) (times count (pin s bins) scan .0))
+    pub scan-is : r .scan ≡ times count (pin s bins) scan .1
+    pub near : place (r .scan) ≤ place scan + 26 * count
+
+  -- A pattern, its symbols laid out in l, which became l′.
+  pub record PatternIs (pins : ℕ) (scan : Scan) (l l′ : List ℕ) (r : PatternRead) : Type 0 where
+    pub scan-is : r .scan ≡ pattern s pins [] scan .1
+    pub size-is : Live (r .scan) → r .size ≡ size (pattern s pins [] scan .0)
+    pub small : r .size ≤ 16
+    pub laid : Live (r .scan) → l′ ≡ sets l 0 (symbols (pattern s pins [] scan .0))
+    pub near : place (r .scan) ≤ place scan + 416
+
+  -- A pattern's row.
+  pub record RowIs (pins number : ℕ) (scan : Scan) (l l′ : List ℕ) (r : Scan) : Type 0 where
+    pub scan-is : r ≡ pattern s pins [] scan .1
+    pub laid : Live r → l′ ≡ sets l 0 (row number (pattern s pins [] scan .0))
+    pub few : Live r → length (row number (pattern s pins [] scan .0)) ≤ 18
+    pub near : place r ≤ place scan + 416
+
+  -- So many patterns of a cell, their rows laid out in l from row `total` on.
+  pub record RowsAre (pins number total count : ℕ) (scan : Scan) (l l′ : List ℕ) (r : Scan) : Type 0 where
+    pub scan-is : r ≡ times count (pattern s pins) scan .1
+    pub laid : Live r → l′ ≡ rowsFrom l total (map (row number) (times count (pattern s pins) scan .0))
+    pub near : place r ≤ place scan + 416 * count
+
+  -- A pattern count.
+  pub record CountIs (total : ℕ) (scan : Scan) (r : Got) : Type 0 where
+    pub reads : Reads r (field s 3 (countVerdict total) scan) (place scan + 3) 7
+    pub fits : total + r .value ≤ 128
+
+  pub record DrawingsAre (pins number total : ℕ) (scan : Scan) (l l′ : List ℕ) (r : DrawingsRead) : Type 0 where
+    pub scan-is : r .scan ≡ drawings s pins total scan .1
+    pub count-is : r .count ≡ length (drawings s pins total scan .0)
+    pub laid : Live (r .scan) → l′ ≡ rowsFrom l total (map (row number) (drawings s pins total scan .0))
+    pub fits : total + r .count ≤ 128
+    pub near : place (r .scan) ≤ place scan + 2915
+
+  pub record CellIs (bins number total : ℕ) (scan : Scan) (l l′ : List ℕ) (r : CellRead) : Type 0 where
+    pub cell-is : r .cell ≡ cellLaid (cell s bins total scan .0)
+    pub scan-is : r .scan ≡ cell s bins total scan .1
+    pub count-is : r .count ≡ length (cell s bins total scan .0 .drawings)
+    pub laid : Live (r .scan) → l′ ≡ rowsFrom l total (map (row number) (cell s bins total scan .0 .drawings))
+    pub fits : total + r .count ≤ 128
+    pub near : place (r .scan) ≤ place scan + 3099
+
+  -- The cells of a library with so many bins, each read after the patterns of those before it.
+  abbrev pub cellAfter : ℕ → List Cell → Reader Cell
+  cellAfter bins before = cell s bins (length (patternsFrom 0 before))
+
+  -- So many cells.
+  pub record CellsAre (bins count : ℕ) (scan : Scan) (l l′ : List ℕ) (r : CellsRead) : Type 0 where
+    pub cells-are : r .cells ≡ padded 64 blankCell (map cellLaid (times count (cellAfter bins) scan .0))
+    pub scan-is : r .scan ≡ times count (cellAfter bins) scan .1
+    pub total-is : r .total ≡ length (patternsFrom 0 (times count (cellAfter bins) scan .0))
+    pub laid : Live (r .scan) → l′ ≡ rowsFrom l 0 (patternRows (patternsFrom 0 (times count (cellAfter bins) scan .0)))
+    pub near : place (r .scan) ≤ place scan + 3099 * count
+
+  -- The whole library and the whole tree: the sheet's scan and, if it was not refused, the record that lays out its value.
+  pub record LibraryIs (r : LibraryRead) : Type 0 where
+    pub scan-is : r .scan ≡ library s start .1
+    pub laid : Live (r .scan) → r .library ≡ libraryLaid (library s start .0)
+    pub near : place (r .scan) < 1048576
+
+  pub record TreeIs (r : TreeRead) : Type 0 where
+    pub scan-is : r .scan ≡ tree s start .1
+    pub laid : Live (r .scan) → r .tree ≡ treeLaid (tree s start .0)
+    pub near : place (r .scan) < 1048576

@@ -1,0 +1,20 @@
+-- The tree sheet, as document 01 lists it.
+use Prim.Native.Nat.{ℕ}
+use mathlib.Core.List.{List}
+use mathlib.Core.Bool.{false}
+use Rattle.shapes.specs.declared.Rules.{Rules}
+use Rattle.shapes.specs.Reading.{Reader, _>>=_, within, field, ended}
+use Rattle.shapes.specs.Drawing.{shape}
+use Rattle.sheets.specs.Model.{Tree}
+
+-- A tree: at most 64 nodes, its leaves' arrivals in 20 bits, at most 1,000,000.
+abbrev pub treeRules : Rules
+treeRules = record { width = 20; most = 1000000; nodes = 64; pattern = false }
+
+-- "Root load, 8. Required time, 24. Then the tree."
+unfoldable pub tree : List ℕ → Reader Tree
+tree s = do
+  load ← field s 8 (within 0 255)
+  required ← field s 24 (within 0 16777215)
+  x ← shape s treeRules
+  λ c. (record { load = load; required = required; shape = x }, ended s c)

@@ -1,0 +1,47 @@
+//! A file of cases and the file of their results.
+
+use std::collections::BTreeMap;
+use std::io;
+use std::path::Path;
+
+#[derive(Default)]
+pub struct Stored {
+    records: Vec<u8>,
+    lines: Vec<String>,
+}
+
+impl Stored {
+    /// Appends a record: the kind, each number in two bytes, high byte first, and the sheets.
+    pub fn add(&mut self, kind: u8, numbers: &[usize], sheets: &[&[u8]], line: String) {
+        self.records.push(kind);
+        for &number in numbers {
+            let short = u16::try_from(number).expect("a number of two bytes");
+            self.records.extend(short.to_be_bytes());
+        }
+        self.records.extend(sheets.concat());
+        self.lines.push(line);
+    }
+
+    /// Writes both files and prints what is in them.
+    pub fn write(&self, directory: &Path, name: &str) -> io::Result<()> {
+        std::fs::write(directory.join(format!("{name}.bin")), &self.records)?;
+        let lines: String = self.lines.iter().map(|line| format!("{line}\n")).collect();
+        std::fs::write(directory.join(format!("{name}.expected")), lines)?;
+        println!("{name}: {} cases, {} bytes", self.lines.len(), self.records.len());
+        self.print_histogram();
+        Ok(())
+    }
+
+    /// How many lines open with each word, refusals by their number.
+    fn print_histogram(&self) {
+        let mut counts = BTreeMap::new();
+        for line in &self.lines {
+            let words: Vec<&str> = line.split(' ').collect();
+            let key = if words[0] == "refused" { format!("refused {:>2}", words[1]) } else { words[0].to_string() };
+            *counts.entry(key).or_insert(0) += 1;
+        }
+        for (key, count) in counts {
+            println!("  {key}: {count}");
+        }
+    }
+}

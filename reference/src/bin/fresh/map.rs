@@ -1,0 +1,132 @@
+//! Fresh problems for map and list: the answer, the output and the work area.
+
+use crate::tally::{key, words, Tally};
+use reference::generate::chosen;
+use reference::generate::damage::{any_sheet, Kind};
+use reference::generate::problem::{any_style, problem, varied, Problem};
+use reference::hex::hex;
+use reference::operation::{Lent, Operation, LEAST_WORK};
+use reference::product;
+use reference::refusal::{CROWDED, NO_COVER};
+use reference::rng::Rng;
+
+struct Question {
+    operation: Operation,
+    lent: Lent,
+    library: Vec<u8>,
+    tree: Vec<u8>,
+}
+
+/// What a call gives back: the coded answer and what it was lent.
+#[derive(PartialEq)]
+struct Answer {
+    coded: u64,
+    output: Vec<u8>,
+    work: Vec<u64>,
+}
+
+pub fn run(count: u64, seed: u64) -> Tally {
+    let mut rng = Rng::new(seed);
+    let mut tally = Tally::default();
+    let chosen: Vec<Problem> = chosen::all().into_iter().map(|chosen| chosen.problem).collect();
+    for _ in 0..count {
+        let question = ask(&mut rng, &chosen);
+        let before = junk(&mut rng, question.lent);
+        compare(&mut tally, &question, before);
+    }
+    tally
+}
+
+/// Mostly sound sheets; sometimes a damaged one, or too little lent.
+fn ask(rng: &mut Rng, chosen: &[Problem]) -> Question {
+    let operation = rng.pick(&[Operation::Map, Operation::Map, Operation::List]);
+    let problem = if rng.once_in(12) {
+        let number = rng.below(chosen.len());
+        varied(rng, &chosen[number])
+    } else {
+        let style = any_style(rng);
+        problem(rng, style)
+    };
+    let mut question = Question {
+        operation,
+        lent: lent(rng, operation),
+        library: problem.library_sheet(),
+        tree: problem.tree_sheet(),
+    };
+    if rng.once_in(12) {
+        question.library = any_sheet(rng, Kind::Library);
+    }
+    if rng.once_in(12) {
+        question.tree = any_sheet(rng, Kind::Tree);
+    }
+    question
+}
+
+fn lent(rng: &mut Rng, operation: Operation) -> Lent {
+    let mut lent = Lent { output: operation.least_output() + rng.below(40), work: LEAST_WORK + rng.below(40) };
+    match rng.below(60) {
+        0 => lent.output = rng.below(operation.least_output()),
+        1 => lent.output = operation.least_output() - 1,
+        2 => lent.work = rng.below(LEAST_WORK),
+        3 => lent.work = LEAST_WORK - 1,
+        _ => {}
+    }
+    lent
+}
+
+/// Output and work area as they are before the call.
+fn junk(rng: &mut Rng, lent: Lent) -> Answer {
+    let output = (0..lent.output).map(|_| rng.next() as u8).collect();
+    let work = (0..lent.work).map(|_| rng.next()).collect();
+    Answer { coded: 0, output, work }
+}
+
+fn compare(tally: &mut Tally, question: &Question, before: Answer) {
+    let mut actual = Answer { coded: 0, output: before.output.clone(), work: before.work.clone() };
+    actual.coded = by_product(question, &mut actual.output, &mut actual.work);
+    let expected = by_reference(question, before);
+    if actual == expected {
+        let name = format!("{:?}", question.operation).to_lowercase();
+        tally.agree(key(&name, expected.coded));
+    } else {
+        tally.disagree(|| story(question, &expected, &actual));
+    }
+}
+
+fn by_product(question: &Question, output: &mut [u8], work: &mut [u64]) -> u64 {
+    product::run(question.operation, &question.library, &question.tree, output, work)
+}
+
+/// The stated effect of a call on what it was lent.
+fn by_reference(question: &Question, mut lent: Answer) -> Answer {
+    let result = question.operation.run(question.lent, &question.library, &question.tree);
+    let clears = match &result {
+        Ok(_) => true,
+        Err(refusal) => [CROWDED, NO_COVER].contains(&refusal.number),
+    };
+    if clears {
+        lent.work[..LEAST_WORK].fill(0);
+    }
+    lent.coded = match result {
+        Err(refusal) => refusal.coded(),
+        Ok(sheet) => {
+            lent.output[..sheet.len()].copy_from_slice(&sheet);
+            sheet.len() as u64
+        }
+    };
+    lent
+}
+
+fn story(question: &Question, expected: &Answer, actual: &Answer) -> String {
+    let Question { operation, lent, library, tree } = question;
+    let mut lines = vec![
+        format!("{operation:?} lent {} bytes and {} words", lent.output, lent.work),
+        format!("library: {}", hex(library)),
+        format!("tree: {}", hex(tree)),
+        format!("reference: {}, output {}", words(expected.coded), hex(&expected.output)),
+        format!("product: {}, output {}", words(actual.coded), hex(&actual.output)),
+    ];
+    let word = (0..lent.work).find(|&word| expected.work[word] != actual.work[word]);
+    lines.extend(word.map(|word| format!("work areas differ first in word {word}")));
+    lines.iter().map(|line| format!("  {line}")).collect::<Vec<_>>().join("\n")
+}

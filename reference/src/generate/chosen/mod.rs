@@ -1,0 +1,78 @@
+//! Problems made by hand, each with what its list of trade-offs must be.
+
+mod crowding;
+mod loads;
+mod points;
+mod unions;
+
+use super::parts::{cell, pin, tree};
+use super::problem::Problem;
+use crate::library::{Cell, Library};
+use crate::refusal::CROWDED;
+use crate::shape::Step;
+
+/// What the list operation says.
+#[derive(Clone, Copy, PartialEq, Eq, Debug)]
+pub enum Outcome {
+    /// So many trade-offs.
+    Points(usize),
+    /// One trade-off, of this arrival and area.
+    Single(u32, u32),
+    Refused(u32, u32),
+}
+
+pub struct Chosen {
+    pub name: String,
+    pub problem: Problem,
+    pub outcome: Outcome,
+}
+
+pub fn all() -> Vec<Chosen> {
+    let mut table = Table { rows: Vec::new() };
+    crowding::add(&mut table);
+    unions::add(&mut table);
+    loads::add(&mut table);
+    points::add(&mut table);
+    table.rows
+}
+
+struct Table {
+    rows: Vec<Chosen>,
+}
+
+impl Table {
+    fn add(&mut self, name: &str, library: &Library, root_load: u32, steps: &[Step], outcome: Outcome) {
+        let problem = Problem { library: library.clone(), tree: tree(root_load, 0, steps) };
+        self.rows.push(Chosen { name: name.to_string(), problem, outcome });
+    }
+}
+
+/// More than 31 points are crowded at `node`; else there are so many.
+fn points_at(node: u32, points: usize) -> Outcome {
+    if points > 31 {
+        Outcome::Refused(CROWDED, node)
+    } else {
+        Outcome::Points(points)
+    }
+}
+
+/// Cells of one drawing, each larger and faster than the one before; no two are equal.
+fn grades(count: usize, steps: &[Step]) -> Vec<Cell> {
+    let count = count as u32;
+    (0..count).map(|grade| cell(grade + 1, 255, pin(0, 10 * (count - grade), 0), steps)).collect()
+}
+
+/// One cell, of area 1 and delay 1.
+fn plain(steps: &[Step]) -> Cell {
+    cell(1, 255, pin(0, 1, 0), steps)
+}
+
+fn library(bins: &[u32], cells: Vec<Cell>) -> Library {
+    Library { bins: bins.to_vec(), cells }
+}
+
+/// Cells before or after others.
+fn with(mut cells: Vec<Cell>, more: Vec<Cell>) -> Vec<Cell> {
+    cells.extend(more);
+    cells
+}

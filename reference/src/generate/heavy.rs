@@ -1,0 +1,97 @@
+//! Problems for the benchmark: a typical one, and two that take long.
+
+use super::parts::{cell, chain, comb, pin, tree, AND, AOI21, AOI22, INVERTER, NAND, NOR, OR};
+use super::problem::Problem;
+use super::sound;
+use crate::library::{Cell, Library};
+use crate::rng::Rng;
+use crate::shape::{Shape, Step};
+use crate::tree::{Tree, LATEST_REQUIRED};
+use Step::{Inv, Leaf, Nand};
+
+/// Name and problem of every row of the benchmark.
+pub fn all() -> Vec<(&'static str, Problem)> {
+    vec![("typical", typical()), ("chain", worst_chain()), ("comb", worst_comb())]
+}
+
+const AOI21_TURNED: &[Step] = &[Inv, Nand, Inv, Leaf(2), Nand, Leaf(0), Leaf(1)];
+const OAI21: &[Step] = &[Nand, Nand, Leaf(0), Leaf(1), Inv, Leaf(2)];
+const OAI21_TURNED: &[Step] = &[Nand, Inv, Leaf(2), Nand, Leaf(0), Leaf(1)];
+const NAND3: &[Step] = &[Nand, Inv, Nand, Leaf(0), Leaf(1), Leaf(2)];
+const NAND3_TURNED: &[Step] = &[Nand, Leaf(2), Inv, Nand, Leaf(0), Leaf(1)];
+
+/// Usual gates in up to three strengths, and a tree of 48 nodes.
+pub fn typical() -> Problem {
+    let mut cells = Vec::new();
+    for (strength, bin) in [(1, 0), (2, 1), (4, 2)] {
+        cells.push(gate(2, 4, strength, bin, &[INVERTER]));
+        cells.push(gate(3, 6, strength, bin, &[NAND]));
+    }
+    for (strength, bin) in [(1, 0), (2, 1)] {
+        cells.push(gate(4, 9, strength, bin, &[AND]));
+        cells.push(gate(4, 10, strength, bin, &[OR]));
+        cells.push(gate(3, 8, strength, bin, &[NOR]));
+    }
+    cells.push(gate(4, 9, 1, 0, &[NAND3, NAND3_TURNED]));
+    cells.push(gate(5, 10, 1, 0, &[AOI21, AOI21_TURNED]));
+    cells.push(gate(5, 9, 1, 0, &[OAI21, OAI21_TURNED]));
+    cells.push(gate(6, 11, 1, 0, &[AOI22]));
+    Problem { library: Library { bins: vec![1, 2, 4], cells }, tree: typical_tree() }
+}
+
+fn gate(area: u32, intrinsic: u32, strength: u32, bin: u32, drawings: &[&[Step]]) -> Cell {
+    let first = cell(2 * area + strength - 1, 8 * strength, pin(bin, intrinsic, 8 / strength), drawings[0]);
+    Cell { patterns: drawings.iter().map(|steps| Shape::from_steps(steps)).collect(), ..first }
+}
+
+fn typical_tree() -> Tree {
+    let mut rng = Rng::new(30);
+    let leaves: Vec<u32> = (0..16).map(|_| rng.value(0, 12)).collect();
+    Tree { root_load: 4, required: LATEST_REQUIRED, shape: sound::shape(&mut rng, &leaves, 17) }
+}
+
+/// 63 inverters under 128 patterns of inverters, of up to 15: nearly all match everywhere.
+/// Short patterns do not pay, so that a curve grows slowly and ends at 31 points.
+pub fn worst_chain() -> Problem {
+    let inverters = |length| chain(length, &[Leaf(0)]);
+    let cell = |number: u32| {
+        let grade = number % 7;
+        let mut cell = cell(100 + grade, 255, pin(number % 4, 106 - grade, 0), &inverters(15));
+        cell.patterns.push(Shape::from_steps(&inverters(number as usize * 7 % 15 + 1)));
+        cell
+    };
+    let library = Library { bins: vec![1, 2, 3, 4], cells: (0..64).map(cell).collect() };
+    Problem { library, tree: tree(1, LATEST_REQUIRED, &inverters(63)) }
+}
+
+/// A comb of 31 NANDs under 126 combs of 2 to 5. The leaves arrive so late towards the
+/// root that every curve stays just below the limit; the times were found by search.
+pub fn worst_comb() -> Problem {
+    let mut rng = Rng::new(1);
+    let mut cells: Vec<Cell> = (0..63).map(|number| comb_cell(&mut rng, number)).collect();
+    cells.push(cell(1, 255, pin(0, 1, 0), INVERTER));
+    let steps = chain(1, &comb(&COMB_ARRIVALS));
+    Problem { library: Library { bins: vec![1, 2, 3, 4], cells }, tree: tree(1, LATEST_REQUIRED, &steps) }
+}
+
+const COMB_ARRIVALS: [u32; 32] = [
+    1310, 1120, 1120, 1120, 1120, 1080, 890, 890, 890, 890, 850, 660, 660, 660, 660, 620, 430, 430, 430, 430, 390, 0,
+    0, 0, 0, 0, 0, 0, 0, 0, 0, 0,
+];
+
+fn comb_cell(rng: &mut Rng, number: u32) -> Cell {
+    let nands = 2 + number % 4;
+    let grade = number / 4;
+    let mut pins: Vec<u32> = (0..=nands).collect();
+    let mut pattern = || {
+        rng.shuffle(&mut pins);
+        Shape::from_steps(&comb(&pins))
+    };
+    Cell {
+        held: false,
+        area: 10 * nands + grade,
+        highest_load: 255,
+        patterns: vec![pattern(), pattern()],
+        pins: (0..=nands).map(|place| pin((number + place) % 4, 40 * nands + 2 * (15 - grade), 0)).collect(),
+    }
+}
