@@ -25,7 +25,7 @@ use Rattle.sheets.specs.declared.CellsRead.{CellsRead}
 use Rattle.sheets.specs.Model.{Cell, patterns, patternsFrom}
 use Rattle.sheets.specs.LibrarySheet.{binLoad, bins, cells, library}
 use Rattle.sheets.specs.TreeSheet.{tree, treeRules}
-use Rattle.sheets.specs.Report.{start, refused, soundLibrary, soundTree, libraryNumber, treeNumber, libraryRead, treeRead, libraryReport, treeReport}
+use Rattle.sheets.specs.Report.{Limited, start, refused, soundLibrary, soundTree, libraryNumber, treeNumber, libraryRead, treeRead, libraryReport, treeReport}
 use Rattle.sheets.specs.declared.LibraryRead.{LibraryRead}
 use Rattle.sheets.specs.declared.LibraryRecord.{LibraryRecord}
 use Rattle.sheets.specs.declared.TreeRead.{TreeRead}
@@ -75,6 +75,7 @@ tree-is s c load req read l′ m′ res ec hl hr hn er =
             symbols = laid .symbols z i;
             sizes = laid .sizes z i;
           };
+      nodes-few = hn .went .upto;
       near = omega (arith, ap place er, ended-place s (read .scan), hn .went .near, hl .near, hr .near, ec);
     }
 
@@ -118,6 +119,9 @@ library-is s c nb lb nc rc l′ res ec hnb hlb hnc hrc er =
           let z : Live (rc .scan) = ended-live s (rc .scan) (subst Live er q) in
           let rows = hrc .laid z ∙ ap (λ (x : List Cell × Scan). rowsFrom (replicate 2304 0) 0 (patternRows (patternsFrom 0 (x .0)))) same in
           λ i. record { bins = all-bins i; loads = loads i; count = all-cells i; total = total i; cells = records i; rows = rows i };
+      bins-few = hnb .small;
+      cells-few = hnc .small;
+      patterns-few = hrc .fits;
       near = omega (arith, ap place er, ended-place s (rc .scan), hnb .near, hnb .small, hlb .near, hnc .near, hnc .small, hrc .near, ec);
     }
 
@@ -134,6 +138,10 @@ module _ (s : List ℕ) (r : LibraryRead) (h : LibraryIs s r) where
   unfolding libraryReport libraryRead
   library-refused f p e = ap (λ (q : Scan). libraryRead (library s start .0, q)) (sym e ∙ h .scan-is)
 
+  pub library-refused-limited : (f : Fault) (p : ℕ) → r .scan ≡ Refused f p → Limited (refused (libraryNumber f) p)
+  unfolding Limited
+  library-refused-limited f p e = omega (arith, h .near, ap place e)
+
 module _ (s : List ℕ) (r : TreeRead) (h : TreeIs s r) where
   pub tree-sound : (c : Cursor) → r .scan ≡ At c → soundTree (r .tree .count) ≡ treeReport s
   unfolding treeReport treeRead treeLaid
@@ -144,3 +152,7 @@ module _ (s : List ℕ) (r : TreeRead) (h : TreeIs s r) where
   pub tree-refused : (f : Fault) (p : ℕ) → r .scan ≡ Refused f p → refused (treeNumber f) p ≡ treeReport s
   unfolding treeReport treeRead
   tree-refused f p e = ap (λ (q : Scan). treeRead (tree s start .0, q)) (sym e ∙ h .scan-is)
+
+  pub tree-refused-limited : (f : Fault) (p : ℕ) → r .scan ≡ Refused f p → Limited (refused (treeNumber f) p)
+  unfolding Limited
+  tree-refused-limited f p e = omega (arith, h .near, ap place e)

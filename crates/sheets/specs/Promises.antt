@@ -105,15 +105,21 @@ module _ (s : List ℕ) where
     pub scan-is : r .scan ≡ times count (cellAfter bins) scan .1
     pub total-is : r .total ≡ length (patternsFrom 0 (times count (cellAfter bins) scan .0))
     pub laid : Live (r .scan) → l′ ≡ rowsFrom l 0 (patternRows (patternsFrom 0 (times count (cellAfter bins) scan .0)))
+    pub fits : r .total ≤ 128
     pub near : place (r .scan) ≤ place scan + 3099 * count
 
-  -- The whole library and the whole tree: the sheet's scan and, if it was not refused, the record that lays out its value.
+  -- The whole library and the whole tree: the sheet's scan and, if it was not refused, the record that lays out its value. The counts
+  -- keep their limits either way.
   pub record LibraryIs (r : LibraryRead) : Type 0 where
     pub scan-is : r .scan ≡ library s start .1
     pub laid : Live (r .scan) → r .library ≡ libraryLaid (library s start .0)
+    pub bins-few : r .library .bins ≤ 4
+    pub cells-few : r .library .count ≤ 64
+    pub patterns-few : r .library .total ≤ 128
     pub near : place (r .scan) < 1048576
 
   pub record TreeIs (r : TreeRead) : Type 0 where
     pub scan-is : r .scan ≡ tree s start .1
     pub laid : Live (r .scan) → r .tree ≡ treeLaid (tree s start .0)
+    pub nodes-few : r .tree .count ≤ 64
     pub near : place (r .scan) < 1048576

@@ -1,5 +1,5 @@
 -- What the two judges answer: document 01's number and place of a refusal, or the counts.
-use Prim.Native.Nat.{ℕ, _+_, _*_, _^_}
+use Prim.Native.Nat.{ℕ, _+_, _*_, _^_, _≤_, _<_}
 use mathlib.Core.List.{List}
 use lib.ListN.{length}
 use Rattle.bits.specs.Bits.{cursorAt}
@@ -62,3 +62,9 @@ unfoldable pub word : Report → ℕ
 word (refused number place) = number * 2 ^ 32 + place
 word (soundLibrary cells patterns) = cells * 256 + patterns
 word (soundTree nodes) = nodes
+
+-- The limits that a report keeps: no place is at 2 ^ 20 or beyond, and the counts are those of document 01.
+unfoldable pub Limited : Report → Type 0
+Limited (refused number place) = place < 2 ^ 20
+Limited (soundLibrary cells patterns) = (cells ≤ 64) × (patterns ≤ 128)
+Limited (soundTree nodes) = nodes ≤ 64

@@ -11,7 +11,7 @@ ghost use Rattle.shapes.specs.Reading.{place};
 ghost use Rattle.sheets.specs.LibrarySheet.{hasAll, complete, countVerdict};
 ghost use Rattle.sheets.specs.Layout.{blankCell};
 ghost use Rattle.sheets.specs.Promises.{BinsAre, HeadIs, PinIs, PinsAre, PatternIs, RowIs, RowsAre, DrawingsAre, CountIs, CellIs, CellsAre, LibraryIs, TreeIs};
-ghost use Rattle.sheets.specs.Report.{ofLibraryJudged, libraryReport, ofTreeJudged, treeReport};
+ghost use Rattle.sheets.specs.Report.{ofLibraryJudged, libraryReport, libraryNumber, ofTreeJudged, treeReport, treeNumber, Limited};
 
 // Document 01's limits.
 pub struct Limits {
@@ -511,6 +511,7 @@ pub fn read_tree(s: &[u8]) -> TreeRead
 // Judges a library: its cell count and its pattern count, or what is wrong with it and where.
 pub fn judge_library(s: &[u8]) -> LibraryJudged
     ensures { λ r. ⌜ ofLibraryJudged r ≡ libraryReport (now (s .entry)) ⌝ }
+    ensures { λ r. ⌜ Limited (ofLibraryJudged r) ⌝ }
 {
     let read = read_library(s);
     let scan = read.scan;
@@ -523,6 +524,7 @@ pub fn judge_library(s: &[u8]) -> LibraryJudged
 // Judges a tree: its node count, or what is wrong with it and where.
 pub fn judge_tree(s: &[u8]) -> TreeJudged
     ensures { λ r. ⌜ ofTreeJudged r ≡ treeReport (now (s .entry)) ⌝ }
+    ensures { λ r. ⌜ Limited (ofTreeJudged r) ⌝ }
 {
     let read = read_tree(s);
     let scan = read.scan;
@@ -530,4 +532,24 @@ pub fn judge_tree(s: &[u8]) -> TreeJudged
         Scan::At(_) => TreeJudged::Sound(read.tree.count),
         Scan::Refused(fault, place) => TreeJudged::Refused(fault, place),
     }
+}
+
+// Document 01's number of a fault in a library.
+pub fn library_number(fault: Fault) -> u32
+    ensures { λ r. ⌜ (r ≡ libraryNumber fault) × (r ≤ 6) ⌝ }
+{
+    match fault {
+        Fault::Truncated => 2,
+        Fault::Tail => 3,
+        Fault::Range => 4,
+        Fault::Drawing => 5,
+        Fault::Size => 6,
+    }
+}
+
+// Document 01's number of a fault in a tree.
+pub fn tree_number(fault: Fault) -> u32
+    ensures { λ r. ⌜ (r ≡ treeNumber fault) × (r ≤ 16) ⌝ }
+{
+    library_number(fault) + 10
 }

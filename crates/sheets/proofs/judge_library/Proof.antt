@@ -1,7 +1,7 @@
 use borrow.Author.Needs.{needs}
 use native.Mathlib.Omega.{arith}
-use Rattle.sheets.specs.Report.{ofLibraryJudged}
-use Rattle.sheets.proofs.Whole.{library-sound, library-refused}
+use Rattle.sheets.specs.Report.{ofLibraryJudged, Limited}
+use Rattle.sheets.proofs.Whole.{library-sound, library-refused, library-refused-limited}
 use Rattle.sheets.proofs.judge_library.Statement.{statement}
 use Rattle.sheets.proofs.judge_library.Tie as tie
 use Rattle.sheets.proofs.judge_library.Reads as reads
@@ -22,10 +22,10 @@ enum-known-scan c = search needs
 
 -- src/lib.rt:485:1
 returns : tie.Need-returns
-unfolding ofLibraryJudged
+unfolding ofLibraryJudged Limited
 returns c =
     let r = c .before .before .read-library in
-    library-sound (c .before .before .before .before .args .s .now) (r .result) (r .ensures) (c .enum-told .given .0 .0) (c .enum-told .given .1)
+    (library-sound (c .before .before .before .before .args .s .now) (r .result) (r .ensures) (c .enum-told .given .0 .0) (c .enum-told .given .1), (r .ensures .cells-few, r .ensures .patterns-few))
 
 -- src/lib.rt:485:1
 returns-2 : tie.Need-returns-2
@@ -33,7 +33,7 @@ unfolding ofLibraryJudged
 returns-2 c =
     let r = c .before .before .before .read-library in
     let told = c .before .scan .given in
-    library-refused (c .before .before .before .before .before .args .s .now) (r .result) (r .ensures) (told .0 .0) (told .0 .1 .0) (told .1)
+    (library-refused (c .before .before .before .before .before .args .s .now) (r .result) (r .ensures) (told .0 .0) (told .0 .1 .0) (told .1), library-refused-limited (c .before .before .before .before .before .args .s .now) (r .result) (r .ensures) (told .0 .0) (told .0 .1 .0) (told .1))
 
 pub judge-library-spec : {M : Type 1} → statement M
 judge-library-spec =

@@ -1,7 +1,7 @@
 use borrow.Author.Needs.{needs}
 use native.Mathlib.Omega.{arith}
-use Rattle.sheets.specs.Report.{ofTreeJudged}
-use Rattle.sheets.proofs.Whole.{tree-sound, tree-refused}
+use Rattle.sheets.specs.Report.{ofTreeJudged, Limited}
+use Rattle.sheets.proofs.Whole.{tree-sound, tree-refused, tree-refused-limited}
 use Rattle.sheets.proofs.judge_tree.Statement.{statement}
 use Rattle.sheets.proofs.judge_tree.Tie as tie
 use Rattle.sheets.proofs.judge_tree.Reads as reads
@@ -22,10 +22,10 @@ enum-known-scan c = search needs
 
 -- src/lib.rt:497:1
 returns : tie.Need-returns
-unfolding ofTreeJudged
+unfolding ofTreeJudged Limited
 returns c =
     let r = c .before .before .read-tree in
-    tree-sound (c .before .before .before .before .args .s .now) (r .result) (r .ensures) (c .enum-told .given .0 .0) (c .enum-told .given .1)
+    (tree-sound (c .before .before .before .before .args .s .now) (r .result) (r .ensures) (c .enum-told .given .0 .0) (c .enum-told .given .1), r .ensures .nodes-few)
 
 -- src/lib.rt:497:1
 returns-2 : tie.Need-returns-2
@@ -33,7 +33,7 @@ unfolding ofTreeJudged
 returns-2 c =
     let r = c .before .before .before .read-tree in
     let told = c .before .scan .given in
-    tree-refused (c .before .before .before .before .before .args .s .now) (r .result) (r .ensures) (told .0 .0) (told .0 .1 .0) (told .1)
+    (tree-refused (c .before .before .before .before .before .args .s .now) (r .result) (r .ensures) (told .0 .0) (told .0 .1 .0) (told .1), tree-refused-limited (c .before .before .before .before .before .args .s .now) (r .result) (r .ensures) (told .0 .0) (told .0 .1 .0) (told .1))
 
 pub judge-tree-spec : {M : Type 1} → statement M
 judge-tree-spec =

@@ -108,6 +108,7 @@ returns c =
       scan-is = i .inv .5 ∙ ap (λ (k : ℕ). x k .1) done;
       total-is = i .inv .3 ∙ ap (λ (k : ℕ). length (patternsFrom 0 (x k .0))) done;
       laid = λ q. i .inv .6 q ∙ ap (λ (k : ℕ). rowsFrom (a .rows .now) 0 (patternRows (patternsFrom 0 (x k .0)))) done;
+      fits = i .inv .4;
       near = omega (arith, i .inv .7);
     }
 
