@@ -14,9 +14,7 @@ ghost use Rattle.sheets.specs.Promises.{BinsAre, HeadIs, PinIs, PinsAre,
 ghost use Rattle.sheets.specs.Report.{ofLibraryJudged, libraryReport, libraryNumber, ofTreeJudged, treeReport, treeNumber, Limited};
 
 // Document 01's limits.
-pub struct Limits {
-    pub none: u8,
-}
+pub struct Limits {}
 
 impl Limits {
     pub const BINS: u32 = 4;

@@ -1,4 +1,3 @@
-use borrow.Author.Needs.{needs}
 use native.Mathlib.Omega.{arith}
 use Prim.Native.Nat.{ℕ, _≤_, _-_, _+_, _%_, _/_}
 use mathlib.Core.Path.{_≡_, refl, sym, ap, _∙_}
@@ -8,9 +7,6 @@ use Rattle.bits.specs.Bits.{withField}
 use Rattle.bits.proofs.Laws.{field-step, length-bit}
 use Rattle.bits.proofs.put.Statement.{statement}
 use Rattle.bits.proofs.put.Tie as tie
-use Rattle.bits.proofs.put.Reads as reads
-use Rattle.bits.proofs.put.Lts as lts
-use Rattle.bits.proofs.put_bit.Reads as put-bit-reads
 
 abbrev Inv-loop : tie.InvT-loop
 Inv-loop s₀ at width v rest₀ k₀ s rest k = (k ≤ width) × (length s ≡ length s₀) × (withField s at k rest ≡ withField s₀ at width v)
@@ -18,27 +14,21 @@ Inv-loop s₀ at width v rest₀ k₀ s rest k = (k ≤ width) × (length s ≡ 
 abbrev μ-loop : tie.MeasureT-loop
 μ-loop s₀ at width v rest₀ k₀ s rest k = k
 
--- src/lib.rt:99:5
 loop-holds : tie.Need-loop-holds Inv-loop μ-loop
 loop-holds c = (omega arith, refl, refl)
 
--- src/lib.rt:100:9
 sub-k : tie.Need-sub-k Inv-loop μ-loop
 sub-k c = omega arith
 
--- src/lib.rt:101:20
 add-put-bit : tie.Need-add-put-bit Inv-loop μ-loop
 add-put-bit c = omega arith
 
--- src/lib.rt:101:9
 put-bit-requires : tie.Need-put-bit-requires Inv-loop μ-loop
 put-bit-requires c κs = omega arith
 
--- src/lib.rt:99:5
 loop-less : tie.Need-loop-less Inv-loop μ-loop
 loop-less c = omega arith
 
--- src/lib.rt:99:5
 loop-again : tie.Need-loop-again Inv-loop μ-loop
 loop-again c =
     let a = c .before .before .before .before .before .before .before .args in
@@ -49,11 +39,9 @@ loop-again c =
       ap (λ (l : List ℕ). withField l (a .at) (i .k - 1) (i .rest / 2)) e ∙ sym (field-step (i .s) (a .at) (i .k) (i .rest) (omega arith)) ∙ i .inv .2,
     )
 
--- src/lib.rt:93:1
 same-length : tie.Need-same-length Inv-loop μ-loop
 same-length c = omega arith
 
--- src/lib.rt:93:1
 returns : tie.Need-returns Inv-loop μ-loop
 unfolding withField
 returns c =

@@ -8,10 +8,6 @@ use Rattle.bits.specs.Bits.{after, withDigit, withBit}
 use Rattle.bits.proofs.Laws.{after-lt, digit-lt, digit-is}
 use Rattle.bits.proofs.put_bit.Statement.{statement}
 use Rattle.bits.proofs.put_bit.Tie as tie
-use Rattle.bits.proofs.put_bit.Reads as reads
-use Rattle.bits.proofs.put_bit.Lts as lts
-use Rattle.bits.proofs.weight.Reads as weight-reads
-use Rattle.bits.proofs.wide.Reads as wide-reads
 
 -- the byte that is stored, and that it is a byte
 made : (c : tie.After-wide) →
@@ -29,59 +25,45 @@ fits c =
     let a = c .before .before .before .before .args in
     rw (made c) (digit-lt (getD (a .s .now) (a .i / 8) 0) (after (a .i)) (a .b) (omega (arith, c .before .slice-known2 .given (a .i / 8))) (after-lt (a .i)) (omega arith))
 
--- src/lib.rt:93:9
 weight-requires : tie.Need-weight-requires
 weight-requires c κs = search needs
 
--- src/lib.rt:94:16
 mul-full : tie.Need-mul-full
 mul-full c = search needs
 
--- src/lib.rt:95:21
 slice-read-wide : tie.Need-slice-read-wide
 slice-read-wide c = search needs
 
--- src/lib.rt:95:9
 wide-requires : tie.Need-wide-requires
 wide-requires c κs = search needs
 
--- src/lib.rt:96:18
 div-s : tie.Need-div-s
 div-s c = search needs
 
--- src/lib.rt:96:18
 mul-s : tie.Need-mul-s
 mul-s c = omega (arith, fits c)
 
--- src/lib.rt:96:40
 mul-s-2 : tie.Need-mul-s-2
 mul-s-2 c = omega (arith, fits c)
 
--- src/lib.rt:96:51
 rem-s : tie.Need-rem-s
 rem-s c = search needs
 
--- src/lib.rt:96:40
 add-s : tie.Need-add-s
 add-s c = omega (arith, fits c)
 
--- src/lib.rt:96:18
 add-s-2 : tie.Need-add-s-2
 add-s-2 c = omega (arith, fits c)
 
--- src/lib.rt:96:16
 cast-s : tie.Need-cast-s
 cast-s c = search needs
 
--- src/lib.rt:96:5
 slice-write-s : tie.Need-slice-write-s
 slice-write-s c = search needs
 
--- src/lib.rt:89:1
 same-length : tie.Need-same-length
 same-length c = search needs
 
--- src/lib.rt:89:1
 returns : tie.Need-returns
 unfolding withBit
 returns c =

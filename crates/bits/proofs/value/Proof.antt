@@ -1,4 +1,3 @@
-use borrow.Author.Needs.{needs}
 use native.Mathlib.Omega.{arith}
 use Prim.Native.Nat.{_≤_, _<_, _-_, _^_, _+_}
 use mathlib.Core.Path.{_≡_, refl, sym, _∙_}
@@ -6,9 +5,6 @@ use Rattle.bits.specs.Bits.{valueAt}
 use Rattle.bits.proofs.Laws.{value-small, value-more}
 use Rattle.bits.proofs.value.Statement.{statement}
 use Rattle.bits.proofs.value.Tie as tie
-use Rattle.bits.proofs.value.Reads as reads
-use Rattle.bits.proofs.value.Lts as lts
-use Rattle.bits.proofs.bit.Reads as bit-reads
 
 abbrev Inv-loop : tie.InvT-loop
 Inv-loop s at width v₀ k₀ v k = (k ≤ width) × (v ≡ valueAt s at k) × (v < 2 ^ 24)
@@ -16,36 +12,28 @@ Inv-loop s at width v₀ k₀ v k = (k ≤ width) × (v ≡ valueAt s at k) × (
 abbrev μ-loop : tie.MeasureT-loop
 μ-loop s at width v₀ k₀ v k = width - k
 
--- src/lib.rt:74:5
 loop-holds : tie.Need-loop-holds Inv-loop μ-loop
 unfolding valueAt
 loop-holds c = (omega arith, refl, omega arith)
 
--- src/lib.rt:75:13
 mul-v : tie.Need-mul-v Inv-loop μ-loop
 mul-v c = omega arith
 
--- src/lib.rt:75:28
 add-bit : tie.Need-add-bit Inv-loop μ-loop
 add-bit c = omega arith
 
--- src/lib.rt:75:21
 bit-requires : tie.Need-bit-requires Inv-loop μ-loop
 bit-requires c κs = omega arith
 
--- src/lib.rt:75:13
 add-v : tie.Need-add-v Inv-loop μ-loop
 add-v c = omega arith
 
--- src/lib.rt:76:9
 add-k : tie.Need-add-k Inv-loop μ-loop
 add-k c = omega arith
 
--- src/lib.rt:74:5
 loop-less : tie.Need-loop-less Inv-loop μ-loop
 loop-less c = omega arith
 
--- src/lib.rt:74:5
 loop-again : tie.Need-loop-again Inv-loop μ-loop
 loop-again c =
     let a = c .before .before .before .before .args in
@@ -53,7 +41,6 @@ loop-again c =
     let e = value-more (a .s .now) (a .at) (i .k) (i .v) (c .bit .result) (i .inv .1) (c .bit .ensures .0) in
     (omega arith, e, omega (arith, e, value-small (a .s .now) (a .at) (i .k + 1) 24 (omega arith)))
 
--- src/lib.rt:68:1
 returns : tie.Need-returns Inv-loop μ-loop
 returns c =
     let i = c .before .loop in

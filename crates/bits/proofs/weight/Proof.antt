@@ -8,22 +8,16 @@ use Rattle.bits.specs.Bits.{after}
 use Rattle.bits.proofs.Laws.{after-lt}
 use Rattle.bits.proofs.weight.Statement.{statement}
 use Rattle.bits.proofs.weight.Tie as tie
-use Rattle.bits.proofs.weight.Reads as reads
-use Rattle.bits.proofs.weight.Lts as lts
 
--- src/lib.rt:85:14
 sub-result : tie.Need-sub-result
 sub-result c = search needs
 
--- src/lib.rt:85:14
 cast-result : tie.Need-cast-result
 cast-result c = search needs
 
--- src/lib.rt:85:5
 shl-result : tie.Need-shl-result
 shl-result c = search needs
 
--- src/lib.rt:82:1
 returns : tie.Need-returns
 unfolding after
 returns c =

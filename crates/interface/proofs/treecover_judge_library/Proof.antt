@@ -6,49 +6,35 @@ use Rattle.sheets.specs.declared.LibraryJudged.{LibraryJudged}
 use Rattle.sheets.specs.Report.{ofLibraryJudged, word, Limited}
 use Rattle.interface.proofs.treecover_judge_library.Statement.{statement}
 use Rattle.interface.proofs.treecover_judge_library.Tie as tie
-use Rattle.interface.proofs.treecover_judge_library.Reads as reads
-use Rattle.interface.proofs.treecover_judge_library.Lts as lts
-use Rattle.interface.proofs.refusal.Reads as refusal-reads
-use Rattle.sheets.proofs.judge_library.Reads as judge-library-reads
-use Rattle.sheets.proofs.library_number.Reads as library-number-reads
 
--- src/lib.rt:21:9
 judge-library-requires : tie.Need-judge-library-requires
 judge-library-requires c κs = search needs
 
--- src/lib.rt:23:30
 enum-known-judged : tie.Need-enum-known-judged
 enum-known-judged c = search needs
 
--- src/lib.rt:23:51
 mul-result : tie.Need-mul-result
 unfolding ofLibraryJudged Limited
 mul-result c = omega (arith, subst (λ (q : LibraryJudged). Limited (ofLibraryJudged q)) (c .before .judged .given .1) (c .before .before .before .judge-library .ensures .1))
 
--- src/lib.rt:23:51
 add-result : tie.Need-add-result
 unfolding ofLibraryJudged Limited
 add-result c = omega (arith, subst (λ (q : LibraryJudged). Limited (ofLibraryJudged q)) (c .before .judged .given .1) (c .before .before .before .judge-library .ensures .1))
 
--- src/lib.rt:24:32
 enum-known-judged-2 : tie.Need-enum-known-judged-2
 enum-known-judged-2 c = search needs
 
--- src/lib.rt:24:57
 library-number-requires : tie.Need-library-number-requires
 library-number-requires c κs = search needs
 
--- src/lib.rt:24:49
 refusal-requires : tie.Need-refusal-requires
 unfolding ofLibraryJudged Limited
 refusal-requires c κs = (omega (arith, c .library-number .ensures .1), subst (λ (q : LibraryJudged). Limited (ofLibraryJudged q)) (c .before .before .judged2 .given .1) (c .before .before .before .before .judge-library .ensures .1))
 
--- src/lib.rt:17:1
 returns : tie.Need-returns
 unfolding ofLibraryJudged word
 returns c = ap word (sym (ap ofLibraryJudged (c .before .judged .given .1)) ∙ c .before .before .before .judge-library .ensures .0)
 
--- src/lib.rt:17:1
 returns-2 : tie.Need-returns-2
 unfolding ofLibraryJudged word
 returns-2 c =

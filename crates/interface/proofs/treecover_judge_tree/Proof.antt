@@ -6,39 +6,27 @@ use Rattle.sheets.specs.declared.TreeJudged.{TreeJudged}
 use Rattle.sheets.specs.Report.{ofTreeJudged, word, Limited}
 use Rattle.interface.proofs.treecover_judge_tree.Statement.{statement}
 use Rattle.interface.proofs.treecover_judge_tree.Tie as tie
-use Rattle.interface.proofs.treecover_judge_tree.Reads as reads
-use Rattle.interface.proofs.treecover_judge_tree.Lts as lts
-use Rattle.interface.proofs.refusal.Reads as refusal-reads
-use Rattle.sheets.proofs.judge_tree.Reads as judge-tree-reads
-use Rattle.sheets.proofs.tree_number.Reads as tree-number-reads
 
--- src/lib.rt:33:9
 judge-tree-requires : tie.Need-judge-tree-requires
 judge-tree-requires c κs = search needs
 
--- src/lib.rt:35:27
 enum-known-judged : tie.Need-enum-known-judged
 enum-known-judged c = search needs
 
--- src/lib.rt:36:29
 enum-known-judged-2 : tie.Need-enum-known-judged-2
 enum-known-judged-2 c = search needs
 
--- src/lib.rt:36:54
 tree-number-requires : tie.Need-tree-number-requires
 tree-number-requires c κs = search needs
 
--- src/lib.rt:36:46
 refusal-requires : tie.Need-refusal-requires
 unfolding ofTreeJudged Limited
 refusal-requires c κs = (omega (arith, c .tree-number .ensures .1), subst (λ (q : TreeJudged). Limited (ofTreeJudged q)) (c .before .before .judged2 .given .1) (c .before .before .before .before .judge-tree .ensures .1))
 
--- src/lib.rt:29:1
 returns : tie.Need-returns
 unfolding ofTreeJudged word
 returns c = ap word (sym (ap ofTreeJudged (c .before .judged .given .1)) ∙ c .before .before .before .judge-tree .ensures .0)
 
--- src/lib.rt:29:1
 returns-2 : tie.Need-returns-2
 unfolding ofTreeJudged word
 returns-2 c =

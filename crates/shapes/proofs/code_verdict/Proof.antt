@@ -1,48 +1,38 @@
-use borrow.Author.Needs.{needs}
-use native.Mathlib.Omega.{arith}
 use borrow.Author.Tests.{le-leb, lt-leb, eq-eqb, ne-eqb}
 use Rattle.shapes.specs.Drawing.{codeVerdict}
 use Rattle.shapes.proofs.code_verdict.Statement.{statement}
 use Rattle.shapes.proofs.code_verdict.Tie as tie
-use Rattle.shapes.proofs.code_verdict.Reads as reads
-use Rattle.shapes.proofs.code_verdict.Lts as lts
 
--- src/lib.rt:144:9
 returns : tie.Need-returns
 unfolding codeVerdict
 returns c =
     let a = c .before .before .args in
     simp (le-leb (a .rules .nodes) (a .n) (c .if1 .taken))
 
--- src/lib.rt:147:9
 returns-2 : tie.Need-returns-2
 unfolding codeVerdict
 returns-2 c =
     let a = c .before .before .before .args in
     simp (lt-leb (a .rules .nodes) (a .n) (c .before .if1 .left), le-leb 3 (a .code) (c .if2 .taken))
 
--- src/lib.rt:152:17
 returns-3 : tie.Need-returns-3
 unfolding codeVerdict
 returns-3 c =
     let a = c .before .before .before .before .before .before .args in
     simp (lt-leb (a .rules .nodes) (a .n) (c .before .before .before .before .if1 .left), lt-leb 3 (a .code) (c .before .before .before .if2 .left), c .before .before .if3 .taken, eq-eqb (a .n) 0 (c .before .if4 .taken), eq-eqb (a .code) 0 (c .if5 .taken))
 
--- src/lib.rt:140:1
 returns-4 : tie.Need-returns-4
 unfolding codeVerdict
 returns-4 c =
     let a = c .before .before .before .before .before .before .args in
     simp (lt-leb (a .rules .nodes) (a .n) (c .before .before .before .before .if1 .left), lt-leb 3 (a .code) (c .before .before .before .if2 .left), c .before .before .if3 .taken, eq-eqb (a .n) 0 (c .before .if4 .taken), ne-eqb (a .code) 0 (c .if5 .left))
 
--- src/lib.rt:140:1
 returns-5 : tie.Need-returns-5
 unfolding codeVerdict
 returns-5 c =
     let a = c .before .before .before .before .before .args in
     simp (lt-leb (a .rules .nodes) (a .n) (c .before .before .before .if1 .left), lt-leb 3 (a .code) (c .before .before .if2 .left), c .before .if3 .taken, ne-eqb (a .n) 0 (c .if4 .left))
 
--- src/lib.rt:140:1
 returns-6 : tie.Need-returns-6
 unfolding codeVerdict
 returns-6 c =

@@ -1,4 +1,3 @@
-use borrow.Author.Needs.{needs}
 use native.Mathlib.Omega.{arith}
 use Prim.Native.Nat.{ℕ, _≤_, _-_}
 use mathlib.Core.Path.{_≡_, refl, ap, sym, _∙_}
@@ -8,8 +7,6 @@ use Rattle.shapes.specs.Drawing.{elem}
 use Rattle.shapes.proofs.Laws.{elem-here, elem-later}
 use Rattle.shapes.proofs.contains.Statement.{statement}
 use Rattle.shapes.proofs.contains.Tie as tie
-use Rattle.shapes.proofs.contains.Reads as reads
-use Rattle.shapes.proofs.contains.Lts as lts
 
 abbrev Inv-loop : tie.InvT-loop
 Inv-loop symbols n x k₀ k = (k ≤ n) × (elem x (take n symbols) ≡ elem x (slice k n symbols))
@@ -17,41 +14,33 @@ Inv-loop symbols n x k₀ k = (k ≤ n) × (elem x (take n symbols) ≡ elem x (
 abbrev μ-loop : tie.MeasureT-loop
 μ-loop symbols n x k₀ k = n - k
 
--- src/lib.rt:174:5
 loop-holds : tie.Need-loop-holds Inv-loop μ-loop
 loop-holds c = (omega arith, refl)
 
--- src/lib.rt:175:12
 mul-if1 : tie.Need-mul-if1 Inv-loop μ-loop
 mul-if1 c = omega arith
 
--- src/lib.rt:175:12
 shared-slice-read-if1 : tie.Need-shared-slice-read-if1 Inv-loop μ-loop
 shared-slice-read-if1 c = omega arith
 
--- src/lib.rt:176:13
 returns : tie.Need-returns Inv-loop μ-loop
 returns c =
     let a = c .before .before .before .before .args in
     let i = c .before .before .before .loop in
     sym (i .inv .1 ∙ elem-here (a .x) (a .n) (a .symbols .now) (i .k) (omega arith) (omega arith) (c .if1 .taken))
 
--- src/lib.rt:178:9
 add-k : tie.Need-add-k Inv-loop μ-loop
 add-k c = omega arith
 
--- src/lib.rt:174:5
 loop-less : tie.Need-loop-less Inv-loop μ-loop
 loop-less c = omega arith
 
--- src/lib.rt:174:5
 loop-again : tie.Need-loop-again Inv-loop μ-loop
 loop-again c =
     let a = c .before .before .before .before .args in
     let i = c .before .before .before .loop in
     (omega arith, i .inv .1 ∙ elem-later (a .x) (a .n) (a .symbols .now) (i .k) (omega arith) (omega arith) (c .if1 .left))
 
--- src/lib.rt:169:1
 returns-2 : tie.Need-returns-2 Inv-loop μ-loop
 unfolding elem
 returns-2 c =

@@ -8,34 +8,25 @@ use Rattle.shapes.specs.Reading.{place}
 use Rattle.shapes.proofs.Laws.{ended-at}
 use Rattle.shapes.proofs.end.Statement.{statement}
 use Rattle.shapes.proofs.end.Tie as tie
-use Rattle.shapes.proofs.end.Reads as reads
-use Rattle.shapes.proofs.end.Lts as lts
-use Rattle.bits.proofs.Cursor.ends.Reads as ends-reads
 
--- src/lib.rt:128:18
 enum-known-scan : tie.Need-enum-known-scan
 enum-known-scan c = search needs
 
--- src/lib.rt:129:9
 enum-told : tie.Need-enum-told
 enum-told c = search needs
 
--- src/lib.rt:129:9
 returns : tie.Need-returns
 returns c = search needs
 
--- src/lib.rt:132:8
 ends-requires : tie.Need-ends-requires
 ends-requires c κs = omega (arith, ap place (c .before .scan .given .1))
 
--- src/lib.rt:133:9
 returns-2 : tie.Need-returns-2
 returns-2 c =
     let k = c .before .before .before .scan .given in
     ap (λ (b : Bool). cond b (At (k .0 .0)) (Refused Tail (k .0 .0 .at))) (sym (c .if1 .taken))
     ∙ ended-at (c .before .before .before .before .before .before .args .s .now) _ (k .0 .0) (c .before .ends .result) (k .1) (c .before .ends .ensures)
 
--- src/lib.rt:124:1
 returns-3 : tie.Need-returns-3
 returns-3 c =
     let k = c .before .before .before .scan .given in

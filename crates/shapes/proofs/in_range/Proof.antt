@@ -1,27 +1,20 @@
-use borrow.Author.Needs.{needs}
-use native.Mathlib.Omega.{arith}
 use borrow.Author.Tests.{le-leb, lt-leb}
 use Rattle.shapes.specs.Reading.{within}
 use Rattle.shapes.proofs.in_range.Statement.{statement}
 use Rattle.shapes.proofs.in_range.Tie as tie
-use Rattle.shapes.proofs.in_range.Reads as reads
-use Rattle.shapes.proofs.in_range.Lts as lts
 
--- src/lib.rt:106:9
 returns : tie.Need-returns
 unfolding within
 returns c =
     let a = c .before .args in
     simp (lt-leb (a .least) (a .value) (c .if1 .taken))
 
--- src/lib.rt:109:9
 returns-2 : tie.Need-returns-2
 unfolding within
 returns-2 c =
     let a = c .before .before .args in
     simp (le-leb (a .least) (a .value) (c .before .if1 .left), lt-leb (a .value) (a .most) (c .if2 .taken))
 
--- src/lib.rt:102:1
 returns-3 : tie.Need-returns-3
 unfolding within
 returns-3 c =

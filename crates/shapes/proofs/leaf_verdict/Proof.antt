@@ -1,43 +1,33 @@
 use borrow.Author.Needs.{needs}
-use native.Mathlib.Omega.{arith}
 use borrow.Author.Tests.{le-leb, lt-leb}
 use Rattle.shapes.specs.Drawing.{leafVerdict}
 use Rattle.shapes.proofs.leaf_verdict.Statement.{statement}
 use Rattle.shapes.proofs.leaf_verdict.Tie as tie
-use Rattle.shapes.proofs.leaf_verdict.Reads as reads
-use Rattle.shapes.proofs.leaf_verdict.Lts as lts
-use Rattle.shapes.proofs.contains.Reads as contains-reads
 
--- src/lib.rt:189:9
 returns : tie.Need-returns
 unfolding leafVerdict
 returns c =
     let a = c .before .before .before .args in
     simp (lt-leb (a .number) (a .rules .most) (c .if1 .taken))
 
--- src/lib.rt:192:33
 add-contains : tie.Need-add-contains
 add-contains c = search needs
 
--- src/lib.rt:192:12
 contains-requires : tie.Need-contains-requires
 contains-requires c κs = search needs
 
--- src/lib.rt:193:13
 returns-2 : tie.Need-returns-2
 unfolding leafVerdict
 returns-2 c =
     let a = c .before .before .before .before .before .before .args in
     simp (le-leb (a .number) (a .rules .most) (c .before .before .before .if1 .left), c .before .before .if2 .taken, ← c .before .contains .ensures, c .if3 .taken)
 
--- src/lib.rt:184:1
 returns-3 : tie.Need-returns-3
 unfolding leafVerdict
 returns-3 c =
     let a = c .before .before .before .before .before .before .args in
     simp (le-leb (a .number) (a .rules .most) (c .before .before .before .if1 .left), c .before .before .if2 .taken, ← c .before .contains .ensures, c .if3 .left)
 
--- src/lib.rt:184:1
 returns-4 : tie.Need-returns-4
 unfolding leafVerdict
 returns-4 c =

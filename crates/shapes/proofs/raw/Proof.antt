@@ -5,35 +5,25 @@ use Rattle.shapes.specs.Reading.{place, found, free}
 use Rattle.shapes.proofs.Laws.{reads-found}
 use Rattle.shapes.proofs.raw.Statement.{statement}
 use Rattle.shapes.proofs.raw.Tie as tie
-use Rattle.shapes.proofs.raw.Reads as reads
-use Rattle.shapes.proofs.raw.Lts as lts
-use Rattle.bits.proofs.Cursor.field.Reads as field-reads
 
--- src/lib.rt:68:18
 enum-known-scan : tie.Need-enum-known-scan
 enum-known-scan c = search needs
 
--- src/lib.rt:69:9
 enum-told : tie.Need-enum-told
 enum-told c = search needs
 
--- src/lib.rt:69:9
 returns : tie.Need-returns
 returns c = search needs
 
--- src/lib.rt:72:37
 field-requires : tie.Need-field-requires
 field-requires c κs = omega (arith, ap place (c .before .scan .given .1))
 
--- src/lib.rt:72:22
 enum-known-value : tie.Need-enum-known-value
 enum-known-value c = search needs
 
--- src/lib.rt:75:33
 enum-told-2 : tie.Need-enum-told-2
 enum-told-2 c = search needs
 
--- src/lib.rt:73:9
 returns-2 : tie.Need-returns-2
 returns-2 c =
     let a = c .before .before .before .before .before .before .before .args in
@@ -41,7 +31,6 @@ returns-2 c =
     reads-found (a .s .now) (a .width) (a .scan) (k .0 .0) (c .before .before .field .result) _ (omega arith) (k .1) (c .before .before .field .ensures)
     (ap (found (k .0 .0 .at) free) (sym (c .enum-told2 .given .1)))
 
--- src/lib.rt:64:1
 returns-3 : tie.Need-returns-3
 returns-3 c =
     let a = c .before .before .before .before .before .before .before .before .args in

@@ -1,28 +1,18 @@
 use borrow.Author.Needs.{needs}
-use native.Mathlib.Omega.{arith}
 use Rattle.shapes.specs.Drawing.{codeVerdict}
 use Rattle.shapes.proofs.Laws.{coded, settled-field, both, code-room}
 use Rattle.shapes.proofs.read_code.Statement.{statement}
 use Rattle.shapes.proofs.read_code.Tie as tie
-use Rattle.shapes.proofs.read_code.Reads as reads
-use Rattle.shapes.proofs.read_code.Lts as lts
-use Rattle.shapes.proofs.code_verdict.Reads as code-verdict-reads
-use Rattle.shapes.proofs.raw.Reads as raw-reads
-use Rattle.shapes.proofs.settle.Reads as settle-reads
 
--- src/lib.rt:164:9
 raw-requires : tie.Need-raw-requires
 raw-requires c κs = search needs
 
--- src/lib.rt:165:23
 code-verdict-requires : tie.Need-code-verdict-requires
 code-verdict-requires c κs = search needs
 
--- src/lib.rt:165:5
 settle-requires : tie.Need-settle-requires
 settle-requires c κs = search needs
 
--- src/lib.rt:160:1
 returns : tie.Need-returns
 returns c =
     let a = c .before .before .before .before .args in

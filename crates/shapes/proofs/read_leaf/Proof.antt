@@ -10,11 +10,6 @@ use Rattle.shapes.proofs.Laws.{settled-field, both}
 use Rattle.shapes.proofs.Drawn.{leaf-passes, leaf-dead, leaf-live}
 use Rattle.shapes.proofs.read_leaf.Statement.{statement}
 use Rattle.shapes.proofs.read_leaf.Tie as tie
-use Rattle.shapes.proofs.read_leaf.Reads as reads
-use Rattle.shapes.proofs.read_leaf.Lts as lts
-use Rattle.shapes.proofs.leaf_verdict.Reads as leaf-verdict-reads
-use Rattle.shapes.proofs.raw.Reads as raw-reads
-use Rattle.shapes.proofs.settle.Reads as settle-reads
 
 enum-told : tie.Need-enum-told
 enum-told c = search needs
@@ -33,57 +28,44 @@ read c =
 live : (c : tie.After-struct-known) → Live (c .before .before .before .before .before .before .before .before .before .before .args .scan)
 live c = subst Live (sym (c .before .before .before .before .before .enum-told .given .1)) tt
 
--- src/lib.rt:206:9
 enum-told-2 : tie.Need-enum-told-2
 enum-told-2 c = search needs
 
--- src/lib.rt:206:9
 returns : tie.Need-returns
 returns c =
     let a = c .before .before .before .before .before .args in
     leaf-dead (a .s .now) (a .rules) (a .scan) (a .n) (a .symbols .now) (a .sizes .now) (λ l. subst Live (c .enum-told2 .given .1) l)
 
--- src/lib.rt:208:9
 raw-requires : tie.Need-raw-requires
 raw-requires c κs = search needs
 
--- src/lib.rt:209:34
 leaf-verdict-requires : tie.Need-leaf-verdict-requires
 leaf-verdict-requires c κs = search needs
 
--- src/lib.rt:209:9
 settle-requires : tie.Need-settle-requires
 settle-requires c κs = search needs
 
--- src/lib.rt:210:18
 add-symbols : tie.Need-add-symbols
 add-symbols c = omega (arith, read c .small)
 
--- src/lib.rt:210:5
 mul-symbols : tie.Need-mul-symbols
 mul-symbols c = search needs
 
--- src/lib.rt:210:5
 slice-write-symbols : tie.Need-slice-write-symbols
 slice-write-symbols c = omega (arith, c .before .before .before .before .before .before .before .before .before .before .pre .1 .0 (live c))
 
--- src/lib.rt:211:5
 slice-write-sizes : tie.Need-slice-write-sizes
 slice-write-sizes c = omega (arith, c .before .before .before .before .before .before .before .before .before .before .pre .1 .0 (live c))
 
--- src/lib.rt:215:15
 add-t14 : tie.Need-add-t14
 add-t14 c = search needs
 
--- src/lib.rt:200:1
 same-length : tie.Need-same-length
 same-length c = search needs
 
--- src/lib.rt:200:1
 same-length-2 : tie.Need-same-length-2
 same-length-2 c = search needs
 
--- src/lib.rt:200:1
 returns-2 : tie.Need-returns-2
 returns-2 c =
     let a = c .before .before .before .before .before .before .before .before .before .before .args in

@@ -1,40 +1,29 @@
 use borrow.Author.Needs.{needs}
-use native.Mathlib.Omega.{arith}
 use Rattle.shapes.proofs.Laws.{settling-faulty}
 use Rattle.shapes.proofs.settle.Statement.{statement}
 use Rattle.shapes.proofs.settle.Tie as tie
-use Rattle.shapes.proofs.settle.Reads as reads
-use Rattle.shapes.proofs.settle.Lts as lts
-use Rattle.shapes.proofs.place_of.Reads as place-of-reads
 
 enum-told : tie.Need-enum-told
 enum-told c = search needs
 
--- src/lib.rt:90:9
 enum-told-2 : tie.Need-enum-told-2
 enum-told-2 c = search needs
 
--- src/lib.rt:90:9
 returns : tie.Need-returns
 returns c = search needs
 
--- src/lib.rt:92:25
 enum-known-verdict : tie.Need-enum-known-verdict
 enum-known-verdict c = search needs
 
--- src/lib.rt:93:9
 enum-told-3 : tie.Need-enum-told-3
 enum-told-3 c = search needs
 
--- src/lib.rt:93:9
 returns-2 : tie.Need-returns-2
 returns-2 c = search needs
 
--- src/lib.rt:97:36
 place-of-requires : tie.Need-place-of-requires
 place-of-requires c κs = search needs
 
--- src/lib.rt:85:1
 returns-3 : tie.Need-returns-3
 returns-3 c =
     let told = c .before .before .before .before .enum-told .given in

@@ -1,5 +1,4 @@
 use borrow.Author.Needs.{needs}
-use native.Mathlib.Omega.{arith}
 use mathlib.Core.Path.{sym, ap, ap₂, subst, _∙_}
 use mathlib.Core.Bool.{Bool}
 use Rattle.shapes.specs.declared.Scan.{Scan}
@@ -8,29 +7,23 @@ use Rattle.sheets.specs.LibrarySheet.{complete}
 use Rattle.sheets.proofs.Laws.{complete-dead, complete-whole}
 use Rattle.sheets.proofs.completed.Statement.{statement}
 use Rattle.sheets.proofs.completed.Tie as tie
-use Rattle.sheets.proofs.completed.Reads as reads
-use Rattle.sheets.proofs.completed.Lts as lts
 
 enum-told : tie.Need-enum-told
 enum-told c = search needs
 
--- src/lib.rt:249:9
 enum-told-2 : tie.Need-enum-told-2
 enum-told-2 c = search needs
 
--- src/lib.rt:249:9
 returns : tie.Need-returns
 returns c =
     let a = c .before .before .args in
     sym (complete-dead (a .whole) (a .first) (a .after) (λ l. subst Live (c .enum-told2 .given .1) l))
 
--- src/lib.rt:252:9
 returns-2 : tie.Need-returns-2
 returns-2 c =
     let a = c .before .before .before .args in
     sym (ap (λ (b : Bool). complete b (a .first) (a .after)) (c .if1 .taken) ∙ complete-whole (a .first) (a .after))
 
--- src/lib.rt:245:1
 returns-3 : tie.Need-returns-3
 unfolding complete
 returns-3 c =

@@ -1,4 +1,3 @@
-use borrow.Author.Needs.{needs}
 use native.Mathlib.Omega.{arith}
 use Prim.Native.Nat.{ℕ, _≤_, _-_}
 use mathlib.Core.Path.{_≡_, refl, sym, ap, _∙_}
@@ -9,9 +8,6 @@ use Rattle.sheets.specs.LibrarySheet.{hasAll}
 use Rattle.sheets.proofs.Laws.{lacks, has-more}
 use Rattle.sheets.proofs.has_pins.Statement.{statement}
 use Rattle.sheets.proofs.has_pins.Tie as tie
-use Rattle.sheets.proofs.has_pins.Reads as reads
-use Rattle.sheets.proofs.has_pins.Lts as lts
-use Rattle.shapes.proofs.contains.Reads as contains-reads
 
 abbrev Inv-loop : tie.InvT-loop
 Inv-loop symbols n pins p₀ p = (p ≤ pins) × (hasAll p (take n symbols) ≡ true)
@@ -19,42 +15,34 @@ Inv-loop symbols n pins p₀ p = (p ≤ pins) × (hasAll p (take n symbols) ≡ 
 abbrev μ-loop : tie.MeasureT-loop
 μ-loop symbols n pins p₀ p = pins - p
 
--- src/lib.rt:235:5
 loop-holds : tie.Need-loop-holds Inv-loop μ-loop
 unfolding hasAll
 loop-holds c = (omega arith, refl)
 
--- src/lib.rt:236:42
 add-contains : tie.Need-add-contains Inv-loop μ-loop
 add-contains c = omega arith
 
--- src/lib.rt:236:13
 contains-requires : tie.Need-contains-requires Inv-loop μ-loop
 contains-requires c κs = omega arith
 
--- src/lib.rt:237:13
 returns : tie.Need-returns Inv-loop μ-loop
 returns c =
     let a = c .before .before .before .before .before .args in
     let i = c .before .before .before .loop in
     sym (lacks (a .pins) (i .p) (take (a .n) (a .symbols .now)) (omega arith) (sym (c .before .contains .ensures) ∙ not-true _ (c .if1 .taken)))
 
--- src/lib.rt:239:9
 add-p : tie.Need-add-p Inv-loop μ-loop
 add-p c = omega arith
 
--- src/lib.rt:235:5
 loop-less : tie.Need-loop-less Inv-loop μ-loop
 loop-less c = omega arith
 
--- src/lib.rt:235:5
 loop-again : tie.Need-loop-again Inv-loop μ-loop
 loop-again c =
     let a = c .before .before .before .before .before .args in
     let i = c .before .before .before .loop in
     (omega arith, has-more (i .p) (take (a .n) (a .symbols .now)) (i .inv .1) (sym (c .before .contains .ensures) ∙ not-false _ (c .if1 .left)))
 
--- src/lib.rt:230:1
 returns-2 : tie.Need-returns-2 Inv-loop μ-loop
 returns-2 c =
     let a = c .before .before .before .args in

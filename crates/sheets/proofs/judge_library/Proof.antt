@@ -1,33 +1,24 @@
 use borrow.Author.Needs.{needs}
-use native.Mathlib.Omega.{arith}
 use Rattle.sheets.specs.Report.{ofLibraryJudged, Limited}
 use Rattle.sheets.proofs.Whole.{library-sound, library-refused, library-refused-limited}
 use Rattle.sheets.proofs.judge_library.Statement.{statement}
 use Rattle.sheets.proofs.judge_library.Tie as tie
-use Rattle.sheets.proofs.judge_library.Reads as reads
-use Rattle.sheets.proofs.judge_library.Lts as lts
-use Rattle.sheets.proofs.read_library.Reads as read-library-reads
 
--- src/lib.rt:488:9
 read-library-requires : tie.Need-read-library-requires
 read-library-requires c κs = search needs
 
--- src/lib.rt:491:24
 enum-told : tie.Need-enum-told
 enum-told c = search needs
 
--- src/lib.rt:492:23
 enum-known-scan : tie.Need-enum-known-scan
 enum-known-scan c = search needs
 
--- src/lib.rt:485:1
 returns : tie.Need-returns
 unfolding ofLibraryJudged Limited
 returns c =
     let r = c .before .before .read-library in
     (library-sound (c .before .before .before .before .args .s .now) (r .result) (r .ensures) (c .enum-told .given .0 .0) (c .enum-told .given .1), (r .ensures .cells-few, r .ensures .patterns-few))
 
--- src/lib.rt:485:1
 returns-2 : tie.Need-returns-2
 unfolding ofLibraryJudged
 returns-2 c =

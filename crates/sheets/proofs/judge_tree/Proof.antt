@@ -1,33 +1,24 @@
 use borrow.Author.Needs.{needs}
-use native.Mathlib.Omega.{arith}
 use Rattle.sheets.specs.Report.{ofTreeJudged, Limited}
 use Rattle.sheets.proofs.Whole.{tree-sound, tree-refused, tree-refused-limited}
 use Rattle.sheets.proofs.judge_tree.Statement.{statement}
 use Rattle.sheets.proofs.judge_tree.Tie as tie
-use Rattle.sheets.proofs.judge_tree.Reads as reads
-use Rattle.sheets.proofs.judge_tree.Lts as lts
-use Rattle.sheets.proofs.read_tree.Reads as read-tree-reads
 
--- src/lib.rt:500:9
 read-tree-requires : tie.Need-read-tree-requires
 read-tree-requires c κs = search needs
 
--- src/lib.rt:503:24
 enum-told : tie.Need-enum-told
 enum-told c = search needs
 
--- src/lib.rt:504:23
 enum-known-scan : tie.Need-enum-known-scan
 enum-known-scan c = search needs
 
--- src/lib.rt:497:1
 returns : tie.Need-returns
 unfolding ofTreeJudged Limited
 returns c =
     let r = c .before .before .read-tree in
     (tree-sound (c .before .before .before .before .args .s .now) (r .result) (r .ensures) (c .enum-told .given .0 .0) (c .enum-told .given .1), r .ensures .nodes-few)
 
--- src/lib.rt:497:1
 returns-2 : tie.Need-returns-2
 unfolding ofTreeJudged
 returns-2 c =

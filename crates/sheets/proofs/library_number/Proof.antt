@@ -4,50 +4,38 @@ use mathlib.Core.Path.{sym, ap}
 use Rattle.sheets.specs.Report.{libraryNumber}
 use Rattle.sheets.proofs.library_number.Statement.{statement}
 use Rattle.sheets.proofs.library_number.Tie as tie
-use Rattle.sheets.proofs.library_number.Reads as reads
-use Rattle.sheets.proofs.library_number.Lts as lts
 
--- src/lib.rt:542:29
 enum-told : tie.Need-enum-told
 enum-told c = search needs
 
--- src/lib.rt:543:24
 enum-told-2 : tie.Need-enum-told-2
 enum-told-2 c = search needs
 
--- src/lib.rt:544:25
 enum-told-3 : tie.Need-enum-told-3
 enum-told-3 c = search needs
 
--- src/lib.rt:545:27
 enum-told-4 : tie.Need-enum-told-4
 enum-told-4 c = search needs
 
--- src/lib.rt:546:24
 enum-told-5 : tie.Need-enum-told-5
 enum-told-5 c = search needs
 
--- src/lib.rt:538:1
 returns : tie.Need-returns
 unfolding libraryNumber
 returns c = (sym (ap libraryNumber (c .enum-told .given .1)), omega arith)
 
--- src/lib.rt:538:1
 returns-2 : tie.Need-returns-2
 unfolding libraryNumber
 returns-2 c = (sym (ap libraryNumber (c .enum-told2 .given .1)), omega arith)
 
--- src/lib.rt:538:1
 returns-3 : tie.Need-returns-3
 unfolding libraryNumber
 returns-3 c = (sym (ap libraryNumber (c .enum-told3 .given .1)), omega arith)
 
--- src/lib.rt:538:1
 returns-4 : tie.Need-returns-4
 unfolding libraryNumber
 returns-4 c = (sym (ap libraryNumber (c .enum-told4 .given .1)), omega arith)
 
--- src/lib.rt:538:1
 returns-5 : tie.Need-returns-5
 unfolding libraryNumber
 returns-5 c = (sym (ap libraryNumber (c .enum-told5 .given .1)), omega arith)

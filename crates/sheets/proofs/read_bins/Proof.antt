@@ -1,4 +1,3 @@
-use borrow.Author.Needs.{needs}
 use native.Mathlib.Omega.{arith}
 use Prim.Native.Nat.{ℕ, _≤_, _+_, _-_, _*_}
 use mathlib.Core.Path.{_≡_, refl, sym, ap, _∙_}
@@ -11,9 +10,6 @@ use Rattle.sheets.specs.Layout.{padded}
 use Rattle.sheets.proofs.Laws.{filled-more, last-more, bin-range}
 use Rattle.sheets.proofs.read_bins.Statement.{statement}
 use Rattle.sheets.proofs.read_bins.Tie as tie
-use Rattle.sheets.proofs.read_bins.Reads as reads
-use Rattle.sheets.proofs.read_bins.Lts as lts
-use Rattle.shapes.proofs.ranged.Reads as ranged-reads
 
 abbrev Inv-loop : tie.InvT-loop
 Inv-loop s count loads₀ at₀ before₀ k₀ loads at before k =
@@ -28,40 +24,31 @@ Inv-loop s count loads₀ at₀ before₀ k₀ loads at before k =
 abbrev μ-loop : tie.MeasureT-loop
 μ-loop s count loads₀ at₀ before₀ k₀ loads at before k = count - k
 
--- src/lib.rt:119:5
 loop-holds : tie.Need-loop-holds Inv-loop μ-loop
 unfolding times last
 loop-holds c = (omega arith, refl, refl, omega arith, refl, omega arith)
 
--- src/lib.rt:120:44
 add-ranged : tie.Need-add-ranged Inv-loop μ-loop
 add-ranged c = omega arith
 
--- src/lib.rt:120:13
 ranged-requires : tie.Need-ranged-requires Inv-loop μ-loop
 ranged-requires c κs = omega arith
 
--- src/lib.rt:123:29
 cast-loads : tie.Need-cast-loads Inv-loop μ-loop
 cast-loads c = omega arith
 
--- src/lib.rt:123:15
 cast-loads-2 : tie.Need-cast-loads-2 Inv-loop μ-loop
 cast-loads-2 c = omega arith
 
--- src/lib.rt:123:9
 array-write-loads : tie.Need-array-write-loads Inv-loop μ-loop
 array-write-loads c = omega arith
 
--- src/lib.rt:124:9
 add-k : tie.Need-add-k Inv-loop μ-loop
 add-k c = omega arith
 
--- src/lib.rt:119:5
 loop-less : tie.Need-loop-less Inv-loop μ-loop
 loop-less c = omega arith
 
--- src/lib.rt:119:5
 loop-again : tie.Need-loop-again Inv-loop μ-loop
 loop-again c =
     let a = c .before .before .before .before .args in
@@ -78,7 +65,6 @@ loop-again c =
       omega (arith, c .ranged .ensures .near, i .inv .5),
     )
 
--- src/lib.rt:111:1
 returns : tie.Need-returns Inv-loop μ-loop
 returns c =
     let a = c .before .before .before .args in

@@ -1,35 +1,23 @@
 use borrow.Author.Needs.{needs}
-use native.Mathlib.Omega.{arith}
 use Rattle.sheets.proofs.Cells.{cell-is}
 use Rattle.sheets.proofs.read_cell.Statement.{statement}
 use Rattle.sheets.proofs.read_cell.Tie as tie
-use Rattle.sheets.proofs.read_cell.Reads as reads
-use Rattle.sheets.proofs.read_cell.Lts as lts
-use Rattle.sheets.proofs.read_drawings.Reads as read-drawings-reads
-use Rattle.sheets.proofs.read_head.Reads as read-head-reads
-use Rattle.sheets.proofs.read_pins.Reads as read-pins-reads
 
--- src/lib.rt:347:9
 read-head-requires : tie.Need-read-head-requires
 read-head-requires c κs = search needs
 
--- src/lib.rt:350:9
 read-pins-requires : tie.Need-read-pins-requires
 read-pins-requires c κs = search needs
 
--- src/lib.rt:352:9
 read-drawings-requires : tie.Need-read-drawings-requires
 read-drawings-requires c κs = search needs
 
--- src/lib.rt:364:19
 cast-t19 : tie.Need-cast-t19
 cast-t19 c = search needs
 
--- src/lib.rt:343:1
 same-length : tie.Need-same-length
 same-length c = search needs
 
--- src/lib.rt:343:1
 returns : tie.Need-returns
 returns c =
     let a = c .before .before .before .before .before .before .before .before .before .before .before .args in

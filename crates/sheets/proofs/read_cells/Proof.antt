@@ -13,10 +13,6 @@ use Rattle.sheets.specs.Promises.{cellAfter}
 use Rattle.sheets.proofs.Cells.{turn-scan, turn-cells, turn-total, turn-rows}
 use Rattle.sheets.proofs.read_cells.Statement.{statement}
 use Rattle.sheets.proofs.read_cells.Tie as tie
-use Rattle.sheets.proofs.read_cells.Reads as reads
-use Rattle.sheets.proofs.read_cells.Lts as lts
-use Rattle.sheets.proofs.blank_cell.Reads as blank-cell-reads
-use Rattle.sheets.proofs.read_cell.Reads as read-cell-reads
 
 abbrev Inv-loop : tie.InvT-loop
 Inv-loop s bins count rows₀ cells₀ at₀ total₀ k₀ rows cells at total k =
@@ -33,49 +29,38 @@ Inv-loop s bins count rows₀ cells₀ at₀ total₀ k₀ rows cells at total k
 abbrev μ-loop : tie.MeasureT-loop
 μ-loop s bins count rows₀ cells₀ at₀ total₀ k₀ rows cells at total k = count - k
 
--- src/lib.rt:404:9
 blank-cell-requires : tie.Need-blank-cell-requires Inv-loop μ-loop
 blank-cell-requires c κs = search needs
 
--- src/lib.rt:409:5
 loop-holds : tie.Need-loop-holds Inv-loop μ-loop
 unfolding times rowsFrom patternRows patternsFrom
 loop-holds c =
     (omega arith, refl, ap (replicate 64) (c .blank-cell .ensures), refl, omega arith, refl, λ q. refl, omega arith)
 
--- src/lib.rt:410:13
 read-cell-requires : tie.Need-read-cell-requires Inv-loop μ-loop
 read-cell-requires c κs = omega arith
 
--- src/lib.rt:413:15
 cast-cells : tie.Need-cast-cells Inv-loop μ-loop
 cast-cells c = omega arith
 
--- src/lib.rt:413:9
 mul-cells : tie.Need-mul-cells Inv-loop μ-loop
 mul-cells c = omega arith
 
--- src/lib.rt:413:9
 array-set-from-cells : tie.Need-array-set-from-cells Inv-loop μ-loop
 array-set-from-cells c = omega arith
 
--- src/lib.rt:414:18
 cast-total : tie.Need-cast-total Inv-loop μ-loop
 cast-total c = omega arith
 
--- src/lib.rt:414:9
 add-total : tie.Need-add-total Inv-loop μ-loop
 add-total c = omega arith
 
--- src/lib.rt:415:9
 add-k : tie.Need-add-k Inv-loop μ-loop
 add-k c = omega arith
 
--- src/lib.rt:409:5
 loop-less : tie.Need-loop-less Inv-loop μ-loop
 loop-less c = omega arith
 
--- src/lib.rt:409:5
 loop-again : tie.Need-loop-again Inv-loop μ-loop
 loop-again c =
     let a = c .before .before .before .before .before .before .before .before .before .before .before .args in
@@ -92,11 +77,9 @@ loop-again c =
       omega (arith, r .ensures .near, i .inv .7),
     )
 
--- src/lib.rt:400:1
 same-length : tie.Need-same-length Inv-loop μ-loop
 same-length c = c .before .loop .inv .1
 
--- src/lib.rt:400:1
 returns : tie.Need-returns Inv-loop μ-loop
 returns c =
     let a = c .before .before .before .before .before .args in

@@ -5,25 +5,16 @@ use Rattle.shapes.proofs.Laws.{settled-field, both}
 use Rattle.sheets.proofs.Laws.{count-passes, count-fits}
 use Rattle.sheets.proofs.read_count.Statement.{statement}
 use Rattle.sheets.proofs.read_count.Tie as tie
-use Rattle.sheets.proofs.read_count.Reads as reads
-use Rattle.sheets.proofs.read_count.Lts as lts
-use Rattle.shapes.proofs.raw.Reads as raw-reads
-use Rattle.shapes.proofs.settle.Reads as settle-reads
-use Rattle.sheets.proofs.count_verdict.Reads as count-verdict-reads
 
--- src/lib.rt:324:9
 raw-requires : tie.Need-raw-requires
 raw-requires c κs = search needs
 
--- src/lib.rt:325:31
 count-verdict-requires : tie.Need-count-verdict-requires
 count-verdict-requires c κs = search needs
 
--- src/lib.rt:325:5
 settle-requires : tie.Need-settle-requires
 settle-requires c κs = search needs
 
--- src/lib.rt:320:1
 returns : tie.Need-returns
 returns c =
     let a = c .before .before .before .before .args in

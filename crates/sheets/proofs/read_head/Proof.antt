@@ -8,35 +8,25 @@ use Rattle.shapes.proofs.Laws.{value-at, scan-at}
 use Rattle.sheets.specs.LibrarySheet.{head}
 use Rattle.sheets.proofs.read_head.Statement.{statement}
 use Rattle.sheets.proofs.read_head.Tie as tie
-use Rattle.sheets.proofs.read_head.Reads as reads
-use Rattle.sheets.proofs.read_head.Lts as lts
-use Rattle.shapes.proofs.ranged.Reads as ranged-reads
 
--- src/lib.rt:134:9
 ranged-requires : tie.Need-ranged-requires
 ranged-requires c κs = search needs
 
--- src/lib.rt:136:9
 ranged-requires-2 : tie.Need-ranged-requires-2
 ranged-requires-2 c κs = search needs
 
--- src/lib.rt:138:9
 ranged-requires-3 : tie.Need-ranged-requires-3
 ranged-requires-3 c κs = search needs
 
--- src/lib.rt:140:9
 ranged-requires-4 : tie.Need-ranged-requires-4
 ranged-requires-4 c κs = search needs
 
--- src/lib.rt:145:15
 cast-t12 : tie.Need-cast-t12
 cast-t12 c = search needs
 
--- src/lib.rt:146:18
 cast-t13 : tie.Need-cast-t13
 cast-t13 c = search needs
 
--- src/lib.rt:130:1
 returns : tie.Need-returns
 unfolding head
 returns c =

@@ -1,49 +1,32 @@
 use borrow.Author.Needs.{needs}
-use native.Mathlib.Omega.{arith}
 use Rattle.sheets.proofs.Whole.{library-is}
 use Rattle.sheets.proofs.read_library.Statement.{statement}
 use Rattle.sheets.proofs.read_library.Tie as tie
-use Rattle.sheets.proofs.read_library.Reads as reads
-use Rattle.sheets.proofs.read_library.Lts as lts
-use Rattle.bits.proofs.Cursor.new.Reads as new-reads
-use Rattle.shapes.proofs.end.Reads as end-reads
-use Rattle.shapes.proofs.ranged.Reads as ranged-reads
-use Rattle.sheets.proofs.read_bins.Reads as read-bins-reads
-use Rattle.sheets.proofs.read_cells.Reads as read-cells-reads
 
--- src/lib.rt:428:26
 new-requires : tie.Need-new-requires
 new-requires c κs = search needs
 
--- src/lib.rt:429:9
 ranged-requires : tie.Need-ranged-requires
 ranged-requires c κs = search needs
 
--- src/lib.rt:431:9
 read-bins-requires : tie.Need-read-bins-requires
 read-bins-requires c κs = search needs
 
--- src/lib.rt:433:9
 ranged-requires-2 : tie.Need-ranged-requires-2
 ranged-requires-2 c κs = search needs
 
--- src/lib.rt:436:60
 slice-aggregate-read-cells : tie.Need-slice-aggregate-read-cells
 slice-aggregate-read-cells c = search needs
 
--- src/lib.rt:436:9
 read-cells-requires : tie.Need-read-cells-requires
 read-cells-requires c κs = search needs
 
--- src/lib.rt:441:15
 end-requires : tie.Need-end-requires
 end-requires c κs = search needs
 
--- src/lib.rt:445:20
 cast-t18 : tie.Need-cast-t18
 cast-t18 c = search needs
 
--- src/lib.rt:425:1
 returns : tie.Need-returns
 returns c =
     let cells = c .before .before .before .before .before .read-cells in

@@ -3,47 +3,31 @@ use native.Mathlib.Omega.{arith}
 use Rattle.sheets.proofs.Laws.{pattern-is}
 use Rattle.sheets.proofs.read_pattern.Statement.{statement}
 use Rattle.sheets.proofs.read_pattern.Tie as tie
-use Rattle.sheets.proofs.read_pattern.Reads as reads
-use Rattle.sheets.proofs.read_pattern.Lts as lts
-use Rattle.shapes.proofs.place_of.Reads as place-of-reads
-use Rattle.shapes.proofs.read_node.Reads as read-node-reads
-use Rattle.sheets.proofs.completed.Reads as completed-reads
-use Rattle.sheets.proofs.has_pins.Reads as has-pins-reads
-use Rattle.sheets.proofs.last_of.Reads as last-of-reads
 
--- src/lib.rt:264:15
 last-of-requires : tie.Need-last-of-requires
 last-of-requires c κs = search needs
 
--- src/lib.rt:269:62
 slice-aggregate-read-node : tie.Need-slice-aggregate-read-node
 slice-aggregate-read-node c = search needs
 
--- src/lib.rt:269:9
 read-node-requires : tie.Need-read-node-requires
 read-node-requires c κs = search needs
 
--- src/lib.rt:272:9
 has-pins-requires : tie.Need-has-pins-requires
 has-pins-requires c κs = search needs
 
--- src/lib.rt:274:32
 place-of-requires : tie.Need-place-of-requires
 place-of-requires c κs = search needs
 
--- src/lib.rt:274:15
 completed-requires : tie.Need-completed-requires
 completed-requires c κs = search needs
 
--- src/lib.rt:275:15
 cast-t11 : tie.Need-cast-t11
 cast-t11 c = search needs
 
--- src/lib.rt:258:1
 same-length : tie.Need-same-length
 same-length c = search needs
 
--- src/lib.rt:258:1
 returns : tie.Need-returns
 returns c =
     let a = c .before .before .before .before .before .before .before .before .before .before .before .before .before .args in

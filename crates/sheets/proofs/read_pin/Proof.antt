@@ -8,40 +8,28 @@ use Rattle.shapes.proofs.Laws.{value-at, scan-at}
 use Rattle.sheets.specs.LibrarySheet.{pin}
 use Rattle.sheets.proofs.read_pin.Statement.{statement}
 use Rattle.sheets.proofs.read_pin.Tie as tie
-use Rattle.sheets.proofs.read_pin.Reads as reads
-use Rattle.sheets.proofs.read_pin.Lts as lts
-use Rattle.shapes.proofs.ranged.Reads as ranged-reads
-use Rattle.sheets.proofs.last_of.Reads as last-of-reads
 
--- src/lib.rt:166:46
 last-of-requires : tie.Need-last-of-requires
 last-of-requires c κs = search needs
 
--- src/lib.rt:166:9
 ranged-requires : tie.Need-ranged-requires
 ranged-requires c κs = search needs
 
--- src/lib.rt:168:9
 ranged-requires-2 : tie.Need-ranged-requires-2
 ranged-requires-2 c κs = search needs
 
--- src/lib.rt:170:9
 ranged-requires-3 : tie.Need-ranged-requires-3
 ranged-requires-3 c κs = search needs
 
--- src/lib.rt:174:15
 cast-t11 : tie.Need-cast-t11
 cast-t11 c = search needs
 
--- src/lib.rt:175:20
 cast-t12 : tie.Need-cast-t12
 cast-t12 c = search needs
 
--- src/lib.rt:176:16
 cast-t13 : tie.Need-cast-t13
 cast-t13 c = search needs
 
--- src/lib.rt:162:1
 returns : tie.Need-returns
 unfolding pin
 returns c =

@@ -1,4 +1,3 @@
-use borrow.Author.Needs.{needs}
 use native.Mathlib.Omega.{arith}
 use Prim.Native.Nat.{ℕ, _≤_, _+_, _-_, _*_}
 use mathlib.Core.Path.{_≡_, refl, sym, ap, _∙_}
@@ -12,9 +11,6 @@ use Rattle.sheets.specs.Layout.{padded}
 use Rattle.sheets.proofs.Laws.{filled-more}
 use Rattle.sheets.proofs.read_pins.Statement.{statement}
 use Rattle.sheets.proofs.read_pins.Tie as tie
-use Rattle.sheets.proofs.read_pins.Reads as reads
-use Rattle.sheets.proofs.read_pins.Lts as lts
-use Rattle.sheets.proofs.read_pin.Reads as read-pin-reads
 
 abbrev Inv-loop : tie.InvT-loop
 Inv-loop s bins count loads₀ intrinsics₀ drives₀ at₀ k₀ loads intrinsics drives at k =
@@ -29,52 +25,40 @@ Inv-loop s bins count loads₀ intrinsics₀ drives₀ at₀ k₀ loads intrinsi
 abbrev μ-loop : tie.MeasureT-loop
 μ-loop s bins count loads₀ intrinsics₀ drives₀ at₀ k₀ loads intrinsics drives at k = count - k
 
--- src/lib.rt:190:5
 loop-holds : tie.Need-loop-holds Inv-loop μ-loop
 unfolding times
 loop-holds c = (omega arith, refl, refl, refl, refl, omega arith)
 
--- src/lib.rt:191:13
 read-pin-requires : tie.Need-read-pin-requires Inv-loop μ-loop
 read-pin-requires c κs = omega arith
 
--- src/lib.rt:193:15
 cast-loads : tie.Need-cast-loads Inv-loop μ-loop
 cast-loads c = omega arith
 
--- src/lib.rt:193:9
 array-write-loads : tie.Need-array-write-loads Inv-loop μ-loop
 array-write-loads c = omega arith
 
--- src/lib.rt:194:20
 cast-intrinsics : tie.Need-cast-intrinsics Inv-loop μ-loop
 cast-intrinsics c = omega arith
 
--- src/lib.rt:194:9
 mul-intrinsics : tie.Need-mul-intrinsics Inv-loop μ-loop
 mul-intrinsics c = omega arith
 
--- src/lib.rt:194:9
 array-write-intrinsics : tie.Need-array-write-intrinsics Inv-loop μ-loop
 array-write-intrinsics c = omega arith
 
--- src/lib.rt:195:16
 cast-drives : tie.Need-cast-drives Inv-loop μ-loop
 cast-drives c = omega arith
 
--- src/lib.rt:195:9
 array-write-drives : tie.Need-array-write-drives Inv-loop μ-loop
 array-write-drives c = omega arith
 
--- src/lib.rt:196:9
 add-k : tie.Need-add-k Inv-loop μ-loop
 add-k c = omega arith
 
--- src/lib.rt:190:5
 loop-less : tie.Need-loop-less Inv-loop μ-loop
 loop-less c = omega arith
 
--- src/lib.rt:190:5
 loop-again : tie.Need-loop-again Inv-loop μ-loop
 unfolding pin
 loop-again c =
@@ -91,7 +75,6 @@ loop-again c =
       omega (arith, p .near, i .inv .5),
     )
 
--- src/lib.rt:181:1
 returns : tie.Need-returns Inv-loop μ-loop
 returns c =
     let a = c .before .before .before .args in

@@ -8,9 +8,6 @@ use borrow.Rule.Slice.PartMut.{putMid, same-len-mid}
 use Rattle.sheets.proofs.Laws.{row-is}
 use Rattle.sheets.proofs.read_row.Statement.{statement}
 use Rattle.sheets.proofs.read_row.Tie as tie
-use Rattle.sheets.proofs.read_row.Reads as reads
-use Rattle.sheets.proofs.read_row.Lts as lts
-use Rattle.sheets.proofs.read_pattern.Reads as read-pattern-reads
 
 -- the row after its part has come back is as long as it was
 kept : (c : tie.After-slice-known2) →
@@ -20,40 +17,32 @@ kept c =
     let a = c .before .before .before .before .before .before .args in let l = set (a .row .now) 0 (a .cell) in
     same-len-mid 2 (length l - 2) l (c .before .before .read-pattern .last .1 .1 .1 .0) (c .before .before .read-pattern .kept .1 .1 .1 .0) ∙ length-set (a .row .now) 0 (a .cell)
 
--- src/lib.rt:284:5
 slice-write-row : tie.Need-slice-write-row
 slice-write-row c = search needs
 
--- src/lib.rt:285:44
 sub-read-pattern : tie.Need-sub-read-pattern
 sub-read-pattern c = omega (arith, length-set (c .before .before .args .row .now) 0 (c .before .before .args .cell))
 
--- src/lib.rt:285:44
 part-read-pattern-start : tie.Need-part-read-pattern-start
 part-read-pattern-start c = omega (arith, length-set (c .before .before .args .row .now) 0 (c .before .before .args .cell))
 
--- src/lib.rt:285:44
 part-read-pattern-end : tie.Need-part-read-pattern-end
 part-read-pattern-end c = search needs
 
--- src/lib.rt:285:9
 read-pattern-requires : tie.Need-read-pattern-requires
 read-pattern-requires c κs =
     let a = c .before .before .before .args in
     let l = set (a .row .now) 0 (a .cell) in
     (omega arith, length-take-le (length l - 2) (drop 2 l) (omega (arith, length-drop 2 l)) ∙ omega (arith, length-set (a .row .now) 0 (a .cell)), omega arith)
 
--- src/lib.rt:286:5
 slice-write-row-2 : tie.Need-slice-write-row-2
 slice-write-row-2 c = omega (arith, kept c)
 
--- src/lib.rt:280:1
 same-length : tie.Need-same-length
 same-length c =
     let a = c .before .before .before .before .before .before .args in let l = set (a .row .now) 0 (a .cell) in
     length-set (putMid 2 (length l - 2) l (c .before .before .read-pattern .last .1 .1 .1 .0)) 1 (c .before .before .read-pattern .result .size) ∙ kept c
 
--- src/lib.rt:280:1
 returns : tie.Need-returns
 returns c =
     let a = c .before .before .before .before .before .before .args in

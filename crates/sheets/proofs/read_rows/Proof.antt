@@ -1,4 +1,3 @@
-use borrow.Author.Needs.{needs}
 use native.Mathlib.Omega.{arith}
 use Prim.Native.Nat.{ℕ, _≤_, _+_, _-_, _*_}
 use mathlib.Core.Path.{_≡_, refl, ap, _∙_}
@@ -15,9 +14,6 @@ use Rattle.sheets.specs.Layout.{row, rowsFrom}
 use Rattle.sheets.proofs.Laws.{rows-turn}
 use Rattle.sheets.proofs.read_rows.Statement.{statement}
 use Rattle.sheets.proofs.read_rows.Tie as tie
-use Rattle.sheets.proofs.read_rows.Reads as reads
-use Rattle.sheets.proofs.read_rows.Lts as lts
-use Rattle.sheets.proofs.read_row.Reads as read-row-reads
 
 abbrev Inv-loop : tie.InvT-loop
 Inv-loop s pins cell total count rows₀ at₀ k₀ rows at k =
@@ -31,44 +27,34 @@ Inv-loop s pins cell total count rows₀ at₀ k₀ rows at k =
 abbrev μ-loop : tie.MeasureT-loop
 μ-loop s pins cell total count rows₀ at₀ k₀ rows at k = count - k
 
--- src/lib.rt:300:5
 loop-holds : tie.Need-loop-holds Inv-loop μ-loop
 unfolding times rowsFrom
 loop-holds c = (omega arith, refl, refl, λ q. refl, omega arith)
 
--- src/lib.rt:301:44
 cast-first : tie.Need-cast-first Inv-loop μ-loop
 cast-first c = omega arith
 
--- src/lib.rt:301:36
 add-first : tie.Need-add-first Inv-loop μ-loop
 add-first c = omega arith
 
--- src/lib.rt:301:21
 mul-first : tie.Need-mul-first Inv-loop μ-loop
 mul-first c = omega arith
 
--- src/lib.rt:302:59
 add-read-row : tie.Need-add-read-row Inv-loop μ-loop
 add-read-row c = omega arith
 
--- src/lib.rt:302:42
 mul-read-row : tie.Need-mul-read-row Inv-loop μ-loop
 mul-read-row c = omega arith
 
--- src/lib.rt:302:42
 sub-read-row : tie.Need-sub-read-row Inv-loop μ-loop
 sub-read-row c = omega arith
 
--- src/lib.rt:302:42
 part-read-row-start : tie.Need-part-read-row-start Inv-loop μ-loop
 part-read-row-start c = omega arith
 
--- src/lib.rt:302:42
 part-read-row-end : tie.Need-part-read-row-end Inv-loop μ-loop
 part-read-row-end c = omega arith
 
--- src/lib.rt:302:9
 read-row-requires : tie.Need-read-row-requires Inv-loop μ-loop
 read-row-requires c κs =
     let a = c .before .before .before .before .before .args in
@@ -76,15 +62,12 @@ read-row-requires c κs =
     let first = 18 * (a .total + i .k) in
     (omega arith, length-take-le (first + 18 - first) (drop first (i .rows)) (omega (arith, length-drop first (i .rows), i .inv .1)) ∙ omega arith, omega (arith, i .inv .4))
 
--- src/lib.rt:303:9
 add-k : tie.Need-add-k Inv-loop μ-loop
 add-k c = omega arith
 
--- src/lib.rt:300:5
 loop-less : tie.Need-loop-less Inv-loop μ-loop
 loop-less c = omega arith
 
--- src/lib.rt:300:5
 loop-again : tie.Need-loop-again Inv-loop μ-loop
 loop-again c =
     let a = c .before .before .before .before .before .before .before .before .args in
@@ -100,11 +83,9 @@ loop-again c =
       omega (arith, r .ensures .near, i .inv .4),
     )
 
--- src/lib.rt:294:1
 same-length : tie.Need-same-length Inv-loop μ-loop
 same-length c = c .before .loop .inv .1
 
--- src/lib.rt:294:1
 returns : tie.Need-returns Inv-loop μ-loop
 returns c =
     let a = c .before .before .before .before .args in

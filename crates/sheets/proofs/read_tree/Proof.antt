@@ -1,48 +1,32 @@
 use borrow.Author.Needs.{needs}
-use native.Mathlib.Omega.{arith}
 use Rattle.sheets.proofs.Whole.{tree-is}
 use Rattle.sheets.proofs.read_tree.Statement.{statement}
 use Rattle.sheets.proofs.read_tree.Tie as tie
-use Rattle.sheets.proofs.read_tree.Reads as reads
-use Rattle.sheets.proofs.read_tree.Lts as lts
-use Rattle.bits.proofs.Cursor.new.Reads as new-reads
-use Rattle.shapes.proofs.end.Reads as end-reads
-use Rattle.shapes.proofs.ranged.Reads as ranged-reads
-use Rattle.shapes.proofs.read_node.Reads as read-node-reads
 
--- src/lib.rt:457:26
 new-requires : tie.Need-new-requires
 new-requires c κs = search needs
 
--- src/lib.rt:458:9
 ranged-requires : tie.Need-ranged-requires
 ranged-requires c κs = search needs
 
--- src/lib.rt:460:9
 ranged-requires-2 : tie.Need-ranged-requires-2
 ranged-requires-2 c κs = search needs
 
--- src/lib.rt:470:51
 slice-aggregate-read-node : tie.Need-slice-aggregate-read-node
 slice-aggregate-read-node c = search needs
 
--- src/lib.rt:470:65
 slice-aggregate-read-node-2 : tie.Need-slice-aggregate-read-node-2
 slice-aggregate-read-node-2 c = search needs
 
--- src/lib.rt:470:9
 read-node-requires : tie.Need-read-node-requires
 read-node-requires c κs = search needs
 
--- src/lib.rt:473:15
 end-requires : tie.Need-end-requires
 end-requires c κs = search needs
 
--- src/lib.rt:475:19
 cast-t18 : tie.Need-cast-t18
 cast-t18 c = search needs
 
--- src/lib.rt:454:1
 returns : tie.Need-returns
 returns c =
     let read = c .before .before .before .before .read-node in

@@ -6,34 +6,25 @@ use borrow.Author.Tests.{le-leb, lt-leb}
 use Rattle.bits.specs.Bits.{fieldAt}
 use Rattle.bits.proofs.Cursor.field.Statement.{statement}
 use Rattle.bits.proofs.Cursor.field.Tie as tie
-use Rattle.bits.proofs.Cursor.field.Reads as reads
-use Rattle.bits.proofs.Cursor.field.Lts as lts
-use Rattle.bits.proofs.value.Reads as value-reads
 
--- src/lib.rt:32:13
 add-if1 : tie.Need-add-if1
 add-if1 c = search needs
 
--- src/lib.rt:32:13
 add-if1-2 : tie.Need-add-if1-2
 add-if1-2 c = search needs
 
--- src/lib.rt:33:26
 value-requires : tie.Need-value-requires
 value-requires c κs = search needs
 
--- src/lib.rt:33:60
 add-t12 : tie.Need-add-t12
 add-t12 c = search needs
 
--- src/lib.rt:27:5
 returns : tie.Need-returns
 unfolding fieldAt
 returns c =
     let a = c .before .before .before .args in
     simp (le-leb (a .self .at + a .width) (8 * length (a .s .now)) (omega arith), ← c .value .ensures .0)
 
--- src/lib.rt:27:5
 returns-2 : tie.Need-returns-2
 unfolding fieldAt
 returns-2 c =
