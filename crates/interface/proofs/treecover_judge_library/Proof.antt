@@ -29,7 +29,7 @@ library-number-requires c κs = search needs
 
 refusal-requires : tie.Need-refusal-requires
 unfolding ofLibraryJudged Limited
-refusal-requires c κs = (omega (arith, c .library-number .ensures .1), subst (λ (q : LibraryJudged). Limited (ofLibraryJudged q)) (c .before .before .judged2 .given .1) (c .before .before .before .before .judge-library .ensures .1))
+refusal-requires c κs = (omega (arith, c .library-number .ensures .1), omega (arith, subst (λ (q : LibraryJudged). Limited (ofLibraryJudged q)) (c .before .before .judged2 .given .1) (c .before .before .before .before .judge-library .ensures .1)))
 
 returns : tie.Need-returns
 unfolding ofLibraryJudged word

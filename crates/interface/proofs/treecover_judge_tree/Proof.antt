@@ -21,7 +21,7 @@ tree-number-requires c κs = search needs
 
 refusal-requires : tie.Need-refusal-requires
 unfolding ofTreeJudged Limited
-refusal-requires c κs = (omega (arith, c .tree-number .ensures .1), subst (λ (q : TreeJudged). Limited (ofTreeJudged q)) (c .before .before .judged2 .given .1) (c .before .before .before .before .judge-tree .ensures .1))
+refusal-requires c κs = (omega (arith, c .tree-number .ensures .1), omega (arith, subst (λ (q : TreeJudged). Limited (ofTreeJudged q)) (c .before .before .judged2 .given .1) (c .before .before .before .before .judge-tree .ensures .1)))
 
 returns : tie.Need-returns
 unfolding ofTreeJudged word
