@@ -6,7 +6,7 @@ use mathlib.Core.Bool.{true}
 use borrow.Author.Tests.{eq-eqb}
 use native.Mathlib.Decide.{decLt, ℕ-discrete}
 use Prim.Native.Nat.{ℕ, zero, suc, _+_, _-_, _*_, _/_, _%_, _^_, _≤_, _<_}
-use native.Mathlib.Nat.{pow-suc, pow-succ', add-mul, mul-assoc, add-assoc, mod-lt, mod-eq-of-lt, div-lt-iff-lt-mul, mul-left-comm, lt-of-lt-of-le, zero-mod}
+use native.Mathlib.Nat.{pow-suc, pow-succ', add-mul, mul-assoc, add-assoc, mod-lt, div-lt-iff-lt-mul, mul-left-comm, lt-of-lt-of-le, zero-mod}
 use native.Mathlib.Omega.{arith}
 use native.Mathlib.Numerals.{add-one}
 use lib.Pow.{pow-pos, pow-mono, pow-add, shr-shr, high, low, field, mod-mod-pow, mod-pow-add}

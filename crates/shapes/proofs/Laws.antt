@@ -2,7 +2,7 @@
 use mathlib.Core.Path.{_≡_, refl, sym, ap, subst, _∙_}
 use mathlib.Core.List.{List, _∷_, [], _++_}
 use mathlib.Core.Bool.{Bool, true, false, cond, _&&_}
-use Prim.Native.Nat.{ℕ, zero, suc, _+_, _-_, _*_, _≤_, _<_, _^_}
+use Prim.Native.Nat.{ℕ, zero, suc, _+_, _*_, _≤_, _<_, _^_}
 use native.Mathlib.Omega.{arith}
 use native.Mathlib.Nat.{lt-of-lt-of-le}
 use lib.Pow.{pow-mono}
@@ -10,7 +10,7 @@ use lib.ListN.{length, getD, length-append}
 use lib.Seq.{slice, slice-cons}
 use native.Mathlib.Numerals.{add-one}
 use lib.Dec.{leb, eqb}
-use borrow.Author.Tests.{leb-true, leb-false, le-leb, lt-leb, eq-eqb, ne-eqb}
+use borrow.Author.Tests.{leb-true, leb-false, eq-eqb, ne-eqb}
 use Rattle.bits.specs.Bits.{fieldAt, valueAt, cursorAt, endsAt}
 use Rattle.bits.proofs.Laws.{value-small}
 use Rattle.bits.specs.declared.Cursor.{Cursor}
@@ -25,7 +25,7 @@ use Rattle.shapes.specs.declared.Verdict.the-variants.{Sound, Faulty}
 use Rattle.shapes.specs.Reading.{Reader, times, place, free, within, field, found, settled, ended}
 use Rattle.shapes.specs.Promises.{Reads, Live, Coded, settling, settlingAt}
 use Rattle.shapes.specs.declared.Rules.{Rules}
-use Rattle.shapes.specs.Drawing.{elem, codeVerdict, leafVerdict}
+use Rattle.shapes.specs.Drawing.{elem, codeVerdict}
 
 -- ---- a field of any value
 

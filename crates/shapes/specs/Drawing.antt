@@ -2,10 +2,9 @@
 -- 2 is NAND, followed by its two branches, each again a node. Code 3 is out of range."
 use Prim.Native.Nat.{ℕ, zero, suc}
 use mathlib.Core.List.{List, [], _∷_, _++_}
-use mathlib.Core.Bool.{Bool, true, false, cond, _&&_, _||_}
+use mathlib.Core.Bool.{Bool, false, cond, _&&_, _||_}
 use lib.ListN.{length}
 use lib.Dec.{leb, eqb}
-use Rattle.shapes.specs.declared.Fault.{Fault}
 use Rattle.shapes.specs.declared.Fault.the-variants.{Range, Drawing, Size}
 use Rattle.shapes.specs.declared.Rules.{Rules}
 use Rattle.shapes.specs.declared.Verdict.{Verdict}

@@ -2,7 +2,7 @@
 use bits::Cursor;
 use bits::Field;
 ghost use mathlib.Core.Path.{_≡_};
-ghost use Prim.Native.Nat.{ℕ, _+_, _-_, _*_, _<_, _≤_, _^_};
+ghost use Prim.Native.Nat.{_+_, _-_, _<_, _≤_, _^_};
 ghost use lib.ListN.{length, take, set};
 ghost use Rattle.shapes.specs.Reading.{place, free, within, field, ended};
 ghost use Rattle.shapes.specs.Drawing.{elem, codeVerdict, leafVerdict};

@@ -1,17 +1,16 @@
 -- Laws about cells, and about the whole of each sheet.
-use mathlib.Core.Path.{_≡_, refl, sym, ap, ap₂, subst, subst₂, _∙_}
+use mathlib.Core.Path.{_≡_, refl, sym, ap, ap₂, subst, _∙_}
 use mathlib.Core.List.{List, [], _∷_, _++_, map, map-append, append-assoc, append-nil}
-use Prim.Native.Nat.{ℕ, zero, suc, _+_, _-_, _*_, _≤_, _<_}
+use Prim.Native.Nat.{ℕ, zero, suc, _+_}
 use native.Mathlib.Nat.{zero-add, add-zero, add-suc, suc-add}
-use native.Mathlib.Numerals.{add-one}
 use native.Mathlib.Omega.{arith}
-use lib.ListN.{length, set, replicate, length-map, length-append}
+use lib.ListN.{length, set, length-map, length-append}
 use Rattle.shapes.specs.declared.Got.{Got}
 use Rattle.shapes.specs.declared.Scan.{Scan}
 use Rattle.shapes.specs.declared.Fault.{Fault}
 use Rattle.shapes.specs.declared.Scan.the-variants.{At, Refused}
 use Rattle.shapes.specs.Shape.{Shape}
-use Rattle.shapes.specs.Reading.{Reader, place, times, field}
+use Rattle.shapes.specs.Reading.{Reader, times, field}
 use Rattle.shapes.specs.Promises.{Live}
 use Rattle.shapes.proofs.Laws.{length-times, times-value, times-scan}
 use Rattle.sheets.specs.declared.HeadRead.{HeadRead}

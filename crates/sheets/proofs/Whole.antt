@@ -1,8 +1,8 @@
 -- Laws about the whole of each sheet.
-use mathlib.Core.Path.{_≡_, refl, sym, ap, ap₂, subst, subst₂, _∙_}
+use mathlib.Core.Path.{_≡_, refl, sym, ap, ap₂, subst, _∙_}
 use mathlib.Core.List.{List, [], map}
 use mathlib.Core.Bool.{Bool, true, false, cond}
-use Prim.Native.Nat.{ℕ, _+_, _*_, _≤_, _<_}
+use Prim.Native.Nat.{ℕ, _+_}
 use native.Mathlib.Nat.{zero-add}
 use native.Mathlib.Omega.{arith}
 use lib.ListN.{length, replicate}
@@ -14,7 +14,7 @@ use Rattle.shapes.specs.declared.Fault.the-variants.{Tail}
 use Rattle.shapes.specs.declared.Got.{Got}
 use Rattle.shapes.specs.declared.Scan.{Scan}
 use Rattle.shapes.specs.declared.Scan.the-variants.{At, Refused}
-use Rattle.shapes.specs.Shape.{Shape, symbols, sizes}
+use Rattle.shapes.specs.Shape.{symbols, sizes}
 use Rattle.shapes.specs.Reading.{place, times, field, within, ended}
 use Rattle.shapes.specs.Drawing.{shape, node}
 use Rattle.shapes.specs.Promises.{Live, Reads, Laid, NodeRead}

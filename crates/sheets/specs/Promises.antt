@@ -1,8 +1,8 @@
 -- What the readers of this crate promise, each by the sheets' definitions. The bound on the place is what the next reader needs.
 use Prim.Native.Nat.{ℕ, _+_, _*_, _≤_, _<_}
 use mathlib.Core.Path.{_≡_}
-use mathlib.Core.List.{List, [], _∷_, _++_, map}
-use lib.ListN.{length, replicate}
+use mathlib.Core.List.{List, [], map}
+use lib.ListN.{length}
 use lib.Seq.{sets}
 use Rattle.shapes.specs.declared.Scan.{Scan}
 use Rattle.shapes.specs.Reading.{Reader, place, times, field}
@@ -19,7 +19,7 @@ use Rattle.sheets.specs.declared.CellRead.{CellRead}
 use Rattle.sheets.specs.declared.CellsRead.{CellsRead}
 use Rattle.sheets.specs.declared.LibraryRead.{LibraryRead}
 use Rattle.sheets.specs.declared.TreeRead.{TreeRead}
-use Rattle.sheets.specs.Model.{Pin, Shape, size, Cell, patternsFrom}
+use Rattle.sheets.specs.Model.{Pin, size, Cell, patternsFrom}
 use Rattle.sheets.specs.LibrarySheet.{binLoad, head, pin, pattern, countVerdict, drawings, cell, library}
 use Rattle.sheets.specs.TreeSheet.{tree}
 use Rattle.sheets.specs.Layout.{padded, blankCell, cellLaid, row, rowsFrom, patternRows, libraryLaid, treeLaid}

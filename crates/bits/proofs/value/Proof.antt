@@ -1,6 +1,6 @@
 use native.Mathlib.Omega.{arith}
 use Prim.Native.Nat.{_≤_, _<_, _-_, _^_, _+_}
-use mathlib.Core.Path.{_≡_, refl, sym, _∙_}
+use mathlib.Core.Path.{_≡_, refl, _∙_}
 use Rattle.bits.specs.Bits.{valueAt}
 use Rattle.bits.proofs.Laws.{value-small, value-more}
 use Rattle.bits.proofs.value.Statement.{statement}
