@@ -1,5 +1,5 @@
 //! With the feature `product`, links the static library `lib$TREECOVER_LIB_NAME.a`
-//! (default name `treecover`) found in the directory `$TREECOVER_LIB_DIR`.
+//! (default name `interface`) found in the directory `$TREECOVER_LIB_DIR`.
 
 use std::env;
 
@@ -17,7 +17,7 @@ fn link_product() {
         eprintln!("the feature product needs TREECOVER_LIB_DIR, the static library's directory");
         std::process::exit(1);
     };
-    let name = env::var("TREECOVER_LIB_NAME").unwrap_or_else(|_| "treecover".to_string());
+    let name = env::var("TREECOVER_LIB_NAME").unwrap_or_else(|_| "interface".to_string());
     println!("cargo:rerun-if-changed={directory}/lib{name}.a");
     println!("cargo:rustc-link-search=native={directory}");
     println!("cargo:rustc-link-lib=static={name}");

@@ -61,7 +61,7 @@ impl Writer {
     /// Appends the low `width` bits of `value`.
     pub fn put(&mut self, value: u32, width: usize) {
         for shift in (0..width).rev() {
-            if self.at % 8 == 0 {
+            if self.at.is_multiple_of(8) {
                 self.bytes.push(0);
             }
             let bit = (value >> shift & 1) as u8;

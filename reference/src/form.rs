@@ -26,6 +26,23 @@ pub enum Role {
 }
 
 impl Role {
+    pub const OF_LIBRARY: [Role; 13] = [
+        Role::BinCount,
+        Role::BinLoad,
+        Role::CellCount,
+        Role::Hold,
+        Role::Area,
+        Role::HighestLoad,
+        Role::PinCount,
+        Role::PinBin,
+        Role::Intrinsic,
+        Role::Drive,
+        Role::PatternCount,
+        Role::Code,
+        Role::PinNumber,
+    ];
+    pub const OF_TREE: [Role; 4] = [Role::RootLoad, Role::Required, Role::Code, Role::Arrival];
+
     pub fn width(self) -> usize {
         match self {
             Role::Hold => 1,

@@ -33,8 +33,9 @@ pub fn list(library: &Library, tree: &Tree) -> Result<Vec<Pair>, Refusal> {
 struct Curves<'a> {
     library: &'a Library,
     shape: &'a Shape,
-    /// By node; filled from the highest down.
+    /// By node.
     matches: Vec<Vec<Match<'a>>>,
+    /// By node and bin; filled from the highest node down.
     below: Vec<Vec<Curve>>,
     root: Curve,
 }

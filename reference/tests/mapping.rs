@@ -108,6 +108,9 @@ fn chosen_problems_end_as_stated() {
             },
         };
         assert_eq!(outcome, chosen.outcome, "{}", chosen.name);
+        if let Some(listing) = Listing::new(library, tree, 3_000) {
+            assert_eq!(merging::list(library, tree), listing.list(), "{}", chosen.name);
+        }
     }
 }
 
@@ -122,7 +125,7 @@ fn deadlines_agree_with_merging() {
         let problem = problem(&mut rng, style);
         let (library, tree) = (problem.library_sheet(), problem.tree_sheet());
         let operation = if turn % 3 == 0 { Operation::List } else { Operation::Map };
-        work.iter_mut().for_each(|word| *word = rng.next());
+        work.iter_mut().for_each(|word| *word = rng.word());
         let sheet =
             deadline::run(operation, &library, &tree, &mut output, &mut work).map(|length| output[..length].to_vec());
         assert_eq!(sheet, operation.run(Lent::ENOUGH, &library, &tree), "{problem:?}");

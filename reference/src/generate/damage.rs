@@ -53,7 +53,7 @@ pub fn damaged(rng: &mut Rng, kind: Kind, faults: usize) -> Vec<u8> {
 
 fn noise(rng: &mut Rng) -> Vec<u8> {
     let length = rng.below(40);
-    (0..length).map(|_| rng.next() as u8).collect()
+    (0..length).map(|_| rng.word() as u8).collect()
 }
 
 fn damage_form(rng: &mut Rng, form: &mut Form) {

@@ -21,6 +21,7 @@ pub fn stored() -> Stored {
     long_ends(&mut stored);
     edges(&mut stored, Kind::Library, &Form::of_library(&specimen::rich_library()));
     overgrown(&mut stored);
+    torn_fields(&mut stored);
     large(&mut stored);
     random(&mut stored, 160, |rng, kind| any_form(rng, kind).bytes());
     random(&mut stored, 360, |rng, kind| damaged(rng, kind, 1));
@@ -92,6 +93,28 @@ fn with_inverters(form: &Form, code: usize, count: usize) -> Form {
     let mut grown = form.clone();
     grown.fields.splice(code..code, vec![Field { role: Role::Code, value: 1 }; count]);
     grown
+}
+
+/// Each kind of field torn, five times.
+fn torn_fields(stored: &mut Stored) {
+    let mut rng = Rng::new(2);
+    let of_library = Role::OF_LIBRARY.map(|role| (Kind::Library, role));
+    let of_tree = Role::OF_TREE.map(|role| (Kind::Tree, role));
+    for (kind, role) in of_library.into_iter().chain(of_tree) {
+        for _ in 0..5 {
+            let cut = std::iter::repeat_with(|| cut_in(&any_form(&mut rng, kind), role));
+            let mut short = cut.flatten().filter(|sheet| sheet.len() < 200);
+            add(stored, kind, &short.next().expect("a sheet torn there"));
+        }
+    }
+}
+
+/// The sheet cut after some byte so that the first field not whole is of this role.
+fn cut_in(form: &Form, role: Role) -> Option<Vec<u8>> {
+    let length = |field: usize| (form.place(field + 1) - 1) / 8;
+    let torn = |&field: &usize| length(field) * 8 >= form.place(field);
+    let field = form.find(role).into_iter().rev().find(torn)?;
+    Some(form.bytes()[..length(field)].to_vec())
 }
 
 fn large(stored: &mut Stored) {

@@ -76,8 +76,8 @@ fn lent(rng: &mut Rng, operation: Operation) -> Lent {
 
 /// Output and work area as they are before the call.
 fn junk(rng: &mut Rng, lent: Lent) -> Answer {
-    let output = (0..lent.output).map(|_| rng.next() as u8).collect();
-    let work = (0..lent.work).map(|_| rng.next()).collect();
+    let output = (0..lent.output).map(|_| rng.word() as u8).collect();
+    let work = (0..lent.work).map(|_| rng.word()).collect();
     Answer { coded: 0, output, work }
 }
 

@@ -9,6 +9,7 @@ use crate::shape::Step::Leaf;
 pub fn add(table: &mut Table) {
     held_grades(table);
     held_best(table);
+    held_twins(table);
     shut_out(table);
     shut_out_at_root(table);
 }
@@ -30,6 +31,19 @@ fn held_best(table: &mut Table) {
     let better = library(&[1], vec![held.clone(), cell(9, 255, pin(0, 9, 0), INVERTER), held]);
     table.add("better ones held", &better, 1, INVERTER, Outcome::Single(9, 9));
     table.add("better ones held twice", &better, 1, &chain(2, &[Leaf(1)]), Outcome::Single(19, 18));
+}
+
+/// Held cells that would reach the same point and stand before the free one.
+fn held_twins(table: &mut Table) {
+    let free = cell(1, 255, pin(0, 0, 0), INVERTER);
+    let held = Cell { held: true, ..free.clone() };
+    for cells in [vec![held.clone(), free.clone()], vec![held.clone(), held.clone(), free.clone(), held.clone()]] {
+        let twins = library(&[1, 2], cells);
+        for length in [1, 2, 5] {
+            let outcome = Outcome::Single(3, length as u32);
+            table.add("held twins", &twins, 1, &chain(length, &[Leaf(3)]), outcome);
+        }
+    }
 }
 
 /// A good cell up to some load, and a poor one for every load, above and below.
