@@ -202,6 +202,10 @@ node-dead s rules zero seen c h = refl
 node-dead s rules (suc d) seen (At c) h = absurd (h tt)
 node-dead s rules (suc d) seen (Refused f p) h = refl
 
+pub node-live : (s : List ℕ) (rules : Rules) (d : ℕ) (seen : List ℕ) (c : Scan) → Live (node s rules d seen c .1) → Live c
+node-live s rules d seen (At c) h = tt
+node-live s rules d seen (Refused f p) h = subst Live (node-dead s rules d seen (Refused f p) (λ q. q)) h
+
 -- One run of nodes after another is one run.
 run-laid : (n : ℕ) (l m l₁ m₁ l₂ m₂ : List ℕ) (first r : Branch) (after₁ after₂ : Scan) (ss₁ zs₁ ss₂ zs₂ : List ℕ) → Live (first .scan) → length zs₁ ≡ length ss₁ →
     Laid n l m l₁ m₁ first after₁ ss₁ zs₁ → Laid (first .next) l₁ m₁ l₂ m₂ r after₂ ss₂ zs₂ → Laid n l m l₂ m₂ r after₂ (ss₁ ++ ss₂) (zs₁ ++ zs₂)

@@ -167,14 +167,20 @@ reads-found s w scan c f r h e ef er =
     reads-field s w free scan r 16777215 (er ∙ ap (found (c .at) free) ef ∙ sym (ap (field s w free) e)) (free-passes w h)
 
 -- What a range lets pass.
-pub range-passes : (least most x : ℕ) → within least most x ≡ Sound → x ≤ most
+in-range : (least most x : ℕ) → within least most x ≡ Sound → (least ≤ x) × (x ≤ most)
 unfolding within
-range-passes least most x e = go (leb least x) (leb x most) refl e
+in-range least most x e = go (leb least x) (leb x most) refl refl e
   where
-    go : (a b : Bool) → leb x most ≡ b → cond (a && b) Sound (Faulty Range) ≡ Sound → x ≤ most
-    go true true m e = leb-true x most m
-    go true false m e = let z : _≡_ {A = ℕ} 0 1 = cc in omega arith
-    go false b m e = let z : _≡_ {A = ℕ} 0 1 = cc in omega arith
+    go : (a b : Bool) → leb least x ≡ a → leb x most ≡ b → cond (a && b) Sound (Faulty Range) ≡ Sound → (least ≤ x) × (x ≤ most)
+    go true true l m e = (leb-true least x l, leb-true x most m)
+    go true false l m e = let z : _≡_ {A = ℕ} 0 1 = cc in absurd (omega arith)
+    go false b l m e = let z : _≡_ {A = ℕ} 0 1 = cc in absurd (omega arith)
+
+pub range-least : (least most x : ℕ) → within least most x ≡ Sound → least ≤ x
+range-least least most x e = in-range least most x e .0
+
+pub range-passes : (least most x : ℕ) → within least most x ≡ Sound → x ≤ most
+range-passes least most x e = in-range least most x e .1
 
 pub within-passes : (least most w : ℕ) → Passes (within least most) w most
 within-passes least most w x l e = range-passes least most x e

@@ -94,7 +94,7 @@ cell-live s bins total (Refused f p) h =
 
 -- ---- the patterns of cells, numbered through the sheet
 
-length-drawn : (n : ℕ) (c : Cell) (ds : List Shape) → length (drawn n c ds) ≡ length ds
+pub length-drawn : (n : ℕ) (c : Cell) (ds : List Shape) → length (drawn n c ds) ≡ length ds
 unfolding drawn
 length-drawn n c [] = refl
 length-drawn n c (d ∷ ds) = ap suc (length-drawn n c ds)

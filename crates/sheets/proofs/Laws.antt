@@ -17,7 +17,7 @@ use borrow.Author.Tests.{leb-true}
 use lib.Dec.{leb}
 use Rattle.shapes.proofs.Laws.{length-times, times-value, times-scan, positive-live, live-sound, range-passes}
 use Rattle.shapes.proofs.Sets.{sets-append, set-sets, take-sets, mid-sets}
-use Rattle.shapes.proofs.Drawn.{live?, length-symbols, node-dead}
+use Rattle.shapes.proofs.Drawn.{live?, length-symbols, node-live}
 use borrow.Rule.Slice.PartMut.{putMid}
 use Rattle.shapes.specs.declared.Scan.the-variants.{At, Refused}
 use Rattle.shapes.specs.declared.Branch.{Branch}
@@ -61,6 +61,11 @@ pub complete-dead : (whole : Bool) (first : ℕ) (c : Scan) → (Live c → ⊥)
 unfolding complete
 complete-dead whole first (At c) h = absurd (h tt)
 complete-dead whole first (Refused f p) h = refl
+
+pub complete-live : (whole : Bool) (first : ℕ) (c : Scan) → Live (complete whole first c) → Live c
+unfolding complete
+complete-live whole first (At c) h = tt
+complete-live whole first (Refused f p) h = h
 
 pub complete-whole : (first : ℕ) (c : Scan) → complete true first c ≡ c
 unfolding complete
@@ -157,13 +162,9 @@ row-is s pins number scan l ys r e h =
 -- A refused scan stays as it is.
 pub pattern-live : (s : List ℕ) (pins : ℕ) (xs : List Shape) (c : Scan) → Live (pattern s pins xs c .1) → Live c
 unfolding pattern shape
-pattern-live s pins xs (At c) h = tt
-pattern-live s pins xs (Refused f p) h =
-    let x = shape s (patternRules pins) (Refused f p) in
-    let dead : x .1 ≡ Refused f p = node-dead s (patternRules pins) 17 [] (Refused f p) (λ q. q) in
-    let gone : complete (hasAll pins (symbols (x .0))) p (x .1) ≡ Refused f p =
-    ap (complete (hasAll pins (symbols (x .0))) p) dead ∙ complete-dead (hasAll pins (symbols (x .0))) p (Refused f p) (λ q. q) in
-    subst Live gone h
+pattern-live s pins xs c h =
+    let x = shape s (patternRules pins) c in
+    node-live s (patternRules pins) 17 [] c (complete-live (hasAll pins (symbols (x .0))) (place c) (x .1) h)
 
 -- ---- the table of rows
 

@@ -2,3 +2,4 @@
 pub mod Laws
 pub mod Cells
 pub mod Whole
+pub mod Sound

@@ -2,7 +2,8 @@
 use Prim.Native.Nat.{ℕ, suc}
 use mathlib.Core.List.{List, [], _∷_, _++_}
 use mathlib.Core.Bool.{Bool}
-pub use Rattle.shapes.specs.Shape.{Shape, leaf, inv, nand, size, leaves}
+pub use Rattle.shapes.specs.Shape.{Shape, leaf, inv, nand}
+unfoldable pub use Rattle.shapes.specs.Shape.{size, leaves}
 
 -- One input pin of a cell: the number of its load bin, its intrinsic delay and its drive.
 pub record Pin : Type 0 where

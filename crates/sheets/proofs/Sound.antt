@@ -1,0 +1,284 @@
+-- What the sheets' definitions read from sound bytes keeps every limit.
+use mathlib.Core.Path.{_≡_, sym, subst}
+use mathlib.Core.Logic.{⊎-elim}
+use mathlib.Core.List.{List, [], _∷_, _++_, List·Memᴰ, List·Memᴰ·append-cases, List·Memᴰ·eq-of-singleton, List·Memᴰ·not-nil}
+use Prim.Native.Nat.{ℕ, zero, suc, _+_, _-_, _≤_, _<_}
+use native.Mathlib.Omega.{arith}
+use lib.ListN.{length, length-append}
+use Rattle.shapes.specs.declared.Rules.{Rules}
+use Rattle.shapes.specs.declared.Scan.{Scan}
+use Rattle.shapes.specs.declared.Verdict.the-variants.{Sound}
+use Rattle.shapes.specs.Reading.{Reader, place, times, within, field}
+use Rattle.shapes.specs.Shape.{symbols}
+use Rattle.shapes.specs.Drawing.{codeVerdict, leafVerdict, leafNode, pair, branch, node, shape}
+use Rattle.shapes.specs.Promises.{Live}
+use Rattle.shapes.proofs.Laws.{live-sound, range-least, range-passes, code-room, length-times}
+use Rattle.shapes.proofs.Drawn.{leaf-passes, length-symbols, node-live}
+use Rattle.sheets.specs.Model.{Shape, leaf, inv, nand, size, leaves, Pin, Cell, Library, Tree, patternsFrom, patterns}
+use Rattle.sheets.specs.LibrarySheet.{Head, last, binLoad, head, pin, patternRules, hasAll, complete, pattern, countVerdict, drawings, cell, bins, cells, library}
+use Rattle.sheets.specs.TreeSheet.{tree, treeRules}
+use Rattle.sheets.specs.Promises.{cellAfter}
+use Rattle.sheets.specs.Report.{start}
+use Rattle.sheets.proofs.Laws.{complete-live, count-fits}
+use Rattle.sheets.proofs.Cells.{length-drawn, patterns-more}
+use Rattle.sheets.proofs.Whole.{ended-live}
+
+-- An inverter or a NAND.
+abbrev pub IsGate : Shape → Type 0
+IsGate (leaf x) = ⊥
+IsGate (inv a) = Unit {0}
+IsGate (nand a b) = Unit {0}
+
+-- A drawing of a cell with so many pins.
+pub record SoundDrawing (pins : ℕ) (d : Shape) : Type 0 where
+  pub size : size d ≤ 16
+  pub gate : IsGate d
+  pub leaves : (x : ℕ) → List·Memᴰ x (leaves d) → x < pins
+
+-- A pin and a cell of a library with so many bins.
+abbrev pub SoundPin : ℕ → Pin → Type 0
+SoundPin bins p = (p .bin < bins) × (p .intrinsic ≤ 65535) × (p .drive ≤ 255)
+
+pub record SoundCell (bins : ℕ) (c : Cell) : Type 0 where
+  pub some-area : 1 ≤ c .area
+  pub area : c .area ≤ 65535
+  pub highest : c .highest ≤ 255
+  pub some-pin : 1 ≤ length (c .pins)
+  pub few-pins : length (c .pins) ≤ 6
+  pub pins : (p : Pin) → List·Memᴰ p (c .pins) → SoundPin bins p
+  pub drawings : (d : Shape) → List·Memᴰ d (c .drawings) → SoundDrawing (length (c .pins)) d
+
+pub record SoundLibrary (l : Library) : Type 0 where
+  pub some-bin : 1 ≤ length (l .bins)
+  pub few-bins : length (l .bins) ≤ 4
+  pub loads : (x : ℕ) → List·Memᴰ x (l .bins) → x ≤ 255
+  pub few-cells : length (l .cells) ≤ 64
+  pub few-patterns : length (patterns l) ≤ 128
+  pub cells : (c : Cell) → List·Memᴰ c (l .cells) → SoundCell (length (l .bins)) c
+
+pub record SoundTree (t : Tree) : Type 0 where
+  pub load : t .load ≤ 255
+  pub required : t .required ≤ 16777215
+  pub size : size (t .shape) ≤ 64
+  pub leaves : (x : ℕ) → List·Memᴰ x (leaves (t .shape)) → x ≤ 1000000
+
+-- ---- readers
+
+-- What the reader reads without a refusal has the property, and there was no refusal before.
+abbrev Keeps : {A : Type 0} → (A → Type 0) → Reader A → Type 0
+Keeps P r = (c : Scan) → Live (r c .1) → P (r c .0) × Live c
+
+field-keeps : (s : List ℕ) (w least most : ℕ) → Keeps (λ x. (least ≤ x) × (x ≤ most)) (field s w (within least most))
+field-keeps s w least most c l =
+    let h = live-sound s w (within least most) c l in
+    let x = field s w (within least most) c .0 in
+    ((range-least least most x (h .0), range-passes least most x (h .0)), h .1)
+
+-- All that is read in n turns has the property that each turn keeps.
+times-all : {A : Type 0} (P : A → Type 0) (r : List A → Reader A) → ((before : List A) → Keeps P (r before)) →
+    (n : ℕ) → Keeps (λ xs. (x : A) → List·Memᴰ x xs → P x) (times n r)
+unfolding times
+times-all P r h zero c l = ((λ x m. absurd (List·Memᴰ·not-nil m)), l)
+times-all P r h (suc n) c l =
+    let xs = times n r c in
+    let one = h (xs .0) (xs .1) l in
+    let all = times-all P r h n c (one .1) in
+    ((λ x m. ⊎-elim (all .0 x) (λ k. subst P (sym (List·Memᴰ·eq-of-singleton k)) (one .0)) (List·Memᴰ·append-cases (xs .0) m)), all .1)
+
+-- ---- shapes
+
+-- A shape drawn after n nodes.
+record Drawn (rules : Rules) (n : ℕ) (x : Shape) : Type 0 where
+  nodes : n + size x ≤ rules .nodes
+  numbers : (y : ℕ) → List·Memᴰ y (leaves x) → y ≤ rules .most
+
+module _ (s : List ℕ) (rules : Rules) where
+  branch-live : (d : ℕ) (seen : List ℕ) (code : ℕ) (c : Scan) → Live (branch s rules (node s rules d) seen code c .1) → Live c
+  unfolding branch leafNode pair
+  branch-live d seen zero c l = live-sound s (rules .width) (leafVerdict rules seen) c l .1
+  branch-live d seen (suc zero) c l = node-live s rules d (seen ++ (0 ∷ [])) c l
+  branch-live d seen (suc (suc k)) c l =
+      let a = node s rules d (seen ++ (1 ∷ [])) c in
+      node-live s rules d (seen ++ (1 ∷ [])) c (node-live s rules d ((seen ++ (1 ∷ [])) ++ symbols (a .0)) (a .1) l)
+
+  -- The depth does not run out before the nodes allowed do.
+  abbrev NodesDrawn : ℕ → Type 0
+  NodesDrawn d = (seen : List ℕ) (c : Scan) → length seen ≤ rules .nodes → rules .nodes < d + length seen →
+      Live (node s rules d seen c .1) → Drawn rules (length seen) (node s rules d seen c .0)
+
+  branch-drawn : (d : ℕ) → NodesDrawn d → (seen : List ℕ) (code : ℕ) (c : Scan) → length seen < rules .nodes → rules .nodes ≤ d + length seen →
+      let x = branch s rules (node s rules d) seen code c in Live (x .1) → Drawn rules (length seen) (x .0)
+  unfolding branch leafNode pair size leaves
+  branch-drawn d below seen zero c room deep l =
+      let x = field s (rules .width) (leafVerdict rules seen) c .0 in
+      let small : x ≤ rules .most = leaf-passes rules seen x (live-sound s (rules .width) (leafVerdict rules seen) c l .0) in
+      record { nodes = omega arith; numbers = λ y m. omega (arith, List·Memᴰ·eq-of-singleton m) }
+  branch-drawn d below seen (suc zero) c room deep l =
+      let grown = length-append seen (0 ∷ []) in
+      let a = below (seen ++ (0 ∷ [])) c (omega arith) (omega arith) l in
+      record { nodes = omega (arith, a .nodes); numbers = a .numbers }
+  branch-drawn d below seen (suc (suc k)) c room deep l =
+      let first = seen ++ (1 ∷ []) in
+      let x = node s rules d first c in
+      let second = first ++ symbols (x .0) in
+      let grown = length-append seen (1 ∷ []) in
+      let again = length-append first (symbols (x .0)) in
+      let counted = length-symbols (x .0) in
+      let a = below first c (omega arith) (omega arith) (node-live s rules d second (x .1) l) in
+      let b = below second (x .1) (omega (arith, a .nodes)) (omega arith) l in
+      record {
+        nodes = omega (arith, a .nodes, b .nodes);
+        numbers = λ z m. ⊎-elim (a .numbers z) (b .numbers z) (List·Memᴰ·append-cases (leaves (x .0)) m);
+      }
+
+  node-drawn : (d : ℕ) → NodesDrawn d
+  unfolding node
+  node-drawn zero seen c h deep l = absurd (omega arith)
+  node-drawn (suc d) seen c h deep l =
+      let v = codeVerdict rules (length seen) in
+      let code = field s 2 v c in
+      let room = code-room rules (length seen) (code .0) (live-sound s 2 v c (branch-live d seen (code .0) (code .1) l) .0) .0 in
+      branch-drawn d (node-drawn d) seen (code .0) (code .1) room (omega arith) l
+
+  shape-keeps : Keeps (Drawn rules 0) (shape s rules)
+  unfolding shape
+  shape-keeps c l = (node-drawn (suc (rules .nodes)) [] c (omega arith) (omega arith) l, node-live s rules (suc (rules .nodes)) [] c l)
+
+-- ---- cells
+
+bin-keeps : (s before : List ℕ) → Keeps (λ x. x ≤ 255) (binLoad s before)
+unfolding binLoad
+bin-keeps s before c l = let h = field-keeps s 8 (suc (last before)) 255 c l in (h .0 .1, h .1)
+
+record SoundHead (h : Head) : Type 0 where
+  some-area : 1 ≤ h .area
+  area : h .area ≤ 65535
+  highest : h .highest ≤ 255
+  some-pin : 1 ≤ h .pins
+  few-pins : h .pins ≤ 6
+
+head-keeps : (s : List ℕ) → Keeps SoundHead (head s)
+unfolding head
+head-keeps s c l =
+    let held = field s 1 (within 0 1) c in
+    let area = field s 16 (within 1 65535) (held .1) in
+    let highest = field s 8 (within 0 255) (area .1) in
+    let pins-in = field-keeps s 3 1 6 (highest .1) l in
+    let highest-in = field-keeps s 8 0 255 (area .1) (pins-in .1) in
+    let area-in = field-keeps s 16 1 65535 (held .1) (highest-in .1) in
+    let held-in = field-keeps s 1 0 1 c (area-in .1) in
+    (record { some-area = area-in .0 .0; area = area-in .0 .1; highest = highest-in .0 .1; some-pin = pins-in .0 .0; few-pins = pins-in .0 .1 }, held-in .1)
+
+pin-keeps : (s : List ℕ) (bins : ℕ) (before : List Pin) → Keeps (λ p. 1 ≤ bins → SoundPin bins p) (pin s bins before)
+unfolding pin
+pin-keeps s bins before c l =
+    let bin = field s 2 (within 0 (bins - 1)) c in
+    let intrinsic = field s 16 (within 0 65535) (bin .1) in
+    let drive-in = field-keeps s 8 0 255 (intrinsic .1) l in
+    let intrinsic-in = field-keeps s 16 0 65535 (bin .1) (drive-in .1) in
+    let bin-in = field-keeps s 2 0 (bins - 1) c (intrinsic-in .1) in
+    ((λ some. (omega (arith, bin-in .0 .1), intrinsic-in .0 .1, drive-in .0 .1)), bin-in .1)
+
+-- A pattern does not open with a leaf.
+opens-gate : (s : List ℕ) (pins : ℕ) (c : Scan) → Live (shape s (patternRules pins) c .1) → IsGate (shape s (patternRules pins) c .0)
+unfolding shape node branch codeVerdict
+opens-gate s pins c l =
+    let v = codeVerdict (patternRules pins) 0 in
+    let code = field s 2 v c in
+    go (code .0) (code .1) (live-sound s 2 v c (branch-live s (patternRules pins) 16 [] (code .0) (code .1) l) .0)
+  where
+    go : (k : ℕ) (at : Scan) → codeVerdict (patternRules pins) 0 k ≡ Sound → IsGate (branch s (patternRules pins) (node s (patternRules pins) 16) [] k at .0)
+    go zero at e = let z : _≡_ {A = ℕ} 0 1 = cc in absurd (omega arith)
+    go (suc zero) at e = tt
+    go (suc (suc k)) at e = tt
+
+pattern-keeps : (s : List ℕ) (pins : ℕ) (before : List Shape) → Keeps (λ d. 1 ≤ pins → SoundDrawing pins d) (pattern s pins before)
+unfolding pattern
+pattern-keeps s pins before c l =
+    let x = shape s (patternRules pins) c in
+    let live = complete-live (hasAll pins (symbols (x .0))) (place c) (x .1) l in
+    let h = shape-keeps s (patternRules pins) c live in
+    ((λ some. record { size = omega (arith, h .0 .nodes); gate = opens-gate s pins c live; leaves = λ y m. omega (arith, h .0 .numbers y m) }), h .1)
+
+drawings-keep : (s : List ℕ) (pins total : ℕ) → Keeps (λ ds. (d : Shape) → List·Memᴰ d ds → 1 ≤ pins → SoundDrawing pins d) (drawings s pins total)
+unfolding drawings
+drawings-keep s pins total c l =
+    let count = field s 3 (countVerdict total) c in
+    let all = times-all (λ d. 1 ≤ pins → SoundDrawing pins d) (pattern s pins) (pattern-keeps s pins) (count .0) (count .1) l in
+    (all .0, live-sound s 3 (countVerdict total) c (all .1) .1)
+
+cell-keeps : (s : List ℕ) (bins total : ℕ) → Keeps (λ c. 1 ≤ bins → SoundCell bins c) (cell s bins total)
+unfolding cell
+cell-keeps s bins total c l =
+    let h = head s c in
+    let n = h .0 .pins in
+    let ps = times n (pin s bins) (h .1) in
+    let drawn-in = drawings-keep s n total (ps .1) l in
+    let pins-in = times-all (λ p. 1 ≤ bins → SoundPin bins p) (pin s bins) (pin-keeps s bins) n (h .1) (drawn-in .1) in
+    let head-in = head-keeps s c (pins-in .1) in
+    let few = length-times n (pin s bins) (h .1) in (
+      (λ some. record {
+        some-area = head-in .0 .some-area;
+        area = head-in .0 .area;
+        highest = head-in .0 .highest;
+        some-pin = omega (arith, head-in .0 .some-pin);
+        few-pins = omega (arith, head-in .0 .few-pins);
+        pins = λ p m. pins-in .0 p m some;
+        drawings = λ d m. rw few (drawn-in .0 d m (head-in .0 .some-pin));
+      }),
+      head-in .1,
+    )
+
+-- ---- sheets
+
+-- A cell's patterns fit after those of the cells before, refused or not.
+cell-fits : (s : List ℕ) (bins total : ℕ) (c : Scan) → total ≤ 128 → total + length (cell s bins total c .0 .drawings) ≤ 128
+unfolding cell drawings
+cell-fits s bins total c h =
+    let hd = head s c in
+    let at = times (hd .0 .pins) (pin s bins) (hd .1) .1 in
+    let count = field s 3 (countVerdict total) at in
+    omega (arith, length-times (count .0) (pattern s (hd .0 .pins)) (count .1), count-fits s total at h)
+
+patterns-few : (s : List ℕ) (bins n : ℕ) (c : Scan) → length (patternsFrom 0 (times n (cellAfter s bins) c .0)) ≤ 128
+unfolding times patternsFrom
+patterns-few s bins zero c = omega arith
+patterns-few s bins (suc n) c =
+    let before = times n (cellAfter s bins) c in
+    let total = length (patternsFrom 0 (before .0)) in
+    rw (patterns-more, length-append, length-drawn) (cell-fits s bins total (before .1) (patterns-few s bins n c))
+
+pub library-limits : (s : List ℕ) → Live (library s start .1) → SoundLibrary (library s start .0)
+unfolding library bins cells patterns
+library-limits s l =
+    let count = field s 3 (within 1 4) start in
+    let loads = times (count .0) (binLoad s) (count .1) in
+    let n = length (loads .0) in
+    let number = field s 7 (within 1 64) (loads .1) in
+    let cs = times (number .0) (cellAfter s n) (number .1) in
+    let each : (before : List Cell) → Keeps (λ c. 1 ≤ n → SoundCell n c) (cellAfter s n before) = λ before. cell-keeps s n (length (patternsFrom 0 before)) in
+    let cells-in = times-all (λ c. 1 ≤ n → SoundCell n c) (cellAfter s n) each (number .0) (number .1) (ended-live s (cs .1) l) in
+    let number-in = field-keeps s 7 1 64 (loads .1) (cells-in .1) in
+    let loads-in = times-all (λ x. x ≤ 255) (binLoad s) (bin-keeps s) (count .0) (count .1) (number-in .1) in
+    let count-in = field-keeps s 3 1 4 start (loads-in .1) in
+    let bins-are = length-times (count .0) (binLoad s) (count .1) in
+    let some : 1 ≤ n = omega (arith, count-in .0 .0) in
+    record {
+      some-bin = some;
+      few-bins = omega (arith, count-in .0 .1);
+      loads = loads-in .0;
+      few-cells = omega (arith, length-times (number .0) (cellAfter s n) (number .1), number-in .0 .1);
+      few-patterns = patterns-few s n (number .0) (number .1);
+      cells = λ c m. cells-in .0 c m some;
+    }
+
+pub tree-limits : (s : List ℕ) → Live (tree s start .1) → SoundTree (tree s start .0)
+unfolding tree
+tree-limits s l =
+    let load = field s 8 (within 0 255) start in
+    let required = field s 24 (within 0 16777215) (load .1) in
+    let x = shape s treeRules (required .1) in
+    let shape-in = shape-keeps s treeRules (required .1) (ended-live s (x .1) l) in
+    let required-in = field-keeps s 24 0 16777215 (load .1) (shape-in .1) in
+    let load-in = field-keeps s 8 0 255 start (required-in .1) in
+    record { load = load-in .0 .1; required = required-in .0 .1; size = omega (arith, shape-in .0 .nodes); leaves = shape-in .0 .numbers }
