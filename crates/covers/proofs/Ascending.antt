@@ -1,0 +1,59 @@
+-- Lists that ascend by a number, strictly, within a range.
+use Prim.Native.Nat.{ℕ, suc, _≤_, _<_}
+use mathlib.Core.Path.{_≡_, refl, sym, ap, _∙_}
+use mathlib.Core.Bool.{Bool, true, false, cond, false≢true}
+use mathlib.Core.List.{List, [], _∷_, _++_, List·Memᴰ, List·Memᴰ·head, List·Memᴰ·tail, List·Memᴰ·not-nil}
+use mathlib.Core.Option.{some, Option·some-injective}
+use native.Mathlib.Omega.{arith}
+use Rattle.covers.specs.Lists.{select, firstSuch}
+
+module _ {A : Type 0} (number : A → ℕ) where
+  -- From `low` on and below `high`, each above the one before: so none twice.
+  pub data Ascending : ℕ → ℕ → List A → Type 0 where
+    end : {low high : ℕ} → low ≤ high → Ascending low high []
+    then : {low high : ℕ} {x : A} {xs : List A} → low ≤ number x → Ascending (suc (number x)) high xs → Ascending low high (x ∷ xs)
+
+module _ {A : Type 0} {number : A → ℕ} where
+  pub lowered : {low low′ high : ℕ} {xs : List A} → low′ ≤ low → Ascending number low high xs → Ascending number low′ high xs
+  lowered {low′} {high} h (end k) = end {low = low′} {high = high} (omega arith)
+  lowered {low′} h (then {x = x} k r) = then {low = low′} {x = x} (omega arith) r
+
+  pub ascending-append : {low mid high : ℕ} {xs ys : List A} → Ascending number low mid xs → Ascending number mid high ys → Ascending number low high (xs ++ ys)
+  ascending-append (end h) k = lowered h k
+  ascending-append (then h r) k = then h (ascending-append r k)
+
+  ends : {low high : ℕ} {xs : List A} → Ascending number low high xs → low ≤ high
+  ends (end h) = h
+  ends (then h r) = omega (arith, ends r)
+
+  pub ascending-range : {low high : ℕ} {xs : List A} {x : A} → Ascending number low high xs → List·Memᴰ x xs → (low ≤ number x) × (number x < high)
+  ascending-range (then h r) (List·Memᴰ·head e) = rw e (h, ends r)
+  ascending-range (then h r) (List·Memᴰ·tail m) = let k = ascending-range r m in (omega arith, k .1)
+
+  -- One number, one entry.
+  pub ascending-unique : {low high : ℕ} {xs : List A} {x y : A} → Ascending number low high xs → List·Memᴰ x xs → List·Memᴰ y xs → number x ≡ number y → x ≡ y
+  ascending-unique (then h r) (List·Memᴰ·head e) (List·Memᴰ·head f) k = e ∙ sym f
+  ascending-unique (then h r) (List·Memᴰ·head e) (List·Memᴰ·tail n) k = absurd (omega (arith, ascending-range r n .0, ap number e))
+  ascending-unique (then h r) (List·Memᴰ·tail m) (List·Memᴰ·head f) k = absurd (omega (arith, ascending-range r m .0, ap number f))
+  ascending-unique (then h r) (List·Memᴰ·tail m) (List·Memᴰ·tail n) k = ascending-unique r m n k
+
+  pub select-ascends : (test : A → Bool) {low high : ℕ} {xs : List A} → Ascending number low high xs → Ascending number low high (select test xs)
+  unfolding select
+  select-ascends test (end h) = end h
+  select-ascends test (then {low = low} {high = high} {x = x} {xs = xs} h r) = go (test x) (select-ascends test r)
+    where
+      go : (b : Bool) → Ascending number (suc (number x)) high (select test xs) → Ascending number low high (cond b (x ∷ select test xs) (select test xs))
+      go true k = then h k
+      go false k = lowered (omega arith) k
+
+  -- The first that passes has the lowest number of those that do.
+  pub first-lowest : (test : A → Bool) {low high : ℕ} {xs : List A} {x y : A} → Ascending number low high xs → firstSuch test xs ≡ some x → List·Memᴰ y xs → test y ≡ true → number x ≤ number y
+  unfolding firstSuch
+  first-lowest test (end h) e m k = absurd (List·Memᴰ·not-nil m)
+  first-lowest test {x = x} {y = y} (then {x = z} {xs = zs} h r) e m k = go (test z) refl e (λ f j. first-lowest test r f j k) m
+    where
+      go : (b : Bool) → test z ≡ b → cond b (some z) (firstSuch test zs) ≡ some x → (firstSuch test zs ≡ some x → List·Memᴰ y zs → number x ≤ number y) → List·Memᴰ y (z ∷ zs) → number x ≤ number y
+      go true f e later (List·Memᴰ·head i) = omega (arith, ap number (Option·some-injective z x e), ap number i)
+      go true f e later (List·Memᴰ·tail j) = omega (arith, ap number (Option·some-injective z x e), ascending-range r j .0)
+      go false f e later (List·Memᴰ·head i) = absurd (false≢true (sym f ∙ (rw i at k)))
+      go false f e later (List·Memᴰ·tail j) = later e j

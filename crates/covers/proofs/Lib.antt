@@ -1,0 +1,22 @@
+-- The theorems about covers, in reading order.
+pub mod SpecimenTable
+pub mod Basics
+pub mod Points
+pub mod Least
+pub mod Deadline
+pub mod Ascending
+pub mod Matching
+pub mod Unroll
+pub mod Relation
+pub mod Handed
+pub mod Tradeoffs
+pub mod Curve
+pub mod Nodes
+pub mod Overfull
+pub mod Promises
+pub mod Bounds
+pub mod Listing
+pub mod SheetLengths
+pub mod Packing
+pub mod Filling
+pub mod FromSheets

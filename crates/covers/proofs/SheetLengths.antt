@@ -1,0 +1,43 @@
+-- How many bytes a sheet takes: at most 109 for a cover of 63 matches, and at most 179 for 31 trade-offs.
+use Prim.Native.Nat.{ℕ, zero, suc, _+_, _*_, _/_, _≤_}
+use mathlib.Core.Path.{_≡_, refl, ap, _∙_}
+use mathlib.Core.List.{List, [], _∷_}
+use native.Mathlib.Omega.{arith}
+use lib.ListN.{length, replicate, length-replicate}
+use Rattle.bits.specs.Bits.{bytesTo, withField}
+use Rattle.bits.proofs.Laws.{length-field}
+use Rattle.covers.specs.Cover.{Point, Placed, Cover}
+use Rattle.covers.specs.CoverSheet.{Field, widths, written, packed, placedFields, coverFields, pointFields, listFields, coverSheet, listSheet}
+
+length-written : (fs : List Field) (i : ℕ) (s : List ℕ) → length (written fs i s) ≡ length s
+unfolding written
+length-written [] i s = refl
+length-written (f ∷ fs) i s = length-written fs (i + f .width) (withField s i (f .width) (f .value)) ∙ length-field s i (f .width) (f .value)
+
+pub length-packed : (fs : List Field) → length (packed fs) ≡ (widths fs + 7) / 8
+unfolding packed bytesTo
+length-packed fs = length-written fs 0 (replicate (bytesTo (widths fs)) 0) ∙ length-replicate (bytesTo (widths fs)) 0
+
+placed-widths : (xs : List Placed) → widths (placedFields xs) ≡ 13 * length xs
+unfolding placedFields widths
+placed-widths [] = refl
+placed-widths (x ∷ xs) = omega (arith, placed-widths xs)
+
+point-widths : (ps : List Point) → widths (pointFields ps) ≡ 46 * length ps
+unfolding pointFields widths
+point-widths [] = refl
+point-widths (p ∷ ps) = omega (arith, point-widths ps)
+
+pub cover-sheet-length : (c : Cover) → length (coverSheet c) ≡ (52 + 13 * length (c .placed) + 7) / 8
+unfolding coverSheet coverFields widths
+cover-sheet-length c = length-packed (coverFields c) ∙ ap (λ w. (w + 7) / 8) (omega (arith, placed-widths (c .placed)))
+
+pub list-sheet-length : (ps : List Point) → length (listSheet ps) ≡ (5 + 46 * length ps + 7) / 8
+unfolding listSheet listFields widths
+list-sheet-length ps = length-packed (listFields ps) ∙ ap (λ w. (w + 7) / 8) (omega (arith, point-widths ps))
+
+pub cover-sheet-fits : (c : Cover) → length (c .placed) ≤ 63 → length (coverSheet c) ≤ 109
+cover-sheet-fits c h = rw (cover-sheet-length c) (omega arith)
+
+pub list-sheet-fits : (ps : List Point) → length ps ≤ 31 → length (listSheet ps) ≤ 179
+list-sheet-fits ps h = rw (list-sheet-length ps) (omega arith)

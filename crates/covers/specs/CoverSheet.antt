@@ -1,0 +1,57 @@
+-- The cover sheet and the list sheet as bytes.
+use Prim.Native.Nat.{ℕ, _+_}
+use mathlib.Core.List.{List, [], _∷_}
+use lib.ListN.{length, replicate}
+use Rattle.bits.specs.Bits.{after, bytesTo, withDigit, withBit, withField}
+use Rattle.covers.specs.Cover.{Point, Placed, Cover}
+
+-- A field to be written: a value and its width in bits.
+pub record Field : Type 0 where
+  pub value : ℕ
+  pub width : ℕ
+
+-- How many bits fields take up.
+unfoldable pub widths : List Field → ℕ
+widths [] = 0
+widths (f ∷ fs) = f .width + widths fs
+
+-- Bytes with fields written into them from place i on, with no gaps between them.
+unfoldable pub written : List Field → ℕ → List ℕ → List ℕ
+unfolding withField withBit withDigit after
+written [] i s = s
+written (f ∷ fs) i s = written fs (i + f .width) (withField s i (f .width) (f .value))
+
+-- Fields as bytes, with zero bits to the byte.
+unfoldable pub packed : List Field → List ℕ
+unfolding widths written bytesTo
+packed fs = written fs 0 (replicate (bytesTo (widths fs)) 0)
+
+-- For each match its node, 6, and its pattern, 7.
+unfoldable pub placedFields : List Placed → List Field
+placedFields [] = []
+placedFields (x ∷ xs) = record { value = x .node; width = 6 } ∷ record { value = x .pattern; width = 7 } ∷ placedFields xs
+
+-- Area, 22; arrival, 24; match count, 6; then the matches.
+unfoldable pub coverFields : Cover → List Field
+unfolding placedFields
+coverFields c = record { value = c .point .area; width = 22 } ∷ record { value = c .point .arrival; width = 24 } ∷ record { value = length (c .placed); width = 6 } ∷ placedFields (c .placed)
+
+-- For each trade-off its arrival, 24, and its area, 22.
+unfoldable pub pointFields : List Point → List Field
+pointFields [] = []
+pointFields (p ∷ ps) = record { value = p .arrival; width = 24 } ∷ record { value = p .area; width = 22 } ∷ pointFields ps
+
+-- Count, 5; then the trade-offs.
+unfoldable pub listFields : List Point → List Field
+unfolding pointFields
+listFields ps = record { value = length ps; width = 5 } ∷ pointFields ps
+
+-- The cover sheet's bytes.
+unfoldable pub coverSheet : Cover → List ℕ
+unfolding packed coverFields
+coverSheet c = packed (coverFields c)
+
+-- The list sheet's bytes.
+unfoldable pub listSheet : List Point → List ℕ
+unfolding packed listFields
+listSheet ps = packed (listFields ps)

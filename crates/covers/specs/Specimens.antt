@@ -1,0 +1,83 @@
+-- Document 01's specimen sheet and its cases a to l as one table.
+use Prim.Native.Nat.{ℕ}
+use mathlib.Core.Path.{_≡_}
+use mathlib.Core.Bool.{false}
+use mathlib.Core.List.{List, [], _∷_, map}
+use Rattle.sheets.specs.Model.{Shape, leaf, inv, nand, Pin, Cell, Library, Tree}
+use Rattle.covers.specs.Cover.{Placed, Cover}
+use Rattle.covers.specs.Answer.{Answer, noCover, success, mapped}
+use Rattle.covers.specs.Outcome.{capacity}
+
+-- A pin by its bin number, intrinsic delay and drive.
+abbrev pin : ℕ → ℕ → ℕ → Pin
+pin b i d = record { bin = b; intrinsic = i; drive = d }
+
+-- A cell, not held, by its area, highest load, pins and drawing.
+abbrev cell : ℕ → ℕ → List Pin → Shape → Cell
+cell a h ps s = record { held = false; area = a; highest = h; pins = ps; drawings = s ∷ [] }
+
+-- Cell number is pattern number.
+abbrev cells : List Cell
+cells =
+    cell 1 4 (pin 0 4 2 ∷ []) (inv (leaf 0))  -- inverter
+    ∷ cell 2 8 (pin 1 4 1 ∷ []) (inv (leaf 0))  -- fast inverter
+    ∷ cell 2 4 (pin 0 6 2 ∷ pin 0 6 2 ∷ []) (nand (leaf 0) (leaf 1))  -- NAND
+    ∷ cell 3 4 (pin 0 8 2 ∷ pin 0 8 2 ∷ []) (inv (nand (leaf 0) (leaf 1)))  -- AND
+    ∷ []
+
+-- The library, with bins 1 and 2.
+abbrev pub specimen : Library
+specimen = record { bins = 1 ∷ 2 ∷ []; cells = cells }
+
+-- A tree by its shape, root load and required time.
+abbrev pub tree : Shape → ℕ → ℕ → Tree
+tree s load time = record { load = load; required = time; shape = s }
+
+-- A match by its node and pattern.
+abbrev at : ℕ → ℕ → Placed
+at n p = record { node = n; pattern = p }
+
+-- A result by its matches, area and arrival.
+abbrev cover : List Placed → ℕ → ℕ → Answer Cover
+cover ps a t = success (record { point = record { area = a; arrival = t }; placed = ps })
+
+-- A row of the table: the tree with its root load and its required time, and the result.
+pub record Row : Type 0 where
+  pub tree : Tree
+  pub result : Answer Cover
+
+-- A row by its tree's shape, root load and required time, and the result.
+abbrev row : Shape → ℕ → ℕ → Answer Cover → Row
+row s load time r = record { tree = tree s load time; result = r }
+
+-- The trees of the table; leaf arrivals are 0 unless given.
+abbrev INV : Shape
+INV = inv (leaf 0)
+
+abbrev INV-INV : Shape
+INV-INV = inv INV
+
+abbrev INV-NAND : Shape
+INV-NAND = inv (nand (leaf 0) (leaf 0))
+
+-- The rows, with any root load in l.
+abbrev pub rows : ℕ → List Row
+rows any =
+    row INV 1 6 (cover (at 0 0 ∷ []) 1 6)  -- a
+    ∷ row INV 1 5 (cover (at 0 1 ∷ []) 2 5)  -- b
+    ∷ row INV 1 4 noCover  -- c
+    ∷ row INV 4 12 (cover (at 0 0 ∷ []) 1 12)  -- d
+    ∷ row INV 5 14 (cover (at 0 1 ∷ []) 2 9)  -- e
+    ∷ row INV 9 16_777_215 noCover  -- f
+    ∷ row INV-NAND 1 14 (cover (at 0 3 ∷ []) 3 10)  -- g
+    ∷ row INV-NAND 8 22 (cover (at 0 1 ∷ at 1 2 ∷ []) 4 22)  -- h
+    ∷ row INV-INV 1 12 (cover (at 0 0 ∷ at 1 0 ∷ []) 2 12)  -- i
+    ∷ row INV-INV 1 11 (cover (at 0 0 ∷ at 1 1 ∷ []) 3 11)  -- j
+    ∷ row (nand (leaf 3) (leaf 0)) 1 11 (cover (at 0 2 ∷ []) 2 11)  -- k
+    ∷ row (leaf 7) any 7 (cover [] 0 7)  -- l
+    ∷ row (leaf 7) any 6 noCover  -- l
+    ∷ []
+
+-- What is claimed: every row's result is what map hands over.
+abbrev pub Specimens : Type 0
+Specimens = (any : ℕ) → map (λ r. mapped capacity specimen (r .tree)) (rows any) ≡ map (λ r. r .result) (rows any)
