@@ -1,0 +1,7 @@
+-- The laws of `matching`, in reading order.
+pub mod Lists
+pub mod Tables
+pub mod Walking
+pub mod Standing
+pub mod Written
+pub mod Patterns

@@ -1,0 +1,94 @@
+-- A tree's arrays hold each of its subtrees.
+use Prim.Native.Nat.{ℕ, suc, _+_, _≤_, _<_}
+use mathlib.Core.Path.{_≡_, refl, sym, ap, subst, _∙_}
+use mathlib.Core.Logic.{⊎-elim}
+use mathlib.Core.List.{List, [], _∷_, _++_, List·Memᴰ, List·Memᴰ·head, List·Memᴰ·tail, List·Memᴰ·not-nil, List·Memᴰ·append-cases}
+use native.Mathlib.Nat.{add-zero, add-suc, suc-add, add-assoc}
+use native.Mathlib.Omega.{arith}
+use lib.ListN.{length, getD, replicate, length-append, length-replicate, List·getD-append}
+use lib.Seq.{length-sets, getD-append-add}
+use Rattle.shapes.specs.Shape.{symbols, sizes}
+use Rattle.shapes.proofs.Drawn.{length-symbols, length-sizes}
+use Rattle.sheets.specs.Model.{Shape, leaf, inv, nand, size, Library, Tree}
+use Rattle.sheets.specs.Layout.{padded, libraryLaid, treeLaid}
+use Rattle.covers.specs.Tradeoff.{Node, nodes}
+use Rattle.covers.proofs.Nodes.{node-ends}
+use Rattle.matching.specs.Standing.{Stands, Subject}
+use Rattle.matching.specs.Promises.{SoundPatterns, Ready}
+use Rattle.matching.proofs.Lists.{in-sets}
+
+-- A list stands in another from place i on.
+abbrev Held : List ℕ → ℕ → List ℕ → Type 0
+Held l i xs = (k : ℕ) → k < length xs → getD l (i + k) 0 ≡ getD xs k 0
+
+held-head : (l : List ℕ) (i x : ℕ) (xs : List ℕ) → Held l i (x ∷ xs) → getD l i 0 ≡ x
+held-head l i x xs h = ap (λ (k : ℕ). getD l k 0) (sym (add-zero i)) ∙ h 0 (omega arith)
+
+held-tail : (l : List ℕ) (i x : ℕ) (xs : List ℕ) → Held l i (x ∷ xs) → Held l (suc i) xs
+held-tail l i x xs h k g = ap (λ (j : ℕ). getD l j 0) (suc-add i k ∙ sym (add-suc i k)) ∙ h (suc k) (omega arith)
+
+held-left : (l : List ℕ) (i : ℕ) (xs ys : List ℕ) → Held l i (xs ++ ys) → Held l i xs
+held-left l i xs ys h k g = h k (omega (arith, length-append xs ys)) ∙ List·getD-append xs ys 0 k g
+
+held-right : (l : List ℕ) (i : ℕ) (xs ys : List ℕ) → Held l i (xs ++ ys) → Held l (i + length xs) ys
+held-right l i xs ys h k g =
+    ap (λ (j : ℕ). getD l j 0) (add-assoc i (length xs) k) ∙ h (length xs + k) (omega (arith, length-append xs ys)) ∙ getD-append-add xs ys k 0
+
+module _ (ss zs : List ℕ) where
+  pub stands-at : (i : ℕ) (s : Shape) → Held ss i (symbols s) → Held zs i (sizes s) → Stands ss zs i s
+  unfolding symbols sizes size
+  stands-at i (leaf x) h g = (held-head ss i _ [] h, held-head zs i _ [] g)
+  stands-at i (inv s) h g =
+      (held-head ss i _ (symbols s) h, held-head zs i _ (sizes s) g, stands-at (suc i) s (held-tail ss i _ (symbols s) h) (held-tail zs i _ (sizes s) g))
+  stands-at i (nand s t) h g =
+      let h′ = held-tail ss i _ (symbols s ++ symbols t) h in
+      let g′ = held-tail zs i _ (sizes s ++ sizes t) g in (
+        held-head ss i _ (symbols s ++ symbols t) h,
+        held-head zs i _ (sizes s ++ sizes t) g,
+        stands-at (suc i) s (held-left ss (suc i) (symbols s) (symbols t) h′) (held-left zs (suc i) (sizes s) (sizes t) g′),
+        stands-at (suc i + size s) t
+            (subst (λ (k : ℕ). Held ss (suc i + k) (symbols t)) (length-symbols s) (held-right ss (suc i) (symbols s) (symbols t) h′))
+            (subst (λ (k : ℕ). Held zs (suc i + k) (sizes t)) (length-sizes s) (held-right zs (suc i) (sizes s) (sizes t) g′)),
+      )
+
+  -- Each node of a subtree that stands there stands there too.
+  pub stands-nodes : (n : ℕ) (s : Shape) → Stands ss zs n s → (x : Node) → List·Memᴰ x (nodes n s) → Stands ss zs (x .number) (x .shape)
+  unfolding nodes size
+  stands-nodes n (leaf z) h x (List·Memᴰ·head e) = subst (λ (y : Node). Stands ss zs (y .number) (y .shape)) (sym e) h
+  stands-nodes n (leaf z) h x (List·Memᴰ·tail m) = absurd (List·Memᴰ·not-nil m)
+  stands-nodes n (inv s) h x (List·Memᴰ·head e) = subst (λ (y : Node). Stands ss zs (y .number) (y .shape)) (sym e) h
+  stands-nodes n (inv s) h x (List·Memᴰ·tail m) = stands-nodes (suc n) s (h .2) x m
+  stands-nodes n (nand s t) h x (List·Memᴰ·head e) = subst (λ (y : Node). Stands ss zs (y .number) (y .shape)) (sym e) h
+  stands-nodes n (nand s t) h x (List·Memᴰ·tail m) =
+      ⊎-elim (λ k. stands-nodes (suc n) s (h .2) x k) (λ k. stands-nodes (suc n + size s) t (h .3) x k) (List·Memᴰ·append-cases (nodes (suc n) s) m)
+
+  -- The arrays of a decoded tree.
+  module _ (root : Shape) (small : size root ≤ 64) (es : ss ≡ padded 64 0 (symbols root)) (ez : zs ≡ padded 64 0 (sizes root)) where
+    pub stands-in : Stands ss zs 0 root
+    stands-in = stands-at 0 root
+        (λ k h. ap (λ (l : List ℕ). getD l (0 + k) 0) es ∙ in-sets (replicate 64 0) 0 (symbols root) k 0 (omega (arith, length-symbols root, length-replicate {A = ℕ} 64 0)) h)
+        (λ k h. ap (λ (l : List ℕ). getD l (0 + k) 0) ez ∙ in-sets (replicate 64 0) 0 (sizes root) k 0 (omega (arith, length-sizes root, length-replicate {A = ℕ} 64 0)) h)
+
+    pub stands-everywhere : (x : Node) → List·Memᴰ x (nodes 0 root) → Stands ss zs (x .number) (x .shape)
+    stands-everywhere = stands-nodes 0 root stands-in
+
+    pub subject-everywhere : (x : Node) → List·Memᴰ x (nodes 0 root) → Subject ss zs (x .number) (x .shape)
+    subject-everywhere x m = record {
+      symbols-long = ap length es ∙ length-sets (replicate 64 0) 0 (symbols root) ∙ length-replicate {A = ℕ} 64 0;
+      sizes-long = ap length ez ∙ length-sets (replicate 64 0) 0 (sizes root) ∙ length-replicate {A = ℕ} 64 0;
+      stands = stands-everywhere x m;
+      ends = omega (arith, node-ends 0 root m);
+    }
+
+-- What `find_matches` is lent, from the decoded library and the decoded tree, at every node.
+pub ready-everywhere : (l : Library) (t : Tree) → SoundPatterns l → size (t .shape) ≤ 64 → (x : Node) → List·Memᴰ x (nodes 0 (t .shape)) →
+    Ready (libraryLaid l .rows) (libraryLaid l .total) (libraryLaid l .cells) (treeLaid t .symbols) (treeLaid t .sizes) (x .number) 8704 l (x .shape)
+unfolding libraryLaid treeLaid
+ready-everywhere l t h small x m = record {
+  sound = h;
+  rows-are = refl;
+  total-is = refl;
+  cells-are = refl;
+  subject = subject-everywhere (treeLaid t .symbols) (treeLaid t .sizes) (t .shape) small refl refl x m;
+  room-is = refl;
+}

@@ -1,0 +1,4 @@
+-- What the contracts of `matching` say, in reading order.
+pub mod Found
+pub mod Standing
+pub mod Promises
