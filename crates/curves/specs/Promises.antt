@@ -1,0 +1,39 @@
+-- What the functions of this crate promise.
+use Prim.Native.Nat.{ℕ, _%_, _≤_, _<_}
+use mathlib.Core.Path.{_≡_}
+use mathlib.Core.List.{List, map}
+use lib.ListN.{length, take}
+use lib.Seq.{sets}
+use mathlib.Core.Option.{Option, none, some}
+use Rattle.covers.specs.Cover.{Point}
+use Rattle.covers.proofs.Curve.{byDeadline}
+use Rattle.curves.specs.Words.{base, absent, wordOf, pointOf, Small}
+use Rattle.curves.specs.Best.{rowsBest}
+
+-- A word below the limit for a point that arrives before an instant, or what stands for no point.
+pub record Worth (limit end r : ℕ) (o : Option Point) : Type 0 where
+  pub missing : r ≡ absent → o ≡ none
+  pub point : (r ≡ absent → ⊥) → o ≡ some (pointOf r)
+  pub small : (r ≡ absent → ⊥) → r < limit
+  pub intime : (r ≡ absent → ⊥) → r % base < end
+
+-- A point fits a word of the work area, which is then not 0.
+pub record Fit (p : Point) : Type 0 where
+  pub some-area : 1 ≤ p .area
+  pub area : p .area < 4194304
+  pub arrival : p .arrival < base
+
+module _ (symbols work found : List ℕ) (load count : ℕ) where
+  -- The least point of the node before each instant, from the tables.
+  abbrev pub bestBefore : ℕ → Option Point
+  bestBefore end = rowsBest symbols work found load end count
+
+  -- Every point fits a word of the work area.
+  abbrev pub PointsFit : Type 0
+  PointsFit = (end : ℕ) (p : Point) → bestBefore end ≡ some p → Fit p
+
+  -- The first 32 points by deadline: how many there are, and the first 31 in the slot.
+  pub record CurveStored (at : ℕ) (work′ : List ℕ) (r : ℕ) : Type 0 where
+    pub counted : r ≡ length (byDeadline 32 bestBefore base)
+    pub laid : work′ ≡ sets work at (map wordOf (take 31 (byDeadline 32 bestBefore base)))
+    pub small : Small work′

@@ -1,0 +1,16 @@
+-- What the work area holds once every curve is in it.
+use Prim.Native.Nat.{ℕ, _<_}
+use mathlib.Core.Path.{_≡_}
+use mathlib.Core.List.{List}
+use Rattle.sheets.specs.Model.{Library, Tree}
+use Rattle.covers.specs.Enumeration.{covers}
+use Rattle.covers.proofs.Matching.{gates}
+use Rattle.covers.proofs.Curve.{curve}
+use Rattle.covers.proofs.Filling.{Filled}
+use Rattle.curves.specs.Words.{tableOf, Small}
+
+-- The curves of every gate below the root under every load bin, and the root's under the root load in the place of bin 0.
+pub record Stored (l : Library) (t : Tree) (work : List ℕ) : Type 0 where
+  pub below : Filled l (t .shape) (tableOf work) 1
+  pub root : 0 < gates (t .shape) → tableOf work 0 0 ≡ curve (covers l (t .load) 0 (t .shape))
+  pub small : Small work
