@@ -1,0 +1,6 @@
+-- Laws that join the tables to the theorems about covers.
+pub mod Rows
+pub mod Node
+pub mod Steps
+pub mod At
+pub mod Progress

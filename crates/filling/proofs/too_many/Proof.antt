@@ -1,0 +1,67 @@
+use borrow.Author.Needs.{needs}
+use native.Mathlib.Omega.{arith}
+use Prim.Native.Nat.{ℕ, _-_, _≤_, _<_}
+use mathlib.Core.Path.{_≡_, sym, subst}
+use mathlib.Core.Logic.{⊎-elim}
+use lib.ListN.{getD}
+use Rattle.covers.proofs.Basics.{lt-or-le}
+use Rattle.filling.proofs.too_many.Statement.{statement}
+use Rattle.filling.proofs.too_many.Tie as tie
+use Rattle.filling.proofs.too_many.Reads as reads
+use Rattle.filling.proofs.too_many.Lts as lts
+
+abbrev Inv-loop : tie.InvT-loop
+Inv-loop bins points b₀ b = (b ≤ bins) × ((k : ℕ) → k < b → getD points k 0 ≤ 31)
+
+abbrev μ-loop : tie.MeasureT-loop
+μ-loop bins points b₀ b = bins - b
+
+-- src/lib.rt:64:5
+loop-holds : tie.Need-loop-holds Inv-loop μ-loop
+loop-holds c = (omega arith, λ k l. absurd (omega arith))
+
+-- src/lib.rt:65:28
+array-read-if1 : tie.Need-array-read-if1 Inv-loop μ-loop
+array-read-if1 c = omega arith
+
+-- src/lib.rt:65:28
+cast-if1 : tie.Need-cast-if1 Inv-loop μ-loop
+cast-if1 c = search needs
+
+-- src/lib.rt:66:13
+returns : tie.Need-returns Inv-loop μ-loop
+returns c = (c .before .before .loop .b, omega arith, omega arith)
+
+-- src/lib.rt:68:9
+add-b : tie.Need-add-b Inv-loop μ-loop
+add-b c = search needs
+
+-- src/lib.rt:64:5
+loop-less : tie.Need-loop-less Inv-loop μ-loop
+loop-less c = omega arith
+
+-- src/lib.rt:64:5
+loop-again : tie.Need-loop-again Inv-loop μ-loop
+loop-again c = 
+    let i = c .before .before .loop in
+    let points = c .before .before .before .before .args .counts .points in
+    (omega arith, λ k l. ⊎-elim (i .inv .1 k) (λ m. let e : k ≡ i .b = omega arith in subst (λ (j : ℕ). getD points j 0 ≤ 31) (sym e) (omega arith)) (lt-or-le k (i .b)))
+
+-- src/lib.rt:58:1
+returns-2 : tie.Need-returns-2 Inv-loop μ-loop
+returns-2 c = λ b l. c .before .loop .inv .1 b (omega arith)
+
+pub too-many-spec : {M : Type 1} → statement M
+too-many-spec =
+    tie.close
+    (tie.spec
+    Inv-loop
+    μ-loop
+    loop-holds
+    array-read-if1
+    cast-if1
+    returns
+    add-b
+    loop-less
+    loop-again
+    returns-2)
