@@ -1,0 +1,2 @@
+-- What the contracts of `choosing` say, in reading order.
+pub mod Promises
