@@ -1,0 +1,183 @@
+-- Laws about elements made zero and fields written one after another.
+use Prim.Native.Nat.{ℕ, zero, suc, _+_, _-_, _*_, _/_, _%_, _≤_, _<_}
+use mathlib.Core.Path.{_≡_, refl, sym, ap, ap₂, _∙_}
+use mathlib.Core.List.{List, [], _∷_, _++_, map, map-append, reverse, reverse-append, zipWith}
+use native.Mathlib.Nat.{add-assoc, le-of-suc-le-suc}
+use native.Mathlib.Omega.{arith}
+use native.Mathlib.Numerals.{add-one}
+use borrow.Author.Fill.{fill-none, fill-more}
+use lib.ListN.{length, take, drop, getD, set, replicate, length-set, length-replicate, length-reverse, length-map, List·getD-append}
+use lib.Seq.{set-append-left, slice, slice-cons, slice-empty, take-suc, length-take-le}
+use Rattle.bits.specs.Bits.{after, withDigit, withBit, withField, bytesTo}
+use Rattle.bits.proofs.Laws.{length-bit, length-field}
+use Rattle.covers.specs.Cover.{Point, Placed}
+use Rattle.covers.specs.CoverSheet.{Field, widths, written, packed, placedFields, coverFields, pointFields, listFields, coverSheet, listSheet}
+use Rattle.covers.proofs.SheetLengths.{length-packed, cover-sheet-length, list-sheet-length}
+use Rattle.covers.proofs.Packing.{unpack}
+use Rattle.writing.specs.Written.{placedOf, coverOf, base, pointsOf, Written}
+
+-- ---- elements made zero from the front on
+
+-- l is d with its first k elements made zero.
+abbrev pub Cleared : List ℕ → ℕ → List ℕ → Type 0
+Cleared d k l = (length l ≡ length d) × (l ≡ replicate k 0 ++ drop k d)
+
+pub clear-none : (d : List ℕ) → Cleared d 0 d
+clear-none d = (refl, fill-none d 0)
+
+pub clear-turn : (d l : List ℕ) (k : ℕ) → k < length d → Cleared d k l → Cleared d (k + 1) (set l k 0)
+clear-turn d l k h c = (length-set l k 0 ∙ c .0, ap (λ (x : List ℕ). set x k 0) (c .1) ∙ fill-more k 0 d h)
+
+pub clear-done : (d l : List ℕ) (k n : ℕ) → k ≡ n → Cleared d k l → l ≡ replicate n 0 ++ drop n d
+clear-done d l k n e c = c .1 ∙ ap (λ (j : ℕ). replicate j 0 ++ drop j d) e
+
+-- ---- what is written at the front keeps what stands behind
+
+bit-front : (xs ys : List ℕ) (i b : ℕ) → i < 8 * length xs → withBit (xs ++ ys) i b ≡ withBit xs i b ++ ys
+unfolding withBit
+bit-front xs ys i b h =
+    let at : i / 8 < length xs = omega arith in
+    ap (λ (x : ℕ). set (xs ++ ys) (i / 8) (withDigit x (after i) b)) (List·getD-append xs ys 0 (i / 8) at)
+    ∙ set-append-left xs ys (i / 8) (withDigit (getD xs (i / 8) 0) (after i) b) at
+
+field-front : (xs ys : List ℕ) (i w v : ℕ) → i + w ≤ 8 * length xs → withField (xs ++ ys) i w v ≡ withField xs i w v ++ ys
+unfolding withField
+field-front xs ys i zero v h = refl
+field-front xs ys i (suc w) v h =
+    ap (λ (s : List ℕ). withField s i w (v / 2)) (bit-front xs ys (i + w) (v % 2) (omega arith))
+    ∙ field-front (withBit xs (i + w) (v % 2)) ys i w (v / 2) (omega (arith, length-bit xs (i + w) (v % 2)))
+
+fields-front : (fs : List Field) (i : ℕ) (xs ys : List ℕ) → i + widths fs ≤ 8 * length xs → written fs i (xs ++ ys) ≡ written fs i xs ++ ys
+unfolding written widths
+fields-front [] i xs ys h = refl
+fields-front (f ∷ fs) i xs ys h =
+    ap (written fs (i + f .width)) (field-front xs ys i (f .width) (f .value) (omega arith))
+    ∙ fields-front fs (i + f .width) (withField xs i (f .width) (f .value)) ys (omega (arith, length-field xs i (f .width) (f .value)))
+
+-- Fields written into a front that was cleared are their sheet.
+sheet-written : (fs : List Field) (entry exit : List ℕ) (n : ℕ) → n ≡ length (packed fs) → exit ≡ written fs 0 (replicate n 0 ++ drop n entry) → Written (packed fs) entry exit n
+unfolding packed bytesTo
+sheet-written fs entry exit n en ex =
+    let zeros : List ℕ = replicate n 0 in
+    let is : n ≡ (widths fs + 7) / 8 = en ∙ length-packed fs in
+    record {
+      bytes = en;
+      output =
+          ex
+          ∙ fields-front fs 0 zeros (drop n entry) (omega (arith, length-replicate {A = ℕ} n 0))
+          ∙ ap₂ (λ (m : ℕ) (k : ℕ). written fs 0 (replicate m 0) ++ drop k entry) is en;
+    }
+
+-- ---- fields put one after another
+
+-- One field more.
+field-put : (f : Field) (fs : List Field) (i : ℕ) (s s₁ : List ℕ) → s₁ ≡ withField s i (f .width) (f .value) → written fs (i + f .width) s₁ ≡ written (f ∷ fs) i s
+unfolding written
+field-put f fs i s s₁ e = ap (written fs (i + f .width)) e
+
+-- Two fields more: one turn of a loop.
+pair-put : (f g : Field) (fs : List Field) (i : ℕ) (s s₁ s₂ : List ℕ) → s₁ ≡ withField s i (f .width) (f .value) → s₂ ≡ withField s₁ (i + f .width) (g .width) (g .value) →
+    (length s₂ ≡ length s) × (written fs (i + (f .width + g .width)) s₂ ≡ written (f ∷ g ∷ fs) i s)
+pair-put f g fs i s s₁ s₂ e₁ e₂ = (
+  ap length e₂ ∙ length-field s₁ (i + f .width) (g .width) (g .value) ∙ ap length e₁ ∙ length-field s i (f .width) (f .value),
+  ap (λ (j : ℕ). written fs j s₂) (sym (add-assoc i (f .width) (g .width))) ∙ field-put g fs (i + f .width) s₁ s₂ e₂ ∙ field-put f (g ∷ fs) i s s₁ e₁,
+)
+
+-- ---- the cover sheet
+
+-- The fields of the matches from k on.
+abbrev pub matchesFrom : ℕ → ℕ → List ℕ → List ℕ → List Field
+matchesFrom k count ns ps = placedFields (placedOf (slice k count ns) (slice k count ps))
+
+module _ (ns ps : List ℕ) (k count : ℕ) (left : k < count) (hn : count ≤ length ns) (hp : count ≤ length ps) where
+  match-fields : matchesFrom k count ns ps ≡ record { value = getD ns k 0; width = 6 } ∷ record { value = getD ps k 0; width = 7 } ∷ matchesFrom (suc k) count ns ps
+  unfolding placedFields placedOf zipWith
+  match-fields = ap₂ (λ (a b : List ℕ). placedFields (placedOf a b)) (slice-cons k count ns 0 left hn) (slice-cons k count ps 0 left hp)
+
+  pub match-turn : (i : ℕ) (s s₁ s₂ : List ℕ) → s₁ ≡ withField s i 6 (getD ns k 0) → s₂ ≡ withField s₁ (i + 6) 7 (getD ps k 0) →
+      (length s₂ ≡ length s) × (written (matchesFrom (k + 1) count ns ps) (i + 13) s₂ ≡ written (matchesFrom k count ns ps) i s)
+  match-turn i s s₁ s₂ e₁ e₂ =
+      let r = pair-put (record { value = getD ns k 0; width = 6 }) (record { value = getD ps k 0; width = 7 }) (matchesFrom (suc k) count ns ps) i s s₁ s₂ e₁ e₂ in
+      (r .0, ap (λ (j : ℕ). written (matchesFrom j count ns ps) (i + 13) s₂) (add-one k) ∙ r .1 ∙ ap (λ (fs : List Field). written fs i s) (sym match-fields))
+
+-- None is left.
+pub matches-done : (ns ps : List ℕ) (k count i : ℕ) (s : List ℕ) → k ≡ count → s ≡ written (matchesFrom k count ns ps) i s
+unfolding written placedFields placedOf zipWith
+matches-done ns ps k count i s e = rw (e, slice-empty count ns)
+
+placed-length : (count : ℕ) (ns ps : List ℕ) → count ≤ length ns → count ≤ length ps → length (placedOf (take count ns) (take count ps)) ≡ count
+unfolding placedOf zipWith
+placed-length zero ns ps hn hp = refl
+placed-length (suc k) [] ps hn hp = absurd (omega arith)
+placed-length (suc k) (n ∷ ns) [] hn hp = absurd (omega arith)
+placed-length (suc k) (n ∷ ns) (p ∷ ps) hn hp = ap suc (placed-length k ns ps (le-of-suc-le-suc hn) (le-of-suc-le-suc hp))
+
+-- The first three fields, then the matches.
+pub cover-written : (area arrival : ℕ) (ns ps : List ℕ) (count : ℕ) → count ≤ length ns → count ≤ length ps → (entry s₀ s₁ s₂ s₃ exit : List ℕ) →
+    let n = (52 + 13 * count + 7) / 8 in
+    let xs = placedOf (take count ns) (take count ps) in
+    s₀ ≡ replicate n 0 ++ drop n entry → s₁ ≡ withField s₀ 0 22 area → s₂ ≡ withField s₁ 22 24 arrival → s₃ ≡ withField s₂ 46 6 count → exit ≡ written (placedFields xs) 52 s₃ →
+    Written (coverSheet (coverOf area arrival xs)) entry exit n
+unfolding coverSheet coverFields
+cover-written area arrival ns ps count hn hp entry s₀ s₁ s₂ s₃ exit e₀ e₁ e₂ e₃ e =
+    let n = (52 + 13 * count + 7) / 8 in
+    let xs = placedOf (take count ns) (take count ps) in
+    let c = coverOf area arrival xs in
+    let many : length xs ≡ count = placed-length count ns ps hn hp in
+    let matches : Field = record { value = length xs; width = 6 } in
+    let late : Field = record { value = arrival; width = 24 } in
+    let wide : Field = record { value = area; width = 22 } in
+    sheet-written (coverFields c) entry exit n
+    (ap (λ (k : ℕ). (52 + 13 * k + 7) / 8) (sym many) ∙ sym (cover-sheet-length c))
+    (e
+    ∙ field-put matches (placedFields xs) 46 s₂ s₃ (e₃ ∙ ap (withField s₂ 46 6) (sym many))
+    ∙ field-put late (matches ∷ placedFields xs) 22 s₁ s₂ e₂
+    ∙ field-put wide (late ∷ matches ∷ placedFields xs) 0 s₀ s₁ e₁
+    ∙ ap (written (coverFields c) 0) e₀)
+
+-- ---- the list sheet
+
+-- The last word's point comes first.
+point-fields : (ws : List ℕ) (k : ℕ) → 0 < k → k ≤ length ws →
+    pointFields (pointsOf k ws)
+    ≡ record { value = getD ws (k - 1) 0 % base; width = 24 } ∷ record { value = getD ws (k - 1) 0 / base; width = 22 } ∷ pointFields (pointsOf (k - 1) ws)
+unfolding pointFields pointsOf unpack
+point-fields ws zero h hk = absurd (omega arith)
+point-fields ws (suc k) h hk =
+    let e : suc k - 1 ≡ k = omega arith in
+    rw e
+    (ap (λ (l : List ℕ). pointFields (reverse (map (unpack base) l))) (take-suc ws k 0 hk)
+    ∙ ap (λ (l : List Point). pointFields (reverse l)) (map-append (unpack base) (take k ws) (getD ws k 0 ∷ []))
+    ∙ ap pointFields (reverse-append (map (unpack base) (take k ws)) (unpack base (getD ws k 0) ∷ [])))
+
+pub point-turn : (ws : List ℕ) (k : ℕ) → 0 < k → k ≤ length ws → (i : ℕ) (s s₁ s₂ : List ℕ) →
+    s₁ ≡ withField s i 24 (getD ws (k - 1) 0 % base) → s₂ ≡ withField s₁ (i + 24) 22 (getD ws (k - 1) 0 / base) →
+    (length s₂ ≡ length s) × (written (pointFields (pointsOf (k - 1) ws)) (i + 46) s₂ ≡ written (pointFields (pointsOf k ws)) i s)
+point-turn ws k h hk i s s₁ s₂ e₁ e₂ =
+    let w = getD ws (k - 1) 0 in
+    let r = pair-put (record { value = w % base; width = 24 }) (record { value = w / base; width = 22 }) (pointFields (pointsOf (k - 1) ws)) i s s₁ s₂ e₁ e₂ in
+    (r .0, r .1 ∙ ap (λ (fs : List Field). written fs i s) (sym (point-fields ws k h hk)))
+
+pub points-done : (ws : List ℕ) (k i : ℕ) (s : List ℕ) → k ≡ 0 → s ≡ written (pointFields (pointsOf k ws)) i s
+unfolding written pointFields pointsOf
+points-done ws k i s e = rw e
+
+points-length : (count : ℕ) (ws : List ℕ) → count ≤ length ws → length (pointsOf count ws) ≡ count
+unfolding pointsOf
+points-length count ws h = length-reverse (map (unpack base) (take count ws)) ∙ length-map (take count ws) (unpack base) ∙ length-take-le count ws h
+
+-- The count, then the points.
+pub list-written : (ws : List ℕ) (count : ℕ) → count ≤ length ws → (entry s₀ s₁ exit : List ℕ) →
+    let n = (5 + 46 * count + 7) / 8 in
+    let ps = pointsOf count ws in
+    s₀ ≡ replicate n 0 ++ drop n entry → s₁ ≡ withField s₀ 0 5 count → exit ≡ written (pointFields ps) 5 s₁ → Written (listSheet ps) entry exit n
+unfolding listSheet listFields
+list-written ws count h entry s₀ s₁ exit e₀ e₁ e =
+    let n = (5 + 46 * count + 7) / 8 in
+    let ps = pointsOf count ws in
+    let many : length ps ≡ count = points-length count ws h in
+    sheet-written (listFields ps) entry exit n
+    (ap (λ (k : ℕ). (5 + 46 * k + 7) / 8) (sym many) ∙ sym (list-sheet-length ps))
+    (e
+    ∙ field-put (record { value = length ps; width = 5 }) (pointFields ps) 0 s₀ s₁ (e₁ ∙ ap (withField s₀ 0 5) (sym many))
+    ∙ ap (written (listFields ps) 0) e₀)

@@ -1,0 +1,2 @@
+-- Laws that the proofs of `writing` cite.
+pub mod Laws

@@ -1,0 +1,94 @@
+use native.Mathlib.Omega.{arith}
+use Prim.Native.Nat.{_≤_, _-_, _+_, _*_}
+use mathlib.Core.Path.{_≡_, refl, _∙_}
+use lib.ListN.{length}
+use Rattle.covers.specs.CoverSheet.{written}
+use Rattle.writing.proofs.Laws.{matchesFrom, match-turn, matches-done}
+use Rattle.writing.proofs.put_matches.Statement.{statement}
+use Rattle.writing.proofs.put_matches.Tie as tie
+use Rattle.writing.proofs.put_matches.Reads as reads
+use Rattle.writing.proofs.put_matches.Lts as lts
+use Rattle.bits.proofs.put.Reads as put-reads
+
+abbrev Inv-loop : tie.InvT-loop
+Inv-loop output₀ nodes patterns count at₀ k₀ output at k =
+    (k ≤ count)
+    × (at ≡ 52 + 13 * k)
+    × (length output ≡ length output₀)
+    × (written (matchesFrom k count nodes patterns) at output ≡ written (matchesFrom 0 count nodes patterns) 52 output₀)
+
+abbrev μ-loop : tie.MeasureT-loop
+μ-loop output₀ nodes patterns count at₀ k₀ output at k = count - k
+
+loop-holds : tie.Need-loop-holds Inv-loop μ-loop
+loop-holds c = (omega arith, omega arith, refl, refl)
+
+shared-slice-read-put : tie.Need-shared-slice-read-put Inv-loop μ-loop
+shared-slice-read-put c = omega arith
+
+cast-put : tie.Need-cast-put Inv-loop μ-loop
+cast-put c = omega (arith, c .shared-slice-known3 .given (c .before .before .before .loop .k))
+
+put-requires : tie.Need-put-requires Inv-loop μ-loop
+put-requires c κs = omega arith
+
+add-put : tie.Need-add-put Inv-loop μ-loop
+add-put c = omega arith
+
+shared-slice-read-put-2 : tie.Need-shared-slice-read-put-2 Inv-loop μ-loop
+shared-slice-read-put-2 c = omega arith
+
+cast-put-2 : tie.Need-cast-put-2 Inv-loop μ-loop
+cast-put-2 c = omega (arith, c .shared-slice-known4 .given (c .before .before .before .before .before .before .before .before .loop .k))
+
+put-requires-2 : tie.Need-put-requires-2 Inv-loop μ-loop
+put-requires-2 c κs = omega arith
+
+add-at : tie.Need-add-at Inv-loop μ-loop
+add-at c = omega arith
+
+add-k : tie.Need-add-k Inv-loop μ-loop
+add-k c = omega arith
+
+loop-less : tie.Need-loop-less Inv-loop μ-loop
+loop-less c = omega arith
+
+loop-again : tie.Need-loop-again Inv-loop μ-loop
+loop-again c =
+    let a = c .before .before .before .before .before .before .before .before .before .before .before .before .before .before .before .args in
+    let i = c .before .before .before .before .before .before .before .before .before .before .before .loop in
+    let one = c .before .before .before .before .before .before .before .put in
+    let two = c .before .before .put2 in
+    let turn = match-turn (a .nodes .now) (a .patterns .now) (i .k) (a .count) (omega arith) (omega arith) (omega arith) (i .at) (i .output) (one .last .0) (two .last .0) (one .ensures) (two .ensures) in
+    (omega arith, omega arith, turn .0 ∙ i .inv .2, turn .1 ∙ i .inv .3)
+
+same-length : tie.Need-same-length Inv-loop μ-loop
+same-length c = omega arith
+
+returns : tie.Need-returns Inv-loop μ-loop
+returns c =
+    let a = c .before .before .before .before .before .args in
+    let i = c .before .loop in
+    let done : i .k ≡ a .count = omega arith in
+    matches-done (a .nodes .now) (a .patterns .now) (i .k) (a .count) (i .at) (i .output) done ∙ i .inv .3
+
+pub put-matches-spec : {M : Type 1} → statement M
+put-matches-spec =
+    tie.close
+    (tie.spec
+    Inv-loop
+    μ-loop
+    loop-holds
+    shared-slice-read-put
+    cast-put
+    put-requires
+    add-put
+    shared-slice-read-put-2
+    cast-put-2
+    put-requires-2
+    add-at
+    add-k
+    loop-less
+    loop-again
+    same-length
+    returns)

@@ -1,0 +1,2 @@
+-- What the contracts of `writing` say.
+pub mod Written
