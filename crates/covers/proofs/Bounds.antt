@@ -94,6 +94,6 @@ module _ {l : Library} (lim : Limited l 65_535 65_535 255 255) {load n : ℕ} {s
   pub arrival-bound : c .point .arrival ≤ 9_225_280
   arrival-bound = omega (arith, cover-within lim 1_000_000 legal light timely .arrival, gates-lt-size s)
 
--- So every cover of every node arrives before 9,225,281, the instant that the search for a curve begins at.
+-- So every cover of every node arrives before 9,225,281, and a search for a curve may begin there or later.
 pub arrive-before : {l : Library} → Limited l 65_535 65_535 255 255 → (root : Shape) → size root ≤ 64 → ((x : ℕ) → List·Memᴰ x (leaves root) → x ≤ 1_000_000) → {x : Node} → List·Memᴰ x (nodes 0 root) → {load : ℕ} → load ≤ 255 → (c : Cover) → List·Memᴰ c (covers l load (x .number) (x .shape)) → c .point .arrival < 9_225_281
 arrive-before {l} lim root few timely {x} m {load} light c k = omega (arith, arrival-bound lim (covers-are l load (x .number) (x .shape) k) light (omega (arith, node-ends 0 root m)) (λ a j. timely a (leaves-within 0 root m j)))
