@@ -83,7 +83,7 @@ module _ (symbols work found : List ℕ) (load count at : ℕ) where
       let f = bestBefore symbols work found load count in
       let left : 32 - k ≡ suc (32 - (k + 1)) = omega arith in
       let step : byDeadline (32 - k) f end ≡ pointOf w ∷ byDeadline (32 - (k + 1)) f (w % base) =
-              ap (λ (n : ℕ). byDeadline n f end) left ∙ ap (λ (o : Option Point). chained o (λ p. byDeadline (32 - (k + 1)) f (p .arrival))) e in
+      ap (λ (n : ℕ). byDeadline n f end) left ∙ ap (λ (o : Option Point). chained o (λ p. byDeadline (32 - (k + 1)) f (p .arrival))) e in
       record {
         points = g .points ++ (pointOf w ∷ []);
         many = length-append (g .points) (pointOf w ∷ []) ∙ ap (λ (n : ℕ). n + 1) (g .many);
@@ -92,7 +92,7 @@ module _ (symbols work found : List ℕ) (load count at : ℕ) where
             ap₂ (λ (l : List ℕ) (v : ℕ). set l (at + k) v) (g .laid) (sym (word-point w))
             ∙ ap (λ (i : ℕ). set (sets work at (map wordOf (g .points))) (at + i) (wordOf (pointOf w))) (sym (length-map (g .points) wordOf ∙ g .many))
             ∙ sym (sets-append work at (map wordOf (g .points)) (wordOf (pointOf w) ∷ []))
-            ∙ ap (sets work at) (sym (map-append wordOf (g .points) (pointOf w ∷ [])))
+            ∙ ap (sets work at) (sym (map-append wordOf (g .points) (pointOf w ∷ [])));
       }
 
   pub growing-done : (k end : ℕ) (work′ : List ℕ) → k ≤ 31 → Small work′ → Growing k end work′ → bestBefore symbols work found load count end ≡ none →
@@ -102,12 +102,12 @@ module _ (symbols work found : List ℕ) (load count at : ℕ) where
       let f = bestBefore symbols work found load count in
       let left : 32 - k ≡ suc (31 - k) = omega arith in
       let all : byDeadline 32 f base ≡ g .points =
-              g .so-far ∙ ap (λ (ps : List Point). g .points ++ ps) (ap (λ (n : ℕ). byDeadline n f end) left ∙ ap (λ (o : Option Point). chained o (λ p. byDeadline (31 - k) f (p .arrival))) e)
-              ∙ append-nil (g .points) in
+      g .so-far ∙ ap (λ (ps : List Point). g .points ++ ps) (ap (λ (n : ℕ). byDeadline n f end) left ∙ ap (λ (o : Option Point). chained o (λ p. byDeadline (31 - k) f (p .arrival))) e)
+      ∙ append-nil (g .points) in
       record {
         counted = sym (ap length all ∙ g .many);
         laid = g .laid ∙ ap (λ (ps : List Point). sets work at (map wordOf ps)) (sym (ap (take 31) all ∙ take-all 31 (g .points) (omega (arith, g .many))));
-        small = sm
+        small = sm;
       }
 
   pub growing-over : (end : ℕ) (work′ : List ℕ) (w : ℕ) → Small work′ → Growing 31 end work′ → bestBefore symbols work found load count end ≡ some (pointOf w) →
@@ -116,12 +116,12 @@ module _ (symbols work found : List ℕ) (load count at : ℕ) where
   growing-over end work′ w sm g e =
       let f = bestBefore symbols work found load count in
       let all : byDeadline 32 f base ≡ g .points ++ (pointOf w ∷ []) =
-              g .so-far ∙ ap (λ (ps : List Point). g .points ++ ps) (ap (λ (o : Option Point). chained o (λ p. byDeadline 0 f (p .arrival))) e) in
+      g .so-far ∙ ap (λ (ps : List Point). g .points ++ ps) (ap (λ (o : Option Point). chained o (λ p. byDeadline 0 f (p .arrival))) e) in
       record {
         counted = sym (ap length all ∙ length-append (g .points) (pointOf w ∷ []) ∙ ap (λ (n : ℕ). n + 1) (g .many));
         laid = g .laid ∙ ap (λ (ps : List Point). sets work at (map wordOf ps))
             (sym (ap (take 31) all ∙ ap (λ (n : ℕ). take n (g .points ++ (pointOf w ∷ []))) (sym (g .many)) ∙ take-append-seam (g .points) (pointOf w ∷ [])));
-        small = sm
+        small = sm;
       }
 
   -- What is stored so far changes nothing that is read.

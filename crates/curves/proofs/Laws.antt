@@ -143,6 +143,7 @@ module _ (symbols work row : List ℕ) (load end : ℕ) where
       none-right : (o : Option Point) → both o none ≡ none
       none-right none = unfold both in refl
       none-right (some p) = unfold both in refl
+
       go : (at k : ℕ) → rest at k ≡ none
       go at zero = unfold inputsBest before in rw (le-ltb 0 end (omega arith))
       go at (suc k) = unfold inputsBest in ap (both (inputLate symbols work row load end at)) (go (at + 4) k) ∙ none-right (inputLate symbols work row load end at)

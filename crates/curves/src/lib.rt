@@ -14,10 +14,15 @@ pub struct Words {
 
 impl Words {
     pub const BASE: u64 = 16777216;
+
     pub const ABSENT: u64 = 9223372036854775808;
+
     pub const STRIDE: usize = 32;
+
     pub const POINTS: usize = 31;
+
     pub const NODE: usize = 128;
+
     pub const ROW: usize = 68;
 }
 
@@ -98,7 +103,13 @@ fn input_word(row: &[u32], symbols: &[u32], work: &[u64], load: u32, end: u64, a
     ensures { λ r. ⌜ Worth 70368744177664 end r (inputLate (now (symbols .entry)) (now (work .entry)) (now (row .entry)) load end at) ⌝ }
 {
     let d = delay(row[at + 2], row[at + 3], load);
-    let w = input_best(symbols, work, row[at] as usize, row[at + 1] as usize, less(end, d));
+    let w = input_best(
+        symbols,
+        work,
+        row[at] as usize,
+        row[at + 1] as usize,
+        less(end, d),
+    );
     if w == Words::ABSENT {
         return Words::ABSENT;
     }
@@ -170,7 +181,15 @@ pub fn best(found: &[u32], count: usize, symbols: &[u32], work: &[u64], load: u3
 }
 
 // The curve of a node under a load, stored in its slot: its points, latest first. Of 32 points or more, 31 are stored and 32 is the answer.
-pub fn curve(node: usize, found: &[u32], count: usize, symbols: &[u32], work: &mut [u64], load: u32, bin: usize) -> usize
+pub fn curve(
+    node: usize,
+    found: &[u32],
+    count: usize,
+    symbols: &[u32],
+    work: &mut [u64],
+    load: u32,
+    bin: usize,
+) -> usize
     requires { ⌜ Matches (now found) count (now symbols) (now work) ⌝ }
     requires { ⌜ (node < 64) × (bin < 4) × (load ≤ 255) ⌝ }
     requires { ⌜ Above node (now found) count ⌝ }

@@ -85,8 +85,12 @@ module _ {rows : List ℕ} {total : ℕ} {cells : List CellRecord} {symbols size
 
   pub leaf-done : (loads : List ℕ) → gates s ≡ 0 → NodeDone l n s loads bins work work (record { points = replicate 4 0 })
   leaf-done loads e = record {
-    counted = λ h. absurd (omega arith); stored = λ h. absurd (omega arith); none = λ h b. zeros-at 4 b;
-    zero = λ k h. g .zero k (omega arith); agree = λ k h. refl; small = g .small
+    counted = λ h. absurd (omega arith);
+    stored = λ h. absurd (omega arith);
+    none = λ h b. zeros-at 4 b;
+    zero = λ k h. g .zero k (omega arith);
+    agree = λ k h. refl;
+    small = g .small;
   }
 
   -- After the matches are found.
@@ -111,9 +115,11 @@ module _ {rows : List ℕ} {total : ℕ} {cells : List CellRecord} {symbols size
         record {
           counted = λ q b k. h .counted b k ∙ ap length (points b k);
           stored = λ q b k few. h .stored b k (subst (λ (m : ℕ). m ≤ 31) (sym (ap length (points b k) ∙ ap length (take-all 32 (curve (covers l (getD loads b 0) n s)) (omega arith)))) few)
-            ∙ points b k ∙ take-all 32 (curve (covers l (getD loads b 0) n s)) (omega arith);
+              ∙ points b k ∙ take-all 32 (curve (covers l (getD loads b 0) n s)) (omega arith);
           none = λ e. absurd (omega arith);
-          zero = h .zero; agree = h .agree; small = h .small
+          zero = h .zero;
+          agree = h .agree;
+          small = h .small;
         }
       where
         points : (b : ℕ) → b < bins → pointsUnder symbols work found′ count loads b ≡ take 32 (curve (covers l (getD loads b 0) n s))

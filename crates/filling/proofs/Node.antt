@@ -43,11 +43,12 @@ same-gate (nand a b) h = tt
 -- The limits as matching asks them.
 pub sound-patterns : {l : Library} → SoundLibrary l → SoundPatterns l
 sound-patterns sound = record {
-  cells-few = sound .few-cells; patterns-few = sound .few-patterns;
+  cells-few = sound .few-cells;
+  patterns-few = sound .few-patterns;
   cells = λ c m. let h = sound .cells c m in record {
     few = h .few-pins;
-    drawings = λ d k. let g = h .drawings d k in record { gate = same-gate d (g .gate); small = g .size; pinned = g .leaves }
-  }
+    drawings = λ d k. let g = h .drawings d k in record { gate = same-gate d (g .gate); small = g .size; pinned = g .leaves };
+  };
 }
 
 abbrev noInput : Input
@@ -126,8 +127,8 @@ module _ (l : Library) (t : Tree) (sound : SoundLibrary l) (tree : SoundTree t) 
                 bin = rw (input-word l symbols [] row m w q 1 inside (omega arith)) (omega (arith, pin .0, sound .few-bins));
                 intrinsic = rw (input-word l symbols [] row m w q 2 inside (omega arith)) (pin .1);
                 drive = rw (input-word l symbols [] row m w q 3 inside (omega arith)) (pin .2);
-                room = omega (arith, sm .few)
-              }
+                room = omega (arith, sm .few);
+              };
         }
       where
         sound-pin : {c : Cell} → SoundCell (length (l .bins)) c → (i : Input) → (feeds c i .bin < length (l .bins)) × (feeds c i .intrinsic ≤ 65535) × (feeds c i .drive ≤ 255)
@@ -136,8 +137,13 @@ module _ (l : Library) (t : Tree) (sound : SoundLibrary l) (tree : SoundTree t) 
     pub rows-ready : (work : List ℕ) → length found ≡ 8704 → length symbols ≡ 64 → 8192 ≤ length work → ((k : ℕ) → getD symbols k 0 ≤ 1000002) → Small work →
         Matches found (length (fitting l n s)) symbols work
     rows-ready work hf hs hw ss sw = record {
-      rows = row-safe; found-length = hf; few = omega (arith, fitting-few n s l, sound .few-patterns);
-      symbols-length = hs; work-length = hw; symbols-small = ss; work-small = sw
+      rows = row-safe;
+      found-length = hf;
+      few = omega (arith, fitting-few n s l, sound .few-patterns);
+      symbols-length = hs;
+      work-length = hw;
+      symbols-small = ss;
+      work-small = sw;
     }
 
     pub rows-above : Above n found (length (fitting l n s))

@@ -114,7 +114,7 @@ module _ {rows : List ℕ} {total : ℕ} {cells : List CellRecord} {loads : List
     filled = filled-start l (t .shape) (tableOf work);
     zero = λ k h. g .zero k (omega (arith, g .tree .size));
     small = λ k. ⊎-elim (λ h. omega (arith, g .zero k h)) (λ h. omega (arith, List·getD-eq-default work 0 {n = k} (omega (arith, g .work-length)))) (lt-or-le k 8192);
-    fewer = λ x m h. absurd (omega (arith, ascending-range (nodes-ascend 0 (t .shape)) m .1))
+    fewer = λ x m h. absurd (omega (arith, ascending-range (nodes-ascend 0 (t .shape)) m .1));
   }
 
   pub bins-few : bins ≤ 4
@@ -126,16 +126,29 @@ module _ {rows : List ℕ} {total : ℕ} {cells : List CellRecord} {loads : List
   -- What is lent at each node.
   pub ready : (found′ work′ : List ℕ) (n bins′ : ℕ) → length found′ ≡ 8704 → length work′ ≡ 8192 → n < count → bins′ ≤ 4 → Progress l t (n + 1) work′ → (s : Shape) × FillReady rows total cells symbols sizes n found′ work′ bins′ l t s
   ready found′ work′ n bins′ ef ew h few p =
-      let x = node-at 0 (t .shape) n (omega arith) (omega (arith, g .count-is)) in
-      (x .0, record {
-        sound = g .sound; tree = g .tree; here = x .1;
-        matches = record {
-          sound = sound-patterns (g .sound); rows-are = g .rows-are; total-is = g .total-is; cells-are = g .cells-are; room-is = ef;
-          subject = subject-everywhere symbols sizes (t .shape) (g .tree .size) (g .symbols-are) (g .sizes-are) (record { number = n; shape = x .0 }) (x .1)
-        };
-        symbols-are = g .symbols-are; sizes-are = g .sizes-are; few-bins = few;
-        filled = subst (Filled l (t .shape) (tableOf work′)) (add-one n) (p .filled); zero = p .zero; small = p .small; work-length = omega (arith, ew)
-      })
+      let x = node-at 0 (t .shape) n (omega arith) (omega (arith, g .count-is)) in (
+        x .0,
+        record {
+          sound = g .sound;
+          tree = g .tree;
+          here = x .1;
+          matches = record {
+            sound = sound-patterns (g .sound);
+            rows-are = g .rows-are;
+            total-is = g .total-is;
+            cells-are = g .cells-are;
+            room-is = ef;
+            subject = subject-everywhere symbols sizes (t .shape) (g .tree .size) (g .symbols-are) (g .sizes-are) (record { number = n; shape = x .0 }) (x .1);
+          };
+          symbols-are = g .symbols-are;
+          sizes-are = g .sizes-are;
+          few-bins = few;
+          filled = subst (Filled l (t .shape) (tableOf work′)) (add-one n) (p .filled);
+          zero = p .zero;
+          small = p .small;
+          work-length = omega (arith, ew);
+        },
+      )
 
   -- The loads considered below the root, and at it.
   bins-at : (b : ℕ) → b < bins → getD loads b 0 ≡ getD (l .bins) b 0
@@ -151,7 +164,7 @@ module _ {rows : List ℕ} {total : ℕ} {cells : List CellRecord} {loads : List
   bins-loads e gate = record {
     some = λ h b k. subst (List·Memᴰ (getD loads b 0)) (sym e) (rw (bins-at b k) (at-mem (l .bins) b 0 (omega (arith, g .bins-is))));
     all = λ h x m. let q = index-of (l .bins) (subst (List·Memᴰ x) e m) in (q .0, omega (arith, q .1, g .bins-is), bins-at (q .0) (omega (arith, q .1, g .bins-is)) ∙ q .2);
-    leaf = λ h. absurd (gate h)
+    leaf = λ h. absurd (gate h);
   }
 
   below-loads : (n : ℕ) (s : Shape) → Loads l t (suc n) s loads bins
@@ -165,7 +178,7 @@ module _ {rows : List ℕ} {total : ℕ} {cells : List CellRecord} {loads : List
   root-loads s = record {
     some = λ h b k. let e : b ≡ 0 = omega arith in rw (e, g .load-is) (List·Memᴰ·head refl);
     all = λ h x m. (0, omega arith, g .load-is ∙ sym (List·Memᴰ·eq-of-singleton m));
-    leaf = λ h x m. only s h x
+    leaf = λ h x m. only s h x;
   }
     where
       only : (q : Shape) → gates q ≡ 0 → (x : ℕ) → length (tradeoffs l x 0 q) ≤ 31
@@ -203,12 +216,16 @@ module _ {rows : List ℕ} {total : ℕ} {cells : List CellRecord} {loads : List
       let s = x .0 in
       let here = x .1 .here in
       let d = done s (x .1) in
-      let are = below-loads g n s in
-      (named are here p d, λ none. record {
-        filled = filled-next l (t .shape) (tableOf work) (tableOf work′) (suc n) s (subst (Filled l (t .shape) (tableOf work)) (add-one (suc n)) (p .filled)) here (kept are here p d)
-            (λ q b m. let i : b < bins = omega (arith, g .bins-is) in d .stored q b i (curve-few are d none q b i) ∙ ap (λ (y : ℕ). curve (covers l y (suc n) s)) (bins-at g b i));
-        zero = d .zero; small = d .small; fewer = fewer-from are here p d none
-      })
+      let are = below-loads g n s in (
+        named are here p d,
+        λ none. record {
+          filled = filled-next l (t .shape) (tableOf work) (tableOf work′) (suc n) s (subst (Filled l (t .shape) (tableOf work)) (add-one (suc n)) (p .filled)) here (kept are here p d)
+              (λ q b m. let i : b < bins = omega (arith, g .bins-is) in d .stored q b i (curve-few are d none q b i) ∙ ap (λ (y : ℕ). curve (covers l y (suc n) s)) (bins-at g b i));
+          zero = d .zero;
+          small = d .small;
+          fewer = fewer-from are here p d none;
+        },
+      )
 
   pub root-turn : Progress l t 1 work → ((s : Shape) → FillReady rows total cells symbols sizes 0 found work 1 l t s → NodeDone l 0 s (load ∷ 0 ∷ 0 ∷ 0 ∷ []) 1 work work′ r) →
       (Exceeds true 1 r → overfullNode 31 l t ≡ some 0) × (Exceeds false 1 r → (overfullNode 31 l t ≡ none) × Stored l t work′)
@@ -218,10 +235,15 @@ module _ {rows : List ℕ} {total : ℕ} {cells : List CellRecord} {loads : List
       let here = x .1 .here in
       let d = done s (x .1) in
       let are = root-loads g s in
-      let e : s ≡ t .shape = ap {A = Node} (λ y. y .shape) (ascending-unique (nodes-ascend 0 (t .shape)) here (root-in 0 (t .shape)) refl) in
-      (named are here p d, λ few. (none-named (overfull-named 31 l t) (λ y m. fewer-from are here p d few y m (omega arith)), record {
-        below = λ y m k q b i. kept are here p d (y .number) b k ∙ p .filled y m k q b i;
-        root = λ q. let q′ = subst (λ (y : Shape). 0 < gates y) (sym e) q in
-            d .stored q′ 0 (omega arith) (curve-few are d few q′ 0 (omega arith)) ∙ ap (λ (y : Shape). curve (covers l load 0 y)) e ∙ ap (λ (y : ℕ). curve (covers l y 0 (t .shape))) (g .load-is);
-        small = d .small
-      }))
+      let e : s ≡ t .shape = ap {A = Node} (λ y. y .shape) (ascending-unique (nodes-ascend 0 (t .shape)) here (root-in 0 (t .shape)) refl) in (
+        named are here p d,
+        λ few. (
+          none-named (overfull-named 31 l t) (λ y m. fewer-from are here p d few y m (omega arith)),
+          record {
+            below = λ y m k q b i. kept are here p d (y .number) b k ∙ p .filled y m k q b i;
+            root = λ q. let q′ = subst (λ (y : Shape). 0 < gates y) (sym e) q in
+                d .stored q′ 0 (omega arith) (curve-few are d few q′ 0 (omega arith)) ∙ ap (λ (y : Shape). curve (covers l load 0 y)) e ∙ ap (λ (y : ℕ). curve (covers l y 0 (t .shape))) (g .load-is);
+            small = d .small;
+          },
+        ),
+      )

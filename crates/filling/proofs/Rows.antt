@@ -69,12 +69,12 @@ module _ (l : Library) (symbols work : List ℕ) where
       let drive : getD row (at + 3) 0 ≡ p .drive = w 3 (omega arith) in
       let d : getD row (at + 2) 0 + getD row (at + 3) 0 * load ≡ p .intrinsic + p .drive * load = ap₂ (λ (a b : ℕ). a + b * load) slow drive in
       ap₂ both
-        (ap (λ (k : ℕ). Option·map (late k) (inputBest symbols work (getD row at 0) (getD row (at + 1) 0) (end - k))) d
-        ∙ ap (Option·map (late (p .intrinsic + p .drive * load)))
-          (ap₂ (λ (n b : ℕ). inputBest symbols work n b (end - (p .intrinsic + p .drive * load))) node bin ∙ input-is i p (end - (p .intrinsic + p .drive * load)) (h i (List·Memᴰ·head refl))))
-        (inputs-are row c load end (at + 4) is
-          (λ k g. let e : at + 4 + k ≡ at + suc (suc (suc (suc k))) = omega arith in ap (λ (q : ℕ). getD row q 0) e ∙ w (suc (suc (suc (suc k)))) (omega arith))
-          (λ j m. h j (List·Memᴰ·tail m)))
+      (ap (λ (k : ℕ). Option·map (late k) (inputBest symbols work (getD row at 0) (getD row (at + 1) 0) (end - k))) d
+      ∙ ap (Option·map (late (p .intrinsic + p .drive * load)))
+      (ap₂ (λ (n b : ℕ). inputBest symbols work n b (end - (p .intrinsic + p .drive * load))) node bin ∙ input-is i p (end - (p .intrinsic + p .drive * load)) (h i (List·Memᴰ·head refl))))
+      (inputs-are row c load end (at + 4) is
+      (λ k g. let e : at + 4 + k ≡ at + suc (suc (suc (suc k))) = omega arith in ap (λ (q : ℕ). getD row q 0) e ∙ w (suc (suc (suc (suc k)))) (omega arith))
+      (λ j m. h j (List·Memᴰ·tail m)))
 
   -- A row that holds a match.
   abbrev pub Holds : List ℕ → Match → Type 0
@@ -89,7 +89,7 @@ module _ (l : Library) (symbols work : List ℕ) where
   row-is-match row m load end w h =
       ap₂ (λ (a n : ℕ). Option·map (raised a) (inputsBest symbols work row load end 4 n)) (w 1 (omega arith)) (w 3 (omega arith))
       ∙ ap (Option·map (raised (m .pattern .cell .area)))
-        (inputs-are row (m .pattern .cell) load end 4 (m .inputs) (λ k g. let e : 4 + k ≡ suc (suc (suc (suc k))) = omega arith in ap (λ (q : ℕ). getD row q 0) e ∙ w (suc (suc (suc (suc k)))) (omega arith)) h)
+      (inputs-are row (m .pattern .cell) load end 4 (m .inputs) (λ k g. let e : 4 + k ≡ suc (suc (suc (suc k))) = omega arith in ap (λ (q : ℕ). getD row q 0) e ∙ w (suc (suc (suc (suc k)))) (omega arith)) h)
 
 -- A load is legal for a cell if it is below the first that is not.
 pub legal-is : (c : Cell) (load : ℕ) → ltb load (firstIllegal c) ≡ legal c load

@@ -42,7 +42,7 @@ module _ (symbols work₀ found : List ℕ) (count : ℕ) (loads : List ℕ) (no
       let load = getD loads b 0 in
       let ps = pointsUnder symbols work₀ found count loads b in
       let same-points : byDeadline 32 (bestBefore symbols work found load count) base ≡ ps =
-              ap (λ (f : ℕ → Option Point). byDeadline 32 f base) (fun-ext (λ e. done-same (b + 1) work points d load e)) in
+      ap (λ (f : ℕ → Option Point). byDeadline 32 f base) (fun-ext (λ e. done-same (b + 1) work points d load e)) in
       let laid : work′ ≡ sets work (slot node b) (map wordOf (take 31 ps)) = c .laid ∙ ap (λ (q : List Point). sets work (slot node b) (map wordOf (take 31 q))) same-points in
       let few : length (map wordOf (take 31 ps)) ≤ 31 = omega (arith, length-map (take 31 ps) wordOf, length-take 31 ps) in
       let after : AgreeFrom (slot node b + 32) work′ work = λ k l. ap (λ (q : List ℕ). getD q k 0) laid ∙ sets-above work (slot node b) (map wordOf (take 31 ps)) k (omega arith) in
@@ -53,7 +53,7 @@ module _ (symbols work₀ found : List ℕ) (count : ℕ) (loads : List ℕ) (no
         agree = λ k l. after k (omega arith) ∙ d .agree k l;
         many = length-set points b r ∙ d .many;
         counted = λ i l m. counted i (eq-or-lt-of-le l) m (c .counted ∙ ap length same-points);
-        stored = λ i l m. stored i (eq-or-lt-of-le l) m laid after
+        stored = λ i l m. stored i (eq-or-lt-of-le l) m laid after;
       }
     where
       counted : (i : ℕ) → (b ≡ i) ⊎ (b < i) → i < bins → r ≡ length (pointsUnder symbols work₀ found count loads b) → getD (set points b r) i 0 ≡ length (pointsUnder symbols work₀ found count loads i)
@@ -61,14 +61,15 @@ module _ (symbols work₀ found : List ℕ) (count : ℕ) (loads : List ℕ) (no
           subst (λ (j : ℕ). getD (set points b r) j 0 ≡ length (pointsUnder symbols work₀ found count loads j)) e
           (getD-set-same points b r 0 (omega (arith, d .many)) ∙ q)
       counted i (inr l) m q = getD-set-other points b i r 0 (λ e. absurd (omega arith)) ∙ d .counted i (omega arith) m
+
       stored : (i : ℕ) → (b ≡ i) ⊎ (b < i) → i < bins → work′ ≡ sets work (slot node b) (map wordOf (take 31 (pointsUnder symbols work₀ found count loads b))) → AgreeFrom (slot node b + 32) work′ work →
           length (pointsUnder symbols work₀ found count loads i) ≤ 31 → tableOf work′ node i ≡ pointsUnder symbols work₀ found count loads i
       stored i (inl e) m laid after =
           subst (λ (j : ℕ). length (pointsUnder symbols work₀ found count loads j) ≤ 31 → tableOf work′ node j ≡ pointsUnder symbols work₀ found count loads j) e
           (λ few.
-            let ps = pointsUnder symbols work₀ found count loads b in
-            ap (λ (q : List ℕ). tableOf q node b) (laid ∙ ap (λ (q : List Point). sets work (slot node b) (map wordOf q)) (take-all 31 ps few))
-            ∙ stored-laid work (slot node b) 32 ps (λ k l g. d .zero k (omega arith)) (omega arith) (omega (arith, d .length-kept))
-              (deadline-all 32 (bestBefore symbols work₀ found (getD loads b 0) count) base fit))
+          let ps = pointsUnder symbols work₀ found count loads b in
+          ap (λ (q : List ℕ). tableOf q node b) (laid ∙ ap (λ (q : List Point). sets work (slot node b) (map wordOf q)) (take-all 31 ps few))
+          ∙ stored-laid work (slot node b) 32 ps (λ k l g. d .zero k (omega arith)) (omega arith) (omega (arith, d .length-kept))
+          (deadline-all 32 (bestBefore symbols work₀ found (getD loads b 0) count) base fit))
       stored i (inr l) m laid after = λ few.
           stored-same work′ work (slot node b + 32) (slot node i) 32 (omega arith) after ∙ d .stored i (omega arith) m few

@@ -22,7 +22,15 @@ pub enum Filling {
 }
 
 // The curves of a node under its loads, from the last one down.
-fn fill_node(node: usize, found: &[u32], count: usize, symbols: &[u32], work: &mut [u64], loads: [u8; 4], bins: usize) -> Counts
+fn fill_node(
+    node: usize,
+    found: &[u32],
+    count: usize,
+    symbols: &[u32],
+    work: &mut [u64],
+    loads: [u8; 4],
+    bins: usize,
+) -> Counts
     requires { ⌜ Matches (now found) count (now symbols) (now work) ⌝ }
     requires { ⌜ (node < 64) × (bins ≤ 4) ⌝ }
     requires { ⌜ Above node (now found) count ⌝ }
@@ -41,7 +49,18 @@ fn fill_node(node: usize, found: &[u32], count: usize, symbols: &[u32], work: &m
 }
 
 // The curves of a node: a leaf has none.
-fn fill_at<'a>(rows: &'a [u32], total: usize, cells: [CellRecord; 64], symbols: &'a [u32], sizes: &'a [u8], node: usize, found: &mut [u32], work: &mut [u64], loads: [u8; 4], bins: usize) -> Counts
+fn fill_at<'a>(
+    rows: &'a [u32],
+    total: usize,
+    cells: [CellRecord; 64],
+    symbols: &'a [u32],
+    sizes: &'a [u8],
+    node: usize,
+    found: &mut [u32],
+    work: &mut [u64],
+    loads: [u8; 4],
+    bins: usize,
+) -> Counts
     requires { ⌜ ((l : Library) × ((t : Tree) × ((s : Shape) × FillReady (now rows) total cells (now symbols) (now sizes) node (now found) (now work) bins l t s))) ⌝ }
     requires { ⌜ ((b : ℕ) → b < bins → getD loads b 0 ≤ 255) ⌝ }
     ensures { λ r. ⌜ ((l : Library) (t : Tree) (s : Shape) → FillReady (now (rows .entry)) total cells (now (symbols .entry)) (now (sizes .entry)) node (now (found .entry)) (now (work .entry)) bins l t s →
@@ -91,12 +110,34 @@ pub fn fill<'a>(
     let mut node = count;
     while 1 < node {
         node -= 1;
-        let counts = fill_at(rows, total, cells, symbols, sizes, node, found, work, loads, bins);
+        let counts = fill_at(
+            rows,
+            total,
+            cells,
+            symbols,
+            sizes,
+            node,
+            found,
+            work,
+            loads,
+            bins,
+        );
         if too_many(counts, bins) {
             return Filling::Overfull(node);
         }
     }
-    let counts = fill_at(rows, total, cells, symbols, sizes, 0, found, work, [load, 0u8, 0u8, 0u8], 1);
+    let counts = fill_at(
+        rows,
+        total,
+        cells,
+        symbols,
+        sizes,
+        0,
+        found,
+        work,
+        [load, 0u8, 0u8, 0u8],
+        1,
+    );
     if too_many(counts, 1) {
         return Filling::Overfull(0);
     }

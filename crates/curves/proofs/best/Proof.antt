@@ -58,12 +58,17 @@ legal-match-requires c κs =
     let a = c .before .before .before .before .before .before .args in
     let j = c .before .before .loop .j in
     let m = p .0 in
-    let part : 68 * j + 68 - 68 * j ≡ 68 = omega arith in
-    (record {
-      safe = subst (λ (n : ℕ). RowSafe (take n (drop (68 * j) (a .found .now)))) (sym part) (m .rows j (omega arith));
-      row-length = length-take-le (68 * j + 68 - 68 * j) (drop (68 * j) (a .found .now)) (omega (arith, length-drop (68 * j) (a .found .now), m .found-length, m .few)) ∙ part;
-      symbols-length = m .symbols-length; work-length = m .work-length; symbols-small = m .symbols-small; work-small = m .work-small
-    }, p .1)
+    let part : 68 * j + 68 - 68 * j ≡ 68 = omega arith in (
+      record {
+        safe = subst (λ (n : ℕ). RowSafe (take n (drop (68 * j) (a .found .now)))) (sym part) (m .rows j (omega arith));
+        row-length = length-take-le (68 * j + 68 - 68 * j) (drop (68 * j) (a .found .now)) (omega (arith, length-drop (68 * j) (a .found .now), m .found-length, m .few)) ∙ part;
+        symbols-length = m .symbols-length;
+        work-length = m .work-length;
+        symbols-small = m .symbols-small;
+        work-small = m .work-small;
+      },
+      p .1,
+    )
 
 -- src/lib.rt:165:9
 lower-requires : tie.Need-lower-requires Inv-loop μ-loop
@@ -83,11 +88,12 @@ loop-again c =
     let a = c .before .before .before .before .before .before .before .before .args in
     let i = c .before .before .before .before .loop in
     let part : 68 * i .j + 68 - 68 * i .j ≡ 68 = omega arith in
-    let w = c .before .legal-match in
-    (omega arith,
-    subst (λ (v : ℕ). Worth 2251799813685248 (a .end) v (rowsBest (a .symbols .now) (a .work .now) (a .found .now) (a .load) (a .end) (i .j + 1))) (sym (c .lower .ensures))
-    (rows-turn (a .symbols .now) (a .work .now) (a .found .now) (a .load) (a .end) (i .j) (i .least) (w .result) (i .inv .1)
-    (subst (λ (n : ℕ). Worth 2251799813685248 (a .end) (w .result) (legalBest (a .symbols .now) (a .work .now) (take n (drop (68 * i .j) (a .found .now))) (a .load) (a .end))) part (w .ensures))))
+    let w = c .before .legal-match in (
+      omega arith,
+      subst (λ (v : ℕ). Worth 2251799813685248 (a .end) v (rowsBest (a .symbols .now) (a .work .now) (a .found .now) (a .load) (a .end) (i .j + 1))) (sym (c .lower .ensures))
+          (rows-turn (a .symbols .now) (a .work .now) (a .found .now) (a .load) (a .end) (i .j) (i .least) (w .result) (i .inv .1)
+          (subst (λ (n : ℕ). Worth 2251799813685248 (a .end) (w .result) (legalBest (a .symbols .now) (a .work .now) (take n (drop (68 * i .j) (a .found .now))) (a .load) (a .end))) part (w .ensures))),
+    )
 
 -- src/lib.rt:155:1
 returns : tie.Need-returns Inv-loop μ-loop

@@ -47,8 +47,13 @@ cast-count c = omega (arith, c .before .before .before .before .before .pre .0 .
 
 -- src/lib.rt:119:5
 loop-holds : tie.Need-loop-holds Inv-loop μ-loop
-loop-holds c = (omega arith, refl, omega arith, omega (arith, c .before .if1 .left),
-    ap (inputsBest (c .before .before .before .before .before .args .symbols .now) (c .before .before .before .before .before .args .work .now) (c .before .before .before .before .before .args .row .now) (c .before .before .before .before .before .args .load) (c .before .before .before .before .before .args .end) 4) (sym (sub-zero (getD (c .before .before .before .before .before .args .row .now) 3 0))) ∙ sym (both-nothing _))
+loop-holds c = (
+  omega arith,
+  refl,
+  omega arith,
+  omega (arith, c .before .if1 .left),
+  ap (inputsBest (c .before .before .before .before .before .args .symbols .now) (c .before .before .before .before .before .args .work .now) (c .before .before .before .before .before .args .row .now) (c .before .before .before .before .before .args .load) (c .before .before .before .before .before .args .end) 4) (sym (sub-zero (getD (c .before .before .before .before .before .args .row .now) 3 0))) ∙ sym (both-nothing _),
+)
 
 -- src/lib.rt:120:63
 mul-input-word : tie.Need-mul-input-word Inv-loop μ-loop
@@ -101,11 +106,15 @@ loop-again c =
     let g = c .before .before .input-word .ensures in
     let z = c .before .if2 .left in
     let best : ℕ → ℕ → Option Point = λ at m. inputsBest (a .symbols .now) (a .work .now) (a .row .now) (a .load) (a .end) at m in
-    let four : 4 + 4 * i .k + 4 ≡ 4 + 4 * (i .k + 1) = omega arith in
-    (omega arith, refl, omega (arith, g .small z, i .inv .2), omega (arith, g .intime z, i .inv .3, c .later .ensures),
-    i .inv .4 ∙ ap (λ (m : ℕ). both (some p) (best (4 + 4 * i .k) m)) (one-less n (i .k) (omega arith))
-    ∙ match-turn (a .symbols .now) (a .work .now) (a .row .now) (a .load) (a .end) (4 + 4 * i .k) (n - (i .k + 1)) p w (g .point z)
-    ∙ ap₂ (λ (t at : ℕ). both (some (record { area = i .area + w / base; arrival = t })) (best at (n - (i .k + 1)))) (sym (c .later .ensures)) four)
+    let four : 4 + 4 * i .k + 4 ≡ 4 + 4 * (i .k + 1) = omega arith in (
+      omega arith,
+      refl,
+      omega (arith, g .small z, i .inv .2),
+      omega (arith, g .intime z, i .inv .3, c .later .ensures),
+      i .inv .4 ∙ ap (λ (m : ℕ). both (some p) (best (4 + 4 * i .k) m)) (one-less n (i .k) (omega arith))
+          ∙ match-turn (a .symbols .now) (a .work .now) (a .row .now) (a .load) (a .end) (4 + 4 * i .k) (n - (i .k + 1)) p w (g .point z)
+          ∙ ap₂ (λ (t at : ℕ). both (some (record { area = i .area + w / base; arrival = t })) (best at (n - (i .k + 1)))) (sym (c .later .ensures)) four,
+    )
 
 -- src/lib.rt:128:11
 shared-slice-read-wide : tie.Need-shared-slice-read-wide Inv-loop μ-loop
@@ -136,7 +145,7 @@ returns-3 c =
     let n = getD (a .row .now) 3 0 in
     let done : n - i .k ≡ 0 = omega (arith, c .before .before .loop-test .left) in
     let whole = i .inv .4 ∙ ap (λ (m : ℕ). both (some p) (inputsBest (a .symbols .now) (a .work .now) (a .row .now) (a .load) (a .end) (4 + 4 * i .k) m)) done
-            ∙ match-whole (a .symbols .now) (a .work .now) (a .row .now) (a .load) (a .end) (4 + 4 * i .k) p (omega (arith, i .inv .3)) in
+    ∙ match-whole (a .symbols .now) (a .work .now) (a .row .now) (a .load) (a .end) (4 + 4 * i .k) p (omega (arith, i .inv .3)) in
     let safe = c .before .before .before .before .before .before .before .before .before .pre .0 .safe in
     subst (λ (v : ℕ). Worth 2251799813685248 (a .end) ((v + i .area) * base + i .arrival) (rowBest (a .symbols .now) (a .work .now) (a .row .now) (a .load) (a .end))) (sym (c .wide .ensures))
     (row-worth (a .symbols .now) (a .work .now) (a .row .now) (a .load) (a .end) n p refl whole (safe .area) (omega (arith, safe .few, i .inv .2)) (i .inv .3) (omega arith))

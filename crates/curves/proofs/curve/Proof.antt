@@ -58,11 +58,18 @@ loop-holds c =
 best-requires : tie.Need-best-requires Inv-loop μ-loop
 best-requires c κs =
     let i = c .before .before .loop in
-    let m = c .before .before .before .before .before .before .pre .0 in
-    (record {
-      rows = m .rows; found-length = m .found-length; few = m .few; symbols-length = m .symbols-length;
-      work-length = omega (arith, i .inv .1, m .work-length); symbols-small = m .symbols-small; work-small = i .inv .3
-    }, (omega arith, i .inv .2))
+    let m = c .before .before .before .before .before .before .pre .0 in (
+      record {
+        rows = m .rows;
+        found-length = m .found-length;
+        few = m .few;
+        symbols-length = m .symbols-length;
+        work-length = omega (arith, i .inv .1, m .work-length);
+        symbols-small = m .symbols-small;
+        work-small = i .inv .3;
+      },
+      (omega arith, i .inv .2),
+    )
 
 -- src/lib.rt:186:13
 same-length : tie.Need-same-length Inv-loop μ-loop
@@ -116,9 +123,13 @@ loop-again c =
     let w = c .before .before .best .result in
     let z = c .before .if1 .left in
     let found = sym (seen (c .before .before)) ∙ c .before .before .best .ensures .point z in
-    let small : w < 70368744177664 = omega (arith, fits (a .symbols .now) (a .work .now) (a .found .now) (a .load) (a .count) (c .before .before .before .before .before .before .before .before .before .pre .1 .1 .1) (i .end) w found) in
-    (omega (arith, c .if2 .left), length-set (i .work) (128 * a .node + 32 * a .bin + i .k) w ∙ i .inv .1, omega arith, small-set (i .work) (128 * a .node + 32 * a .bin + i .k) w (i .inv .3) small,
-    growing-next (a .symbols .now) (a .work .now) (a .found .now) (a .load) (a .count) (128 * a .node + 32 * a .bin) (i .k) (i .end) (i .work) w (omega arith) (i .inv .4) found)
+    let small : w < 70368744177664 = omega (arith, fits (a .symbols .now) (a .work .now) (a .found .now) (a .load) (a .count) (c .before .before .before .before .before .before .before .before .before .pre .1 .1 .1) (i .end) w found) in (
+      omega (arith, c .if2 .left),
+      length-set (i .work) (128 * a .node + 32 * a .bin + i .k) w ∙ i .inv .1,
+      omega arith,
+      small-set (i .work) (128 * a .node + 32 * a .bin + i .k) w (i .inv .3) small,
+      growing-next (a .symbols .now) (a .work .now) (a .found .now) (a .load) (a .count) (128 * a .node + 32 * a .bin) (i .k) (i .end) (i .work) w (omega arith) (i .inv .4) found,
+    )
 
 -- src/lib.rt:173:1
 same-length-3 : tie.Need-same-length-3 Inv-loop μ-loop

@@ -63,11 +63,12 @@ loop-again : tie.Need-loop-again Inv-loop μ-loop
 loop-again c =
     let a = c .before .before .before .before .before .args in
     let i = c .before .before .before .before .loop in
-    let on : suc (a .at + i .k) ≡ a .at + (i .k + 1) = omega arith in
-    (omega arith,
-    i .inv .1 ∙ ap (λ (n : ℕ). lookup (a .end) (stored (a .work .now) (a .at + i .k) n)) (one-less 32 (i .k) (omega arith))
-    ∙ found-later (a .work .now) (a .end) (a .at + i .k) (32 - (i .k + 1)) (c .before .if1 .left) (c .if2 .left)
-    ∙ ap (λ (q : ℕ). lookup (a .end) (stored (a .work .now) q (32 - (i .k + 1)))) on)
+    let on : suc (a .at + i .k) ≡ a .at + (i .k + 1) = omega arith in (
+      omega arith,
+      i .inv .1 ∙ ap (λ (n : ℕ). lookup (a .end) (stored (a .work .now) (a .at + i .k) n)) (one-less 32 (i .k) (omega arith))
+          ∙ found-later (a .work .now) (a .end) (a .at + i .k) (32 - (i .k + 1)) (c .before .if1 .left) (c .if2 .left)
+          ∙ ap (λ (q : ℕ). lookup (a .end) (stored (a .work .now) q (32 - (i .k + 1)))) on,
+    )
 
 -- src/lib.rt:23:1
 returns-3 : tie.Need-returns-3 Inv-loop μ-loop

@@ -32,7 +32,7 @@ sub-node c = omega arith
 
 -- src/lib.rt:94:13
 fill-at-requires : tie.Need-fill-at-requires Inv-loop μ-loop
-fill-at-requires c κs = 
+fill-at-requires c κs =
     let p = c .before .before .before .before .before .before .before .before .before .pre in
     let a = c .before .before .before .before .before .before .before .before .before .args in
     let i = c .before .before .before .loop in
@@ -69,17 +69,21 @@ loop-less c = omega arith
 
 -- src/lib.rt:92:5
 loop-again : tie.Need-loop-again Inv-loop μ-loop
-loop-again c = 
+loop-again c =
     let i = c .before .before .before .before .before .before .before .before .before .before .loop in
     let call = c .before .before .before .before .before .before .fill-at in
-    let e : i .node ≡ (i .node - 1) + 1 = omega arith in
-    ((omega arith, omega arith), call .kept .1 .1 .1 .1 .1 .1 .0 ∙ i .inv .1, call .kept .1 .1 .1 .1 .1 .1 .1 .0 ∙ i .inv .2, λ l t g.
-    turn g (i .found) (i .work) (call .last .1 .1 .1 .1 .1 .1 .1 .0) (call .result) (i .inv .1) (i .inv .2) (i .node - 1) (omega arith) (omega arith) (subst (λ (k : ℕ). Progress l t k (i .work)) e (i .inv .3 l t g)) (call .ensures l t) .1
-    (subst (λ q. Exceeds q (c .before .before .before .before .before .before .before .before .before .before .before .before .before .before .before .before .args .bins) (call .result)) (c .if1 .left) (c .before .too-many .ensures)))
+    let e : i .node ≡ (i .node - 1) + 1 = omega arith in (
+      (omega arith, omega arith),
+      call .kept .1 .1 .1 .1 .1 .1 .0 ∙ i .inv .1,
+      call .kept .1 .1 .1 .1 .1 .1 .1 .0 ∙ i .inv .2,
+      λ l t g.
+          turn g (i .found) (i .work) (call .last .1 .1 .1 .1 .1 .1 .1 .0) (call .result) (i .inv .1) (i .inv .2) (i .node - 1) (omega arith) (omega arith) (subst (λ (k : ℕ). Progress l t k (i .work)) e (i .inv .3 l t g)) (call .ensures l t) .1
+          (subst (λ q. Exceeds q (c .before .before .before .before .before .before .before .before .before .before .before .before .before .before .before .before .args .bins) (call .result)) (c .if1 .left) (c .before .too-many .ensures)),
+    )
 
 -- src/lib.rt:99:9
 fill-at-requires-2 : tie.Need-fill-at-requires-2 Inv-loop μ-loop
-fill-at-requires-2 c κs = 
+fill-at-requires-2 c κs =
     let p = c .before .before .before .before .before .before .before .before .before .pre in
     let i = c .before .before .before .loop in
     let g = p .1 .1 in

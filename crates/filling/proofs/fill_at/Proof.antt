@@ -40,10 +40,16 @@ fill-node-requires c κs =
     let call = c .before .before .before .before .find-matches in
     let f = call .ensures (p .0) (p .1 .1 .0) (g .matches) in
     let gate = gate-here g (omega arith) in
-    let found = call .last .1 .1 .1 .1 .1 .1 .0 in
-    (node-matches g found (call .result) (f .0) (f .1) gate, ((omega (arith, node-within g), g .few-bins),
-    (node-above g found (call .result) (f .0) (f .1) gate,
-    ((λ b h. node-fits g found (call .result) (f .0) (f .1) gate (getD (a .loads) b 0) (first .pre .1 b h)), g .zero))))
+    let found = call .last .1 .1 .1 .1 .1 .1 .0 in (
+      node-matches g found (call .result) (f .0) (f .1) gate,
+      (
+        (omega (arith, node-within g), g .few-bins),
+        (
+          node-above g found (call .result) (f .0) (f .1) gate,
+          ((λ b h. node-fits g found (call .result) (f .0) (f .1) gate (getD (a .loads) b 0) (first .pre .1 b h)), g .zero),
+        ),
+      ),
+    )
 
 -- src/lib.rt:37:1
 same-length : tie.Need-same-length

@@ -23,10 +23,18 @@ abbrev μ-loop : tie.MeasureT-loop
 
 -- src/lib.rt:26:5
 loop-holds : tie.Need-loop-holds Inv-loop μ-loop
-loop-holds c = (omega arith, record {
-    length-kept = refl; small = c .before .before .before .pre .0 .work-small; zero = λ k l. c .before .before .before .pre .1 .1 .1 .1 k (omega arith); agree = λ k l. refl; many = refl;
-    counted = λ i l m. absurd (omega arith); stored = λ i l m. absurd (omega arith)
-  })
+loop-holds c = (
+  omega arith,
+  record {
+    length-kept = refl;
+    small = c .before .before .before .pre .0 .work-small;
+    zero = λ k l. c .before .before .before .pre .1 .1 .1 .1 k (omega arith);
+    agree = λ k l. refl;
+    many = refl;
+    counted = λ i l m. absurd (omega arith);
+    stored = λ i l m. absurd (omega arith);
+  },
+)
 
 -- src/lib.rt:27:9
 sub-b : tie.Need-sub-b Inv-loop μ-loop
@@ -49,12 +57,24 @@ curve-requires c κs =
     let m = p .0 in
     let d = i .inv .1 in
     let b = i .b - 1 in
-    let byte : Fits w8 (getD (a .t6) b 0) = search needs in
-    (record {
-      rows = m .rows; found-length = m .found-length; few = m .few; symbols-length = m .symbols-length;
-      work-length = omega (arith, d .length-kept, m .work-length); symbols-small = m .symbols-small; work-small = d .small
-    }, ((omega arith, omega arith, omega (arith, byte .fits)), (p .1 .1 .0,
-    λ e q h. p .1 .1 .1 .0 b (omega arith) e q (sym (done-same (a .symbols .now) (a .work .now) (a .found .now) (a .count) (a .t6) (a .node) (a .bins) (p .1 .1 .0) (i .b) (i .work) (i .points) d (getD (a .t6) b 0) e) ∙ h))))
+    let byte : Fits w8 (getD (a .t6) b 0) = search needs in (
+      record {
+        rows = m .rows;
+        found-length = m .found-length;
+        few = m .few;
+        symbols-length = m .symbols-length;
+        work-length = omega (arith, d .length-kept, m .work-length);
+        symbols-small = m .symbols-small;
+        work-small = d .small;
+      },
+      (
+        (omega arith, omega arith, omega (arith, byte .fits)),
+        (
+          p .1 .1 .0,
+          λ e q h. p .1 .1 .1 .0 b (omega arith) e q (sym (done-same (a .symbols .now) (a .work .now) (a .found .now) (a .count) (a .t6) (a .node) (a .bins) (p .1 .1 .0) (i .b) (i .work) (i .points) d (getD (a .t6) b 0) e) ∙ h),
+        ),
+      ),
+    )
 
 -- src/lib.rt:29:21
 cast-points : tie.Need-cast-points Inv-loop μ-loop
@@ -77,11 +97,12 @@ loop-again c =
     let d = i .inv .1 in
     let b = i .b - 1 in
     let up : i .b ≡ b + 1 = omega arith in
-    let r = c .before .before .curve in
-    (omega arith,
-    done-next (a .symbols .now) (a .work .now) (a .found .now) (a .count) (a .t6) (a .node) (a .bins) (p .1 .1 .0) b (i .work) (i .points) (r .last .1 .1 .1 .1 .0) (r .result)
-    (omega arith) (omega arith) (omega arith) (p .0 .work-length) (p .1 .1 .1 .0 b (omega arith))
-    (subst (λ (k : ℕ). Done (a .symbols .now) (a .work .now) (a .found .now) (a .count) (a .t6) (a .node) (a .bins) k (i .work) (i .points)) up d) (r .kept .1 .1 .1 .1 .0) (r .ensures))
+    let r = c .before .before .curve in (
+      omega arith,
+      done-next (a .symbols .now) (a .work .now) (a .found .now) (a .count) (a .t6) (a .node) (a .bins) (p .1 .1 .0) b (i .work) (i .points) (r .last .1 .1 .1 .1 .0) (r .result)
+          (omega arith) (omega arith) (omega arith) (p .0 .work-length) (p .1 .1 .1 .0 b (omega arith))
+          (subst (λ (k : ℕ). Done (a .symbols .now) (a .work .now) (a .found .now) (a .count) (a .t6) (a .node) (a .bins) k (i .work) (i .points)) up d) (r .kept .1 .1 .1 .1 .0) (r .ensures),
+    )
 
 -- src/lib.rt:16:1
 same-length : tie.Need-same-length Inv-loop μ-loop
@@ -98,7 +119,7 @@ returns c =
       stored = λ b h. d .stored b (omega arith) h;
       zero = λ k l. d .zero k (omega arith);
       agree = d .agree;
-      small = d .small
+      small = d .small;
     }
 
 pub fill-node-spec : {M : Type 1} → statement M

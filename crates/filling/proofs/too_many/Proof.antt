@@ -42,7 +42,7 @@ loop-less c = omega arith
 
 -- src/lib.rt:64:5
 loop-again : tie.Need-loop-again Inv-loop μ-loop
-loop-again c = 
+loop-again c =
     let i = c .before .before .loop in
     let points = c .before .before .before .before .args .counts .points in
     (omega arith, λ k l. ⊎-elim (i .inv .1 k) (λ m. let e : k ≡ i .b = omega arith in subst (λ (j : ℕ). getD points j 0 ≤ 31) (sym e) (omega arith)) (lt-or-le k (i .b)))
