@@ -1,0 +1,82 @@
+-- The whole answer for a sound library and a sound tree: what was filled, then what was written.
+use Prim.Native.Nat.{ℕ, _≤_}
+use mathlib.Core.Path.{_≡_, sym, subst, _∙_}
+use mathlib.Core.List.{List}
+use mathlib.Core.Option.{Option, none, some, Option·map}
+use native.Mathlib.Omega.{arith}
+use lib.ListN.{length}
+use Rattle.sheets.specs.declared.CellRecord.{CellRecord}
+use Rattle.sheets.specs.Model.{Library, Tree}
+use Rattle.covers.specs.Choice.{choice}
+use Rattle.covers.specs.Tradeoff.{tradeoffs, overfullNode}
+use Rattle.covers.specs.Answer.{answered, onSheet, mapped, mapAnswer, nonempty, listed, listAnswer}
+use Rattle.covers.specs.Outcome.{capacity, answering}
+use Rattle.covers.specs.CoverSheet.{coverSheet, listSheet}
+use Rattle.filling.specs.declared.Filling.the-variants.{Whole, Overfull}
+use Rattle.filling.specs.Promises.{FillStart, FillingIs}
+use Rattle.mapper.specs.declared.Chosen.{Chosen}
+use Rattle.mapper.specs.declared.Reply.{Reply}
+use Rattle.mapper.specs.declared.Reply.the-variants.{Refused}
+use Rattle.mapper.specs.Promises.{Put, kept, put, Asked, Curved, replyTo, Replied, unchanged, written, Start}
+
+module _ {A : Type 0} (f : A → List ℕ) {entry exit : List ℕ} where
+  overfull-replied : {o : Option ℕ} {n : ℕ} (a : Option A) → o ≡ some n → exit ≡ entry → Replied entry exit (answering (onSheet f (answered o a))) (Refused 7 n)
+  unfolding answering onSheet answered
+  overfull-replied {n = n} a e h = subst (λ (q : Option ℕ). Replied entry exit (answering (onSheet f (answered q a))) (Refused 7 n)) (sym e) (unchanged h)
+
+  put-replied : {o : Option ℕ} (a : Option A) {chosen : Chosen} {r : Reply} → o ≡ none → Put entry exit (Option·map f a) chosen → r ≡ replyTo chosen → Replied entry exit (answering (onSheet f (answered o a))) r
+  unfolding answering onSheet answered replyTo
+  put-replied {o} a {chosen} e p q = subst (Replied entry exit (answering (onSheet f (answered o a)))) (sym q) (subst (λ (o : Option ℕ). Replied entry exit (answering (onSheet f (answered o a))) (replyTo chosen)) (sym e) (go a p))
+    where
+      go : (b : Option A) {ch : Chosen} → Put entry exit (Option·map f b) ch → Replied entry exit (answering (onSheet f (answered none b))) (replyTo ch)
+      go none (kept h) = unchanged h
+      go (some c) (put w) = written w
+
+module _ {rows : List ℕ} {total : ℕ} {cells : List CellRecord} {loads : List ℕ} {bins : ℕ} {ss zs : List ℕ} {count load : ℕ} {found work : List ℕ} {l : Library} {t : Tree} where
+  pub core-asked : {time : ℕ} → Start rows total cells loads bins ss zs count load time found work l t → (found′ work′ : List ℕ) → length found′ ≡ length found → length work′ ≡ length work → FillingIs l t work′ Whole →
+      Asked l t rows total cells loads ss zs load time work′ (length found′)
+  core-asked s found′ work′ hf hw w = record {
+    decoded = record {
+      library = s .fill .sound;
+      tree = s .fill .tree;
+      rows-are = s .fill .rows-are;
+      total-is = s .fill .total-is;
+      cells-are = s .fill .cells-are;
+      symbols-are = s .fill .symbols-are;
+      sizes-are = s .fill .sizes-are;
+      room-is = hf ∙ s .fill .room;
+      work-long = omega (arith, hw, s .fill .work-length);
+      curves = w .1;
+    };
+    loads-are = s .fill .loads-are;
+    load-is = s .fill .load-is;
+    time-is = s .time-is;
+  }
+
+  pub core-curved : FillStart rows total cells loads bins ss zs count load found work l t → (work′ : List ℕ) → length work′ ≡ length work → FillingIs l t work′ Whole → Curved l t ss work′
+  core-curved s work′ hw w = record {
+    tree = s .tree;
+    symbols-are = s .symbols-are;
+    work-long = omega (arith, hw, s .work-length);
+    curves = w .1;
+    not-overfull = w .0;
+  }
+
+module _ (l : Library) (t : Tree) (work entry exit : List ℕ) where
+  pub map-overfull : (n : ℕ) → FillingIs l t work (Overfull n) → exit ≡ entry → Replied entry exit (answering (mapAnswer capacity l t)) (Refused 7 n)
+  unfolding mapAnswer mapped
+  map-overfull n e h = overfull-replied coverSheet (choice l (t .load) 0 (t .shape) (t .required)) e h
+
+  pub map-replied : (chosen : Chosen) (r : Reply) → FillingIs l t work Whole → Put entry exit (Option·map coverSheet (choice l (t .load) 0 (t .shape) (t .required))) chosen → r ≡ replyTo chosen →
+      Replied entry exit (answering (mapAnswer capacity l t)) r
+  unfolding mapAnswer mapped
+  map-replied chosen r w p q = put-replied coverSheet (choice l (t .load) 0 (t .shape) (t .required)) (w .0) p q
+
+  pub list-overfull : (n : ℕ) → FillingIs l t work (Overfull n) → exit ≡ entry → Replied entry exit (answering (listAnswer capacity l t)) (Refused 7 n)
+  unfolding listAnswer listed
+  list-overfull n e h = overfull-replied listSheet (nonempty (tradeoffs l (t .load) 0 (t .shape))) e h
+
+  pub list-replied : (chosen : Chosen) (r : Reply) → FillingIs l t work Whole → Put entry exit (Option·map listSheet (nonempty (tradeoffs l (t .load) 0 (t .shape)))) chosen → r ≡ replyTo chosen →
+      Replied entry exit (answering (listAnswer capacity l t)) r
+  unfolding listAnswer listed
+  list-replied chosen r w p q = put-replied listSheet (nonempty (tradeoffs l (t .load) 0 (t .shape))) (w .0) p q

@@ -1,0 +1,90 @@
+use borrow.Author.Needs.{needs}
+use native.Mathlib.Omega.{arith}
+use mathlib.Core.Path.{refl, subst}
+use Rattle.filling.specs.Promises.{FillingIs}
+use Rattle.mapper.proofs.Core.{core-asked, map-overfull, map-replied}
+use Rattle.mapper.proofs.map_core.Statement.{statement}
+use Rattle.mapper.proofs.map_core.Tie as tie
+use Rattle.mapper.proofs.map_core.Reads as reads
+use Rattle.mapper.proofs.map_core.Lts as lts
+use Rattle.filling.proofs.fill.Reads as fill-reads
+use Rattle.mapper.proofs.answer.Reads as answer-reads
+use Rattle.mapper.proofs.write_chosen.Reads as write-chosen-reads
+
+-- src/lib.rt:172:9
+fill-requires : tie.Need-fill-requires
+fill-requires c κs = let p = c .before .before .before .before .before .before .before .before .pre in (p .1 .0, (p .1 .1 .0, p .1 .1 .1 .fill))
+
+-- src/lib.rt:173:30
+enum-known-filling : tie.Need-enum-known-filling
+enum-known-filling c = search needs
+
+-- src/lib.rt:174:9
+same-length : tie.Need-same-length
+same-length c = search needs
+
+-- src/lib.rt:174:9
+same-length-2 : tie.Need-same-length-2
+same-length-2 c = search needs
+
+-- src/lib.rt:174:9
+returns : tie.Need-returns
+returns c l t start =
+    let a = c .before .before .before .before .before .before .before .before .before .before .before .before .before .before .before .before .args in
+    let f = c .before .before .before .before .before .before .before .fill in
+    let told = c .before .filling .given in
+    map-overfull l t (f .last .1 .1 .1 .1 .1 .1 .1 .1 .1 .1 .0) (a .output .now) (a .output .now) (told .0 .0) (subst (FillingIs l t (f .last .1 .1 .1 .1 .1 .1 .1 .1 .1 .1 .0)) (told .1) (f .ensures l t (start .fill))) refl
+
+enum-told : tie.Need-enum-told
+enum-told c = search needs
+
+-- src/lib.rt:176:12
+write-chosen-requires : tie.Need-write-chosen-requires
+write-chosen-requires c κs =
+    let p = c .before .before .before .before .before .before .before .before .before .before .before .before .before .before .before .before .before .before .pre in
+    let f = c .before .before .before .before .before .before .before .before .before .fill in
+    let s = p .1 .1 .1 in
+    (p .0, (p .1 .0, (p .1 .1 .0, core-asked s (f .last .1 .1 .1 .1 .1 .1 .1 .1 .1 .0) (f .last .1 .1 .1 .1 .1 .1 .1 .1 .1 .1 .0) (f .kept .1 .1 .1 .1 .1 .1 .1 .1 .1 .0) (f .kept .1 .1 .1 .1 .1 .1 .1 .1 .1 .1 .0) (subst (FillingIs (p .1 .0) (p .1 .1 .0) (f .last .1 .1 .1 .1 .1 .1 .1 .1 .1 .1 .0)) (c .before .before .before .enum-told .given .1) (f .ensures (p .1 .0) (p .1 .1 .0) (s .fill))))))
+
+-- src/lib.rt:176:5
+answer-requires : tie.Need-answer-requires
+answer-requires c κs = search needs
+
+-- src/lib.rt:153:1
+same-length-3 : tie.Need-same-length-3
+same-length-3 c = search needs
+
+-- src/lib.rt:153:1
+same-length-4 : tie.Need-same-length-4
+same-length-4 c = search needs
+
+-- src/lib.rt:153:1
+same-length-5 : tie.Need-same-length-5
+same-length-5 c = search needs
+
+-- src/lib.rt:153:1
+returns-2 : tie.Need-returns-2
+returns-2 c l t start =
+    let a = c .before .before .before .before .before .before .before .before .before .before .before .before .before .before .before .before .before .before .before .before .before .before .before .before .args in
+    let f = c .before .before .before .before .before .before .before .before .before .before .before .before .before .before .before .fill in
+    let w = c .before .before .before .before .before .write-chosen in
+    let whole = subst (FillingIs l t (f .last .1 .1 .1 .1 .1 .1 .1 .1 .1 .1 .0)) (c .before .before .before .before .before .before .before .before .before .enum-told .given .1) (f .ensures l t (start .fill)) in
+    map-replied l t (f .last .1 .1 .1 .1 .1 .1 .1 .1 .1 .1 .0) (a .output .now) (w .last .1 .1 .1 .1 .1 .1 .1 .1 .1 .1 .0) (w .result) (c .answer .result) whole
+    (w .ensures l t (core-asked start (f .last .1 .1 .1 .1 .1 .1 .1 .1 .1 .0) (f .last .1 .1 .1 .1 .1 .1 .1 .1 .1 .1 .0) (f .kept .1 .1 .1 .1 .1 .1 .1 .1 .1 .0) (f .kept .1 .1 .1 .1 .1 .1 .1 .1 .1 .1 .0) whole)) (c .answer .ensures)
+
+pub map-core-spec : {M : Type 1} → statement M
+map-core-spec =
+    tie.close
+    (tie.spec
+    fill-requires
+    enum-known-filling
+    same-length
+    same-length-2
+    returns
+    enum-told
+    write-chosen-requires
+    answer-requires
+    same-length-3
+    same-length-4
+    same-length-5
+    returns-2)

@@ -1,0 +1,2 @@
+-- What the contracts of `mapper` say.
+pub mod Promises
