@@ -1,0 +1,69 @@
+use borrow.Author.Needs.{needs}
+use Rattle.sheets.specs.TreeSheet.{tree as treeOf}
+use Rattle.sheets.specs.Report.{start}
+use Rattle.covers.specs.Answer.{mapAnswer}
+use Rattle.covers.specs.Outcome.{capacity}
+use Rattle.operations.proofs.Laws.{tree-laid, tree-answered, tree-not-sound}
+use Rattle.operations.proofs.map_tree.Statement.{statement}
+use Rattle.operations.proofs.map_tree.Tie as tie
+use Rattle.operations.proofs.map_tree.Reads as reads
+use Rattle.operations.proofs.map_tree.Lts as lts
+use Rattle.operations.proofs.map_decoded.Reads as map-decoded-reads
+use Rattle.sheets.proofs.read_tree.Reads as read-tree-reads
+use Rattle.sheets.proofs.tree_number.Reads as tree-number-reads
+
+read-tree-requires : tie.Need-read-tree-requires
+read-tree-requires c κs = search needs
+
+enum-told : tie.Need-enum-told
+enum-told c = search needs
+
+map-decoded-requires : tie.Need-map-decoded-requires
+map-decoded-requires c κs =
+    let first = c .before .before .before .before .before .before .before .before in
+    let read = c .before .before .before .before .read-tree in
+    let told = c .before .before .enum-told .given in
+    let p = first .pre .2 in
+    (first .pre .0, first .pre .1, (p .0, (treeOf (first .args .tree .now) start .0, tree-laid (first .args .tree .now) (read .result) (read .ensures) (p .1) (told .0 .0) (told .1))))
+
+enum-known-scan : tie.Need-enum-known-scan
+enum-known-scan c = search needs
+
+tree-number-requires : tie.Need-tree-number-requires
+tree-number-requires c κs = search needs
+
+same-length : tie.Need-same-length
+same-length c = search needs
+
+same-length-2 : tie.Need-same-length-2
+same-length-2 c = search needs
+
+returns : tie.Need-returns
+returns c l laid =
+    let first = c .before .before .before .before .before .before .before .before .before .before .before .before .before in
+    let read = c .before .before .before .before .before .before .before .before .before .read-tree in
+    let told = c .before .before .before .before .before .before .before .enum-told .given in
+    let call = c .before .before .before .before .map-decoded in
+    let ts = first .args .tree .now in
+    tree-answered ts (read .result) (read .ensures) (mapAnswer capacity l) (told .0 .0) (told .1) (call .ensures .1 l (treeOf ts start .0) (tree-laid ts (read .result) (read .ensures) laid (told .0 .0) (told .1))) (call .ensures .0)
+
+returns-2 : tie.Need-returns-2
+returns-2 c l laid =
+    let first = c .before .before .before .before .before .before .before .before in
+    let read = c .before .before .before .before .read-tree in
+    let told = c .before .before .scan .given in
+    tree-not-sound (first .args .tree .now) (read .result) (read .ensures) (mapAnswer capacity l) (first .args .output .now) (first .args .work .now) (told .0 .0) (told .0 .1 .0) (c .tree-number .result) (told .1) (c .tree-number .ensures .0)
+
+pub map-tree-spec : {M : Type 1} → statement M
+map-tree-spec =
+    tie.close
+    (tie.spec
+    read-tree-requires
+    enum-told
+    map-decoded-requires
+    enum-known-scan
+    tree-number-requires
+    same-length
+    same-length-2
+    returns
+    returns-2)
