@@ -3,20 +3,25 @@
 ghost use Prim.Native.Nat.{_<_};
 ghost use lib.ListN.{length};
 
+// The input is not what its lengths say.
+fn write_spoiled() {
+    io::write_all(libc::STDOUT_FILENO, b"spoiled\n");
+}
+
 // The case at `at`. Answers where the next one starts.
 fn run_case(s: &[u8], at: usize) -> usize
     requires { ⌜ at < length (now s) ⌝ }
     ensures { λ r. ⌜ at < r ⌝ }
 {
     if s.len() - at < 3 {
-        answers::write_spoiled();
+        write_spoiled();
         return s.len();
     }
     let kind = s[at];
     let len = answers::length_of(s[at + 1], s[at + 2]);
     let first = at + 3;
     if s.len() - first < len {
-        answers::write_spoiled();
+        write_spoiled();
         return s.len();
     }
     let end = first + len;
