@@ -19,5 +19,6 @@ pub mod refusal;
 pub mod rng;
 pub mod shape;
 pub mod sheet;
+pub mod text;
 pub mod tree;
 pub mod verdict;

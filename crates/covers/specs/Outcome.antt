@@ -1,8 +1,9 @@
 -- The whole answer of map and of list, from the bytes of the two sheets and the lengths of what is lent: a number and a place, or the sheet.
-use Prim.Native.Nat.{ℕ}
-use mathlib.Core.Bool.{Bool, cond, _&&_}
-use mathlib.Core.List.{List}
-use lib.Dec.{leb}
+use Prim.Native.Nat.{ℕ, _+_, _*_, _^_}
+use mathlib.Core.Bool.{Bool, cond, _&&_, _||_}
+use mathlib.Core.List.{List, _++_}
+use lib.Dec.{leb, eqb}
+use lib.ListN.{length, drop, replicate}
 use Rattle.shapes.specs.declared.Scan.{Scan}
 use Rattle.shapes.specs.declared.Scan.the-variants.{At, Refused}
 use Rattle.sheets.specs.Model.{Library, Tree}
@@ -55,3 +56,32 @@ mapOutcome = operation 109 (mapAnswer capacity)
 unfoldable pub listOutcome : List ℕ → List ℕ → ℕ → ℕ → Outcome
 unfolding operation listAnswer
 listOutcome = operation 179 (listAnswer capacity)
+
+-- What the caller is told of an outcome: document 01's number and place, or how many bytes the sheet has.
+pub data Told : Type 0 where
+  refusal : (number place : ℕ) → Told
+  bytes : ℕ → Told
+
+unfoldable pub told : Outcome → Told
+told (refused number place) = refusal number place
+told (sheet s) = bytes (length s)
+
+-- The same in one word: a refusal is number × 2^32 + place.
+unfoldable pub word : Told → ℕ
+word (refusal number place) = number * 2 ^ 32 + place
+word (bytes n) = n
+
+-- The output after an outcome: the sheet in its first bytes and later bytes as they were; a refusal leaves it as it was.
+unfoldable pub outputAfter : Outcome → List ℕ → List ℕ
+outputAfter (refused number place) output = output
+outputAfter (sheet s) output = s ++ drop (length s) output
+
+-- The first n words are zero, and those beyond are as they were.
+unfoldable pub cleared : ℕ → List ℕ → List ℕ
+cleared n work = replicate n 0 ++ drop n work
+
+-- The work area after an outcome: its first 8,192 words are zero after a sheet and after refusals 7 and 8; others leave it as it was.
+unfoldable pub workAfter : Outcome → List ℕ → List ℕ
+unfolding cleared
+workAfter (refused number place) work = cond (eqb number 7 || eqb number 8) (cleared 8192 work) work
+workAfter (sheet s) work = cleared 8192 work

@@ -1,9 +1,15 @@
 // The C interface: see include/treecover.h. A refusal is number × 2^32 + place.
+use mapper::Reply;
 use sheets::LibraryJudged;
 use sheets::TreeJudged;
 ghost use mathlib.Core.Path.{_≡_};
 ghost use Prim.Native.Nat.{_+_, _*_, _<_, _≤_, _^_};
+ghost use lib.ListN.{length};
 ghost use Rattle.sheets.specs.Report.{word, libraryReport, treeReport};
+ghost use Rattle.covers.specs.Outcome.{told, mapOutcome, listOutcome};
+ghost use Rattle.covers.specs.Outcome.{word as wordOf};
+ghost use Rattle.mapper.specs.Promises.{ofReply, Limited};
+ghost use Rattle.operations.specs.Promises.{Leaves};
 
 // A refusal in one word.
 fn refusal(number: u32, place: usize) -> u64
@@ -35,4 +41,45 @@ pub extern "C" fn treecover_judge_tree(tree: &[u8]) -> u64
         TreeJudged::Sound(nodes) => nodes as u64,
         TreeJudged::Refused(fault, place) => refusal(sheets::tree_number(fault), place),
     }
+}
+
+// A reply in one word.
+fn reply_word(reply: Reply) -> u64
+    requires { ⌜ Limited reply ⌝ }
+    ensures { λ r. ⌜ r ≡ wordOf (ofReply reply) ⌝ }
+{
+    match reply {
+        Reply::Refused(number, place) => refusal(number, place),
+        Reply::Sheet(bytes) => bytes as u64,
+    }
+}
+
+// Maps a tree: the bytes of the cover sheet in the output, or the refusal.
+#[no_mangle]
+pub extern "C" fn treecover_map(
+    library: &[u8],
+    tree: &[u8],
+    output: &mut [u8],
+    work: &mut [u64],
+) -> u64
+    ensures { λ r. ⌜ r ≡ wordOf (told (mapOutcome (now (library .entry)) (now (tree .entry)) (length (now (output .entry))) (length (now (work .entry))))) ⌝ }
+    ensures { λ r. ⌜ Leaves (mapOutcome (now (library .entry)) (now (tree .entry)) (length (now (output .entry))) (length (now (work .entry)))) (now (output .entry)) (now (output .exit)) (now (work .entry)) (now (work .exit)) ⌝ }
+{
+    let reply = operations::map(library, tree, output, work);
+    reply_word(reply)
+}
+
+// Lists the trade-offs of a tree's root: the bytes of the list sheet in the output, or the refusal.
+#[no_mangle]
+pub extern "C" fn treecover_list(
+    library: &[u8],
+    tree: &[u8],
+    output: &mut [u8],
+    work: &mut [u64],
+) -> u64
+    ensures { λ r. ⌜ r ≡ wordOf (told (listOutcome (now (library .entry)) (now (tree .entry)) (length (now (output .entry))) (length (now (work .entry))))) ⌝ }
+    ensures { λ r. ⌜ Leaves (listOutcome (now (library .entry)) (now (tree .entry)) (length (now (output .entry))) (length (now (work .entry)))) (now (output .entry)) (now (output .exit)) (now (work .entry)) (now (work .exit)) ⌝ }
+{
+    let reply = operations::list(library, tree, output, work);
+    reply_word(reply)
 }

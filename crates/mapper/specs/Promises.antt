@@ -1,5 +1,5 @@
 -- What map and list are given once the curves are stored, and what they leave in the output.
-use Prim.Native.Nat.{ℕ, _≤_}
+use Prim.Native.Nat.{ℕ, _≤_, _<_, _^_}
 use mathlib.Core.Path.{_≡_}
 use mathlib.Core.List.{List}
 use mathlib.Core.Option.{Option, none, some}
@@ -10,7 +10,7 @@ use Rattle.sheets.specs.Model.{Library, Tree}
 use Rattle.sheets.specs.Layout.{padded}
 use Rattle.sheets.proofs.Sound.{SoundTree}
 use Rattle.covers.specs.Tradeoff.{overfullNode}
-use Rattle.covers.specs.Outcome.{Outcome, capacity, refused, sheet}
+use Rattle.covers.specs.Outcome.{Outcome, Told, refusal, bytes, told, outputAfter, capacity}
 use Rattle.curves.specs.Stored.{Stored}
 use Rattle.filling.specs.Promises.{FillStart}
 use Rattle.choosing.specs.Promises.{Decoded}
@@ -45,10 +45,21 @@ unfoldable pub replyTo : Chosen → Reply
 replyTo NoCover = Refused 8 0
 replyTo (Bytes r) = Sheet r
 
--- The refusal, and the output as it was; or the sheet at the front of the output, and its length.
-pub data Replied (entry exit : List ℕ) : Outcome → Reply → Type 0 where
-  unchanged : {number place : ℕ} → exit ≡ entry → Replied entry exit (refused number place) (Refused number place)
-  written : {bytes : List ℕ} {r : ℕ} → Written bytes entry exit r → Replied entry exit (sheet bytes) (Sheet r)
+-- What each case of the reply says.
+unfoldable pub ofReply : Reply → Told
+ofReply (Refused number place) = refusal number place
+ofReply (Sheet n) = bytes n
+
+-- The limits that a reply keeps, so that a refusal fits in a word.
+unfoldable pub Limited : Reply → Type 0
+Limited (Refused number place) = (number ≤ 16) × (place < 2 ^ 20)
+Limited (Sheet n) = Unit {0}
+
+-- The reply says what the outcome tells, and the output is what the outcome leaves.
+pub record Replied (entry exit : List ℕ) (o : Outcome) (r : Reply) : Type 0 where
+  pub reply-is : ofReply r ≡ told o
+  pub output-is : exit ≡ outputAfter o entry
+  pub limited : Limited r
 
 -- The library and the tree as decoded, with the tree's required time, before any curve.
 pub record Start (rows : List ℕ) (total : ℕ) (cells : List CellRecord) (loads : List ℕ) (bins : ℕ) (ss zs : List ℕ) (count load time : ℕ) (found work : List ℕ) (l : Library) (t : Tree) : Type 0 where

@@ -1,7 +1,7 @@
 -- From the records that the readers hand over to what the core is given, and the work area after it.
 use mathlib.Core.Path.{_≡_, refl, sym, ap, subst, _∙_}
 use mathlib.Core.List.{List, _++_}
-use Prim.Native.Nat.{ℕ, _-_, _≤_, _<_}
+use Prim.Native.Nat.{ℕ, _-_, _≤_, _<_, _^_}
 use native.Mathlib.Omega.{arith}
 use lib.ListN.{length, getD, take, drop, replicate, length-append, length-replicate, length-take, List·getD-append}
 use lib.Seq.{getD-take, drop-append-seam}
@@ -28,13 +28,15 @@ use Rattle.sheets.specs.LibrarySheet.{library as libraryOf}
 use Rattle.sheets.specs.TreeSheet.{tree as treeOf}
 use Rattle.sheets.specs.Promises.{LibraryIs, TreeIs}
 use Rattle.sheets.specs.Report.{start, libraryNumber, treeNumber}
+use Rattle.sheets.specs.Report as Report
 use Rattle.sheets.proofs.Sound.{library-limits, tree-limits}
+use Rattle.sheets.proofs.Whole.{library-refused-limited, tree-refused-limited}
 use Rattle.covers.specs.Answer.{Answer, overfullAt, noCover, success}
-use Rattle.covers.specs.Outcome.{Outcome, refused, sheet, answering, withTree, withLibrary, lent, operation}
+use Rattle.covers.specs.Outcome.{Outcome, refused, told, outputAfter, cleared, workAfter, answering, withTree, withLibrary, lent, operation}
 use Rattle.mapper.specs.declared.Reply.{Reply}
 use Rattle.mapper.specs.declared.Reply.the-variants as Reply
-use Rattle.mapper.specs.Promises.{Replied, unchanged}
-use Rattle.operations.specs.Promises.{Laid, LibraryLaid, cleared, workAfter, Operated}
+use Rattle.mapper.specs.Promises.{ofReply, Limited, Replied}
+use Rattle.operations.specs.Promises.{Laid, LibraryLaid, Operated}
 
 -- The first n words of a work area that begins with n zeros.
 zeros-first : (n : ℕ) (rest work : List ℕ) → work ≡ replicate n 0 ++ rest → (k : ℕ) → k < n → getD (take n work) k 0 ≡ 0
@@ -100,6 +102,13 @@ tree-spared Range p work = refl
 tree-spared Drawing p work = refl
 tree-spared Size p work = refl
 
+-- A refusal that leaves the work area as it was: output and work area are untouched.
+untouched : (output work : List ℕ) (number place n : ℕ) → n ≡ number → workAfter (refused number place) work ≡ work → number ≤ 16 → place < 2 ^ 20 → Operated (refused number place) output output work work (Reply.Refused n place)
+unfolding told outputAfter ofReply Limited
+untouched output work number place n k spared few near =
+    subst (λ (m : ℕ). Operated (refused number place) output output work work (Reply.Refused m place)) (sym k)
+    (record { reply-is = refl; leaves = record { output-is = refl; work-is = sym spared }; limited = (few, near) })
+
 module _ (ts : List ℕ) (read : TreeRead) (h : TreeIs ts read) where
   pub tree-laid : {l : Library} {library : LibraryRecord} → LibraryLaid l library → (c : Cursor) → read .scan ≡ At c → Laid l (treeOf ts start .0) library (read .tree)
   tree-laid g c e = record { sound = g .sound; library-is = g .library-is; tree-sound = tree-limits ts (subst Live (sym e ∙ h .scan-is) tt); tree-is = h .laid (subst Live (sym e) tt) }
@@ -109,13 +118,13 @@ module _ (ts : List ℕ) (read : TreeRead) (h : TreeIs ts read) where
     unfolding withTree
     tree-answered c e p w =
         subst (λ (o : Outcome). Operated o output output′ work work′ r) (ap (λ (q : Scan). withTree answer (treeOf ts start .0, q)) (sym e ∙ h .scan-is))
-        (record { replied = p; work-is = w ∙ sym (worked (answer (treeOf ts start .0)) work) })
+        (record { reply-is = p .reply-is; leaves = record { output-is = p .output-is; work-is = w ∙ sym (worked (answer (treeOf ts start .0)) work) }; limited = p .limited })
 
-  pub tree-not-sound : (answer : Tree → Answer (List ℕ)) (output work : List ℕ) (f : Fault) (p n : ℕ) → read .scan ≡ Refused f p → n ≡ treeNumber f → Operated (withTree answer (treeOf ts start)) output output work work (Reply.Refused n p)
-  unfolding withTree
+  pub tree-not-sound : (answer : Tree → Answer (List ℕ)) (output work : List ℕ) (f : Fault) (p n : ℕ) → read .scan ≡ Refused f p → (n ≡ treeNumber f) × (n ≤ 16) → Operated (withTree answer (treeOf ts start)) output output work work (Reply.Refused n p)
+  unfolding withTree Report.Limited
   tree-not-sound answer output work f p n e k =
       subst (λ (o : Outcome). Operated o output output work work (Reply.Refused n p)) (ap (λ (q : Scan). withTree answer (treeOf ts start .0, q)) (sym e ∙ h .scan-is))
-      (subst (λ (m : ℕ). Operated (refused (treeNumber f) p) output output work work (Reply.Refused m p)) (sym k) (record { replied = unchanged refl; work-is = sym (tree-spared f p work) }))
+      (untouched output work (treeNumber f) p n (k .0) (tree-spared f p work) (omega (arith, k)) (tree-refused-limited ts read h f p e))
 
 module _ (ls : List ℕ) (read : LibraryRead) (h : LibraryIs ls read) where
   pub library-laid : (c : Cursor) → read .scan ≡ At c → LibraryLaid (libraryOf ls start .0) (read .library)
@@ -137,7 +146,7 @@ short-work least o w r h g = rw (le-leb least o h, lt-leb 8192 w g)
 module _ (least : ℕ) (answer : Library → Tree → Answer (List ℕ)) (ls ts output work : List ℕ) where
   pub lent-short : lent least (length output) (length work) (withLibrary answer (libraryOf ls start) (treeOf ts start)) ≡ refused 1 0 → Operated (operation least answer ls ts (length output) (length work)) output output work work (Reply.Refused 1 0)
   unfolding operation workAfter
-  lent-short e = subst (λ (o : Outcome). Operated o output output work work (Reply.Refused 1 0)) (sym e) (record { replied = unchanged refl; work-is = refl })
+  lent-short e = subst (λ (o : Outcome). Operated o output output work work (Reply.Refused 1 0)) (sym e) (untouched output work 1 0 1 refl refl (omega arith) (omega arith))
 
   module _ (long : least ≤ length output) (room : 8192 ≤ length work) (read : LibraryRead) (h : LibraryIs ls read) where
     pub library-answered : {output′ work′ : List ℕ} {r : Reply} (c : Cursor) → read .scan ≡ At c → Operated (withTree (answer (libraryOf ls start .0)) (treeOf ts start)) output output′ work work′ r → Operated (operation least answer ls ts (length output) (length work)) output output′ work work′ r
@@ -146,9 +155,9 @@ module _ (least : ℕ) (answer : Library → Tree → Answer (List ℕ)) (ls ts 
         subst (λ (o : Outcome). Operated o output output′ work work′ r)
         (ap (λ (q : Scan). withLibrary answer (libraryOf ls start .0, q) (treeOf ts start)) (sym e ∙ h .scan-is) ∙ sym (enough least (length output) (length work) (withLibrary answer (libraryOf ls start) (treeOf ts start)) long room)) p
 
-    pub library-not-sound : (f : Fault) (p n : ℕ) → read .scan ≡ Refused f p → n ≡ libraryNumber f → Operated (operation least answer ls ts (length output) (length work)) output output work work (Reply.Refused n p)
-    unfolding operation withLibrary
+    pub library-not-sound : (f : Fault) (p n : ℕ) → read .scan ≡ Refused f p → (n ≡ libraryNumber f) × (n ≤ 6) → Operated (operation least answer ls ts (length output) (length work)) output output work work (Reply.Refused n p)
+    unfolding operation withLibrary Report.Limited
     library-not-sound f p n e k =
         subst (λ (o : Outcome). Operated o output output work work (Reply.Refused n p))
         (ap (λ (q : Scan). withLibrary answer (libraryOf ls start .0, q) (treeOf ts start)) (sym e ∙ h .scan-is) ∙ sym (enough least (length output) (length work) (withLibrary answer (libraryOf ls start) (treeOf ts start)) long room))
-        (subst (λ (m : ℕ). Operated (refused (libraryNumber f) p) output output work work (Reply.Refused m p)) (sym k) (record { replied = unchanged refl; work-is = sym (library-spared f p work) }))
+        (untouched output work (libraryNumber f) p n (k .0) (library-spared f p work) (omega (arith, k)) (library-refused-limited ls read h f p e))

@@ -9,12 +9,11 @@ ghost use Prim.Native.Nat.{ℕ, _≤_};
 ghost use lib.ListN.{length};
 ghost use Rattle.sheets.specs.Model.{Library, Tree};
 ghost use Rattle.covers.specs.Answer.{mapAnswer, listAnswer};
-ghost use Rattle.covers.specs.Outcome.{capacity, answering};
 ghost use Rattle.mapper.specs.Promises.{Replied};
-ghost use Rattle.covers.specs.Outcome.{withTree, mapOutcome, listOutcome};
+ghost use Rattle.covers.specs.Outcome.{capacity, answering, cleared, withTree, mapOutcome, listOutcome};
 ghost use Rattle.sheets.specs.TreeSheet.{tree as treeOf};
 ghost use Rattle.sheets.specs.Report.{start};
-ghost use Rattle.operations.specs.Promises.{Laid, LibraryLaid, Operated, cleared};
+ghost use Rattle.operations.specs.Promises.{Laid, LibraryLaid, Operated};
 
 // The room for the matches of a node, and the number of a refusal for what is lent.
 pub struct Room {}

@@ -1,4 +1,4 @@
-//! Problems for the benchmark: a typical one, and two that take long.
+//! Problems for the benchmark: a typical one, two that take long, and one that goes deep.
 
 use super::parts::{cell, chain, comb, pin, tree, AND, AOI21, AOI22, INVERTER, NAND, NOR, OR};
 use super::problem::Problem;
@@ -11,7 +11,7 @@ use Step::{Inv, Leaf, Nand};
 
 /// Name and problem of every row of the benchmark.
 pub fn all() -> Vec<(&'static str, Problem)> {
-    vec![("typical", typical()), ("chain", worst_chain()), ("comb", worst_comb())]
+    vec![("typical", typical()), ("chain", worst_chain()), ("comb", worst_comb()), ("deep", deepest())]
 }
 
 const AOI21_TURNED: &[Step] = &[Inv, Nand, Inv, Leaf(2), Nand, Leaf(0), Leaf(1)];
@@ -62,6 +62,12 @@ pub fn worst_chain() -> Problem {
     };
     let library = Library { bins: vec![1, 2, 3, 4], cells: (0..64).map(cell).collect() };
     Problem { library, tree: tree(1, LATEST_REQUIRED, &inverters(63)) }
+}
+
+/// 63 inverters under one cell of one inverter: the choice of a cover goes 63 calls deep.
+pub fn deepest() -> Problem {
+    let library = Library { bins: vec![1], cells: vec![cell(1, 255, pin(0, 1, 1), INVERTER)] };
+    Problem { library, tree: tree(1, LATEST_REQUIRED, &chain(63, &[Leaf(0)])) }
 }
 
 /// A comb of 31 NANDs under 126 combs of 2 to 5. The leaves arrive so late towards the

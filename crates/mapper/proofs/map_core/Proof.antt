@@ -33,7 +33,7 @@ returns c l t start =
     let a = c .before .before .before .before .before .before .before .before .before .before .before .before .before .before .before .before .args in
     let f = c .before .before .before .before .before .before .before .fill in
     let told = c .before .filling .given in
-    map-overfull l t (f .last .1 .1 .1 .1 .1 .1 .1 .1 .1 .1 .0) (a .output .now) (a .output .now) (told .0 .0) (subst (FillingIs l t (f .last .1 .1 .1 .1 .1 .1 .1 .1 .1 .1 .0)) (told .1) (f .ensures l t (start .fill))) refl
+    map-overfull l t (f .last .1 .1 .1 .1 .1 .1 .1 .1 .1 .1 .0) (a .output .now) (a .output .now) (told .0 .0) (start .fill .tree) (subst (FillingIs l t (f .last .1 .1 .1 .1 .1 .1 .1 .1 .1 .1 .0)) (told .1) (f .ensures l t (start .fill))) refl
 
 enum-told : tie.Need-enum-told
 enum-told c = search needs

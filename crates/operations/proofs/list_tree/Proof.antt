@@ -52,7 +52,7 @@ returns-2 c l laid =
     let first = c .before .before .before .before .before .before .before .before in
     let read = c .before .before .before .before .read-tree in
     let told = c .before .before .scan .given in
-    tree-not-sound (first .args .tree .now) (read .result) (read .ensures) (listAnswer capacity l) (first .args .output .now) (first .args .work .now) (told .0 .0) (told .0 .1 .0) (c .tree-number .result) (told .1) (c .tree-number .ensures .0)
+    tree-not-sound (first .args .tree .now) (read .result) (read .ensures) (listAnswer capacity l) (first .args .output .now) (first .args .work .now) (told .0 .0) (told .0 .1 .0) (c .tree-number .result) (told .1) (c .tree-number .ensures)
 
 pub list-tree-spec : {M : Type 1} → statement M
 list-tree-spec =

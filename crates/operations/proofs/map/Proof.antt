@@ -69,7 +69,7 @@ returns-4 c =
     let a = c .before .before .before .before .before .before .before .before .before .before .before .args in
     let read = c .before .before .before .before .read-library in
     let told = c .before .before .scan .given in
-    library-not-sound 109 (mapAnswer capacity) (a .library .now) (a .tree .now) (a .output .now) (a .work .now) (omega arith) (omega arith) (read .result) (read .ensures) (told .0 .0) (told .0 .1 .0) (c .library-number .result) (told .1) (c .library-number .ensures .0)
+    library-not-sound 109 (mapAnswer capacity) (a .library .now) (a .tree .now) (a .output .now) (a .work .now) (omega arith) (omega arith) (read .result) (read .ensures) (told .0 .0) (told .0 .1 .0) (c .library-number .result) (told .1) (c .library-number .ensures)
 
 pub map-spec : {M : Type 1} → statement M
 map-spec =

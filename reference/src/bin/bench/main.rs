@@ -1,7 +1,7 @@
 //! Times of the product beside the reference, on the same bytes in one run.
 //!
 //! `bench`: a table of times and ratios.
-//! `bench repeat COUNT WHO ROW`: so many maps of a row (`typical`, `chain`, `comb`) by
+//! `bench repeat COUNT WHO ROW`: so many maps of a row (`typical`, `chain`, `comb`, `deep`) by
 //! `product`, `plain` or `merging`, for a profiler that counts instructions: two counts,
 //! and the difference is free of what comes before the first map (feature `product_map`).
 

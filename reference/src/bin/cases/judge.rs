@@ -8,26 +8,24 @@ use reference::generate::{limits, longest, sound, specimen};
 use reference::rng::Rng;
 use reference::verdict::Verdict;
 
-pub fn stored() -> Stored {
-    let mut stored = Stored::default();
+pub fn add_all(stored: &mut Stored) {
     for (kind, form) in originals() {
-        flips(&mut stored, kind, &form);
-        cuts(&mut stored, kind, &form);
-        edges(&mut stored, kind, &form);
+        flips(stored, kind, &form);
+        cuts(stored, kind, &form);
+        edges(stored, kind, &form);
     }
     for row in limits::rows() {
-        add(&mut stored, row.kind, &row.bytes);
+        add(stored, row.kind, &row.bytes);
     }
-    long_ends(&mut stored);
-    edges(&mut stored, Kind::Library, &Form::of_library(&specimen::rich_library()));
-    overgrown(&mut stored);
-    torn_fields(&mut stored);
-    large(&mut stored);
-    random(&mut stored, 160, |rng, kind| any_form(rng, kind).bytes());
-    random(&mut stored, 360, |rng, kind| damaged(rng, kind, 1));
-    random(&mut stored, 361, |rng, kind| damaged(rng, kind, 3));
-    random(&mut stored, 120, any_sheet);
-    stored
+    long_ends(stored);
+    edges(stored, Kind::Library, &Form::of_library(&specimen::rich_library()));
+    overgrown(stored);
+    torn_fields(stored);
+    large(stored);
+    random(stored, 160, |rng, kind| any_form(rng, kind).bytes());
+    random(stored, 360, |rng, kind| damaged(rng, kind, 1));
+    random(stored, 361, |rng, kind| damaged(rng, kind, 3));
+    random(stored, 120, any_sheet);
 }
 
 fn add(stored: &mut Stored, kind: Kind, sheet: &[u8]) {

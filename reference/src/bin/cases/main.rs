@@ -5,14 +5,19 @@ mod judge;
 mod map;
 mod single;
 mod stored;
+mod text;
 
 use std::io;
 use std::path::PathBuf;
+use stored::Stored;
 
 fn main() -> io::Result<()> {
     let directory = std::env::args().nth(1).map_or_else(|| PathBuf::from("cases"), PathBuf::from);
     std::fs::create_dir_all(&directory)?;
     single::write(&directory)?;
-    judge::stored().write(&directory, "judge")?;
-    map::stored().write(&directory, "map")
+    let mut stored = Stored::default();
+    judge::add_all(&mut stored);
+    map::add_all(&mut stored);
+    // text::add_all(&mut stored);
+    stored.write(&directory)
 }

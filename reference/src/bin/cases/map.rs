@@ -14,26 +14,24 @@ use reference::tree::{Tree, LATEST_REQUIRED};
 
 const BOTH: [Operation; 2] = [Operation::Map, Operation::List];
 
-pub fn stored() -> Stored {
-    let mut stored = Stored::default();
-    specimens(&mut stored);
+pub fn add_all(stored: &mut Stored) {
+    specimens(stored);
     for chosen in chosen::all() {
-        sweep(&mut stored, &chosen.problem, 3);
+        sweep(stored, &chosen.problem, 3);
     }
     for (_, problem) in heavy::all() {
-        sweep(&mut stored, &problem, 2);
+        sweep(stored, &problem, 2);
     }
-    lent_lengths(&mut stored);
-    order_of_refusals(&mut stored);
-    damaged_sheets(&mut stored, 200);
+    lent_lengths(stored);
+    order_of_refusals(stored);
+    damaged_sheets(stored, 200);
     let mut rng = Rng::new(88);
     for _ in 0..40 {
-        sweep(&mut stored, &any_problem(&mut rng), 4);
+        sweep(stored, &any_problem(&mut rng), 4);
     }
     for _ in 0..700 {
-        random(&mut stored, &mut rng);
+        random(stored, &mut rng);
     }
-    stored
 }
 
 fn add(stored: &mut Stored, operation: Operation, lent: Lent, library: &[u8], tree: &[u8]) {
@@ -123,7 +121,7 @@ fn damaged_sheets(stored: &mut Stored, count: usize) {
     }
 }
 
-fn any_problem(rng: &mut Rng) -> Problem {
+pub fn any_problem(rng: &mut Rng) -> Problem {
     let style = any_style(rng);
     problem(rng, style)
 }

@@ -1,22 +1,30 @@
-//! Single sheets as files of their own.
+//! Single problems as files of their own: the input of a program and what it is to print.
 
-use crate::map::line;
 use reference::form::Form;
+use reference::generate::problem::Problem;
 use reference::generate::{longest, specimen};
-use reference::operation::{Lent, Operation};
+use reference::{merging, text};
 use std::io;
 use std::path::Path;
 
 pub fn write(directory: &Path) -> io::Result<()> {
     let put = |name: &str, bytes: &[u8]| std::fs::write(directory.join(name), bytes);
-    put("specimen.library", &Form::of_library(&specimen::library()).bytes())?;
-    put("specimen.tree", &Form::of_tree(&specimen::tree_b()).bytes())?;
     put("longest.library", &Form::of_library(&longest::library()).bytes())?;
-    let library = Form::of_library(&specimen::example_library()).bytes();
-    let tree = Form::of_tree(&specimen::example_tree(39)).bytes();
-    put("example003.library", &library)?;
-    put("example003.tree", &tree)?;
-    let lines =
-        [Operation::List, Operation::Map].map(|operation| line(operation, Lent::ENOUGH, &library, &tree) + "\n");
-    put("example003.expected", lines.concat().as_bytes())
+    let specimen = input(&Problem { library: specimen::library(), tree: specimen::tree_b() });
+    put("specimen.input", &specimen)?;
+    put("specimen.expected", text::printed(&specimen).as_bytes())?;
+    let example = Problem { library: specimen::example_library(), tree: specimen::example_tree(39) };
+    put("example003.input", &input(&example))?;
+    put("example003.expected", list_text(&example).as_bytes())
+}
+
+fn input(problem: &Problem) -> Vec<u8> {
+    text::input(&problem.library_sheet(), &problem.tree_sheet())
+}
+
+/// `list` and the count, and a line of arrival and area for each trade-off.
+fn list_text(problem: &Problem) -> String {
+    let pairs = merging::list(&problem.library, &problem.tree).expect("a list");
+    let lines: String = pairs.iter().map(|pair| format!("{} {}\n", pair.arrival, pair.area)).collect();
+    format!("list {}\n{lines}", pairs.len())
 }

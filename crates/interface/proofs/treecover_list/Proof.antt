@@ -1,0 +1,29 @@
+use borrow.Author.Needs.{needs}
+use mathlib.Core.Path.{ap, _∙_}
+use Rattle.covers.specs.Outcome.{word}
+use Rattle.interface.proofs.treecover_list.Statement.{statement}
+use Rattle.interface.proofs.treecover_list.Tie as tie
+use Rattle.interface.proofs.treecover_list.Reads as reads
+use Rattle.interface.proofs.treecover_list.Lts as lts
+use Rattle.interface.proofs.reply_word.Reads as reply-word-reads
+use Rattle.operations.proofs.list.Reads as list-reads
+
+list-requires : tie.Need-list-requires
+list-requires c κs = search needs
+
+reply-word-requires : tie.Need-reply-word-requires
+reply-word-requires c κs = search needs
+
+same-length : tie.Need-same-length
+same-length c = search needs
+
+same-length-2 : tie.Need-same-length-2
+same-length-2 c = search needs
+
+returns : tie.Need-returns
+returns c =
+    let call = c .before .before .before .before .before .list .ensures in
+    (c .reply-word .ensures ∙ ap word (call .reply-is), call .leaves)
+
+pub treecover-list-spec : {M : Type 1} → statement M
+treecover-list-spec = tie.close (tie.spec list-requires reply-word-requires same-length same-length-2 returns)

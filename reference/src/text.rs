@@ -1,0 +1,47 @@
+//! What treecover reads and prints.
+
+use crate::cover::Cover;
+use crate::library::{self, Library};
+use crate::refusal::Refusal;
+use crate::{merging, tree};
+
+/// The longest input.
+pub const MOST_INPUT: usize = 4096;
+
+/// The library's length in two bytes, high byte first, the library and the tree.
+pub fn input(library: &[u8], tree: &[u8]) -> Vec<u8> {
+    let length = u16::try_from(library.len()).expect("a length of two bytes");
+    [&length.to_be_bytes()[..], library, tree].concat()
+}
+
+/// The text for an input.
+pub fn printed(input: &[u8]) -> String {
+    match parts(input) {
+        None => "spoiled\n".to_string(),
+        Some((library, tree)) => match mapped(library, tree) {
+            Err(refusal) => format!("refused {} {}\n", refusal.number, refusal.place),
+            Ok(text) => text,
+        },
+    }
+}
+
+fn parts(input: &[u8]) -> Option<(&[u8], &[u8])> {
+    let (length, rest) = input.split_first_chunk()?;
+    let length = u16::from_be_bytes(*length) as usize;
+    (input.len() <= MOST_INPUT && length <= rest.len()).then(|| rest.split_at(length))
+}
+
+fn mapped(library: &[u8], tree: &[u8]) -> Result<String, Refusal> {
+    let library = library::decode(library)?;
+    let cover = merging::map(&library, &tree::decode(tree)?)?;
+    Ok(cover_text(&library, &cover))
+}
+
+/// `cover`, area, arrival and match count, and a line of node, cell and pattern for each match.
+fn cover_text(library: &Library, cover: &Cover) -> String {
+    let cells: Vec<usize> =
+        library.cells.iter().enumerate().flat_map(|(number, cell)| vec![number; cell.patterns.len()]).collect();
+    let head = format!("cover {} {} {}\n", cover.area, cover.arrival, cover.matches.len());
+    let line = |&(node, pattern): &(usize, usize)| format!("{node} {} {pattern}\n", cells[pattern]);
+    head + &cover.matches.iter().map(line).collect::<String>()
+}
