@@ -1,6 +1,7 @@
 // The choice of a cover under a required time, from the curves in the work area.
 use curves::Words;
 use sheets::CellRecord;
+use sheets::Limits;
 ghost use mathlib.Core.Path.{_≡_};
 ghost use mathlib.Core.Option.{some};
 ghost use Prim.Native.Nat.{ℕ, suc, _+_, _-_, _*_, _<_, _≤_};
@@ -43,7 +44,7 @@ fn first_reaching(
             symbols,
             work,
             load,
-            w % Words::BASE + 1,
+            w % Limits::TIMES + 1,
         );
         if reached == w {
             break;
@@ -119,7 +120,7 @@ fn choose_match<'a>(
     read_inputs(
         &found[first..first + Words::ROW],
         load,
-        (w % Words::BASE) as u32,
+        (w % Limits::TIMES) as u32,
     )
 }
 

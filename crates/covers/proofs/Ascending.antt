@@ -1,8 +1,8 @@
 -- Lists that ascend by a number, strictly, within a range.
 use Prim.Native.Nat.{ℕ, suc, _≤_, _<_}
-use mathlib.Core.Path.{_≡_, refl, sym, ap, _∙_}
+use mathlib.Core.Path.{_≡_, refl, sym, ap, ap₂, subst, _∙_}
 use mathlib.Core.Bool.{Bool, true, false, cond, false≢true}
-use mathlib.Core.List.{List, [], _∷_, _++_, List·Memᴰ, List·Memᴰ·head, List·Memᴰ·tail, List·Memᴰ·not-nil}
+use mathlib.Core.List.{List, [], _∷_, _++_, List·Memᴰ, List·Memᴰ·head, List·Memᴰ·tail, List·Memᴰ·not-nil, head-eq-of-cons-eq, tail-eq-of-cons-eq}
 use mathlib.Core.Option.{some, Option·some-injective}
 use native.Mathlib.Omega.{arith}
 use Rattle.covers.specs.Lists.{select, firstSuch}
@@ -29,6 +29,13 @@ module _ {A : Type 0} {number : A → ℕ} where
   pub ascending-range : {low high : ℕ} {xs : List A} {x : A} → Ascending number low high xs → List·Memᴰ x xs → (low ≤ number x) × (number x < high)
   ascending-range (then h r) (List·Memᴰ·head e) = rw e (h, ends r)
   ascending-range (then h r) (List·Memᴰ·tail m) = let k = ascending-range r m in (omega arith, k .1)
+
+  -- Two lists put together, the second from where the first ends, are known from the whole.
+  pub ascending-parts : {low low′ mid high high′ : ℕ} {xs ys xs′ ys′ : List A} → Ascending number low mid xs → Ascending number mid high ys → Ascending number low′ mid xs′ → Ascending number mid high′ ys′ → xs ++ ys ≡ xs′ ++ ys′ → (xs ≡ xs′) × (ys ≡ ys′)
+  ascending-parts (end h) b (end h′) b′ e = (refl, e)
+  ascending-parts {mid} {high} (end h) b (then h′ r′) b′ e = absurd (omega (arith, ends r′, ascending-range (subst (Ascending number mid high) e b) (List·Memᴰ·head refl) .0))
+  ascending-parts {mid} {high′} (then h r) b (end h′) b′ e = absurd (omega (arith, ends r, ascending-range (subst (Ascending number mid high′) (sym e) b′) (List·Memᴰ·head refl) .0))
+  ascending-parts (then h r) b (then h′ r′) b′ e = let p = ascending-parts r b r′ b′ (tail-eq-of-cons-eq e) in (ap₂ _∷_ (head-eq-of-cons-eq e) (p .0), p .1)
 
   -- One number, one entry.
   pub ascending-unique : {low high : ℕ} {xs : List A} {x y : A} → Ascending number low high xs → List·Memᴰ x xs → List·Memᴰ y xs → number x ≡ number y → x ≡ y

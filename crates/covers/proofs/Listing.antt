@@ -3,13 +3,13 @@ use Prim.Native.Nat.{ℕ, _+_, _≤_, _<_}
 use mathlib.Core.Path.{_≡_, sym, ap, ap₂, _∙_}
 use mathlib.Core.Logic.{⊎-elim}
 use mathlib.Core.List.{List, [], _∷_, _++_, List·Memᴰ, List·Memᴰ·not-nil, List·Memᴰ·append-cases}
-use mathlib.Core.Option.{Option, none, some}
 use native.Mathlib.Nat.{le-refl, le-add-right, zero-add, add-assoc}
 use native.Mathlib.Omega.{arith}
 use lib.ListN.{getElem?, length, length-append}
-use Rattle.sheets.specs.Model.{Shape, size, Cell, Library, Pattern, patterns}
+use Rattle.sheets.specs.Model.{Shape, size, Cell, Library, patterns}
 use Rattle.covers.specs.Match.{Input}
 use Rattle.covers.specs.Cover.{Placed, Cover, IsCover, bare, matching, AreCovers, done, more, leafPoint, leafCover, nothing, beside, late, raised, together, delayed, topped}
+use Rattle.covers.specs.Promise.{areaAt, listedArea}
 use Rattle.covers.proofs.Basics.{each, at-below}
 use Rattle.covers.proofs.Ascending.{Ascending, end, then, lowered, ascending-append}
 use Rattle.covers.proofs.Matching.{gates, Spread, last, next, match-inside}
@@ -23,7 +23,7 @@ module _ {l : Library} where
     cover-ascends (bare {n = n} e) = rw e (end (le-add-right n _))
     cover-ascends (matching {n = n} m f g e) = rw e (then {x = record { node = n; pattern = m .number }} (le-refl n) (inputs-ascend g (match-inside f .spread)))
 
-    inputs-ascend : {cell : Cell} {load : ℕ} {is : List Input} {c : Cover} → AreCovers l cell load is c → {low high g : ℕ} → Spread low high g is → Ascending (λ x. x .node) low high (c .placed)
+    pub inputs-ascend : {cell : Cell} {load : ℕ} {is : List Input} {c : Cover} → AreCovers l cell load is c → {low high g : ℕ} → Spread low high g is → Ascending (λ x. x .node) low high (c .placed)
     inputs-ascend (done e) (last h) = rw e (end h)
     inputs-ascend (more f r e) (next u v w) = rw e (ascending-append (lowered u (cover-ascends f)) (inputs-ascend r w))
 
@@ -52,16 +52,6 @@ module _ {l : Library} where
     inputs-known : {cell : Cell} {load : ℕ} {is : List Input} {c : Cover} → AreCovers l cell load is c → (x : Placed) → List·Memᴰ x (c .placed) → x .pattern < length (patterns l)
     inputs-known (done e) = rw e (λ x m. absurd (List·Memᴰ·not-nil m))
     inputs-known (more {d = d} {e = c} f r e) = rw e (λ x m. ⊎-elim (known-patterns f x) (inputs-known r x) (List·Memᴰ·append-cases (d .placed) m))
-
-areaAt : Option Pattern → ℕ
-areaAt none = 0
-areaAt (some p) = p .cell .area
-
--- The areas of the cells of the listed patterns, added up.
-unfoldable pub listedArea : Library → List Placed → ℕ
-unfolding areaAt
-listedArea l [] = 0
-listedArea l (x ∷ xs) = areaAt (getElem? (patterns l) (x .pattern)) + listedArea l xs
 
 module _ (l : Library) where
   listed-append : (xs ys : List Placed) → listedArea l (xs ++ ys) ≡ listedArea l xs + listedArea l ys

@@ -9,4 +9,5 @@ pub mod CoverSheet
 pub mod Answer
 pub mod Outcome
 pub mod Promise
+pub mod Demands
 pub mod Specimens

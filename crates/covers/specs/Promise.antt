@@ -1,9 +1,11 @@
 -- What map and list promise, over all legal covers and not over what a program looked at.
-use Prim.Native.Nat.{ℕ, _≤_, _<_}
+use Prim.Native.Nat.{ℕ, _+_, _≤_, _<_}
 use mathlib.Core.Path.{_≡_}
 use mathlib.Core.Logic.{_↔_}
 use mathlib.Core.List.{List, [], _∷_, List·Memᴰ}
-use Rattle.sheets.specs.Model.{Shape, Library, Tree}
+use mathlib.Core.Option.{Option, none, some}
+use lib.ListN.{getElem?}
+use Rattle.sheets.specs.Model.{Shape, Library, Tree, Pattern, patterns}
 use Rattle.covers.specs.Cover.{Point, Placed, Cover, IsCover}
 use Rattle.covers.specs.Tradeoff.{IsTradeoff, Climbing, Node, nodes, TooMany}
 use Rattle.covers.specs.Answer.{Answer, overfullAt, noCover, success}
@@ -41,14 +43,43 @@ pub record HighestTooMany (most : ℕ) (l : Library) (t : Tree) (k : ℕ) : Type
 abbrev pub NoneTooMany : ℕ → Library → Tree → Type 0
 NoneTooMany most l t = (x : Node) → List·Memᴰ x (nodes 0 (t .shape)) → TooMany most l t x → ⊥
 
--- Map refuses a tree with an overfull node at the highest; otherwise it has no cover exactly when no legal cover meets the required time, and hands over the best that does.
-pub data MapPromise (most : ℕ) (l : Library) (t : Tree) : Answer Cover → Type 0 where
-  overfull : {k : ℕ} → HighestTooMany most l t k → MapPromise most l t (overfullAt k)
-  none-meets : NoneTooMany most l t → ((c : Cover) → RootCover l t c → t .required < c .point .arrival) → MapPromise most l t noCover
-  handed : {c : Cover} → NoneTooMany most l t → Handed l (t .load) 0 (t .shape) (t .required) c → MapPromise most l t (success c)
+-- A legal cover that meets the required time.
+abbrev pub InTime : Library → Tree → Cover → Type 0
+InTime l t c = RootCover l t c × (c .point .arrival ≤ t .required)
 
--- List refuses likewise; otherwise it has no cover exactly when the root has none, and lists the root's trade-offs, at least one, all of them and nothing else, earliest first.
-pub data ListPromise (most : ℕ) (l : Library) (t : Tree) : Answer (List Point) → Type 0 where
-  overfull : {k : ℕ} → HighestTooMany most l t k → ListPromise most l t (overfullAt k)
-  none-legal : NoneTooMany most l t → ((c : Cover) → RootCover l t c → ⊥) → ListPromise most l t noCover
-  listed : {first : Point} {rest : List Point} → NoneTooMany most l t → ((p : Point) → List·Memᴰ p (first ∷ rest) ↔ IsTradeoff (RootCover l t) p) → Climbing (first ∷ rest) → ListPromise most l t (success (first ∷ rest))
+-- The area of a pattern's cell.
+unfoldable pub areaAt : Option Pattern → ℕ
+areaAt none = 0
+areaAt (some p) = p .cell .area
+
+-- The areas of the cells of the listed patterns, added up.
+unfoldable pub listedArea : Library → List Placed → ℕ
+unfolding areaAt patterns
+listedArea l [] = 0
+listedArea l (x ∷ xs) = areaAt (getElem? (patterns l) (x .pattern)) + listedArea l xs
+
+-- The cover that map hands over, and that the listed matches make it up: its area is that of their cells, and no other legal cover lists the same, so they fix its arrival too.
+pub record BestCover (l : Library) (t : Tree) (c : Cover) : Type 0 where
+  pub best : Handed l (t .load) 0 (t .shape) (t .required) c
+  pub area-is : c .point .area ≡ listedArea l (c .placed)
+  pub only : (d : Cover) → RootCover l t d → d .placed ≡ c .placed → d ≡ c
+
+-- The root's trade-offs: at least one, all of them and nothing else, earliest first.
+pub record RootTradeoffs (l : Library) (t : Tree) (ps : List Point) : Type 0 where
+  pub one : (p : Point) × List·Memᴰ p ps
+  pub all : (p : Point) → List·Memᴰ p ps ↔ IsTradeoff (RootCover l t) p
+  pub earliest-first : Climbing ps
+
+-- What an answer promises where covers of a wanted kind are asked for: it names the highest node with too many trade-offs; or there is no such node,
+-- and either it says no cover and there is none of that kind, or what it hands over is right.
+pub data Promise {A : Type 0} (Wanted : Cover → Type 0) (Right : A → Type 0) (most : ℕ) (l : Library) (t : Tree) : Answer A → Type 0 where
+  overfull : {k : ℕ} → HighestTooMany most l t k → Promise Wanted Right most l t (overfullAt k)
+  none-wanted : NoneTooMany most l t → ((c : Cover) → Wanted c → ⊥) → Promise Wanted Right most l t noCover
+  right : {a : A} → NoneTooMany most l t → Right a → Promise Wanted Right most l t (success a)
+
+-- Of map those in time are wanted, of list all legal ones.
+abbrev pub MapPromise : ℕ → Library → Tree → Answer Cover → Type 0
+MapPromise most l t = Promise (InTime l t) (BestCover l t) most l t
+
+abbrev pub ListPromise : ℕ → Library → Tree → Answer (List Point) → Type 0
+ListPromise most l t = Promise (RootCover l t) (RootTradeoffs l t) most l t

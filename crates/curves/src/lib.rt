@@ -1,4 +1,5 @@
 // Curves by deadline: the least point of a node before an instant, and the curve of a node under a load.
+use sheets::Limits;
 ghost use mathlib.Core.Path.{_≡_};
 ghost use Prim.Native.Nat.{ℕ, _+_, _-_, _*_, _<_, _≤_, _^_, min, max};
 ghost use lib.ListN.{length, getD};
@@ -13,13 +14,9 @@ pub struct Words {
 }
 
 impl Words {
-    pub const BASE: u64 = 16777216;
-
     pub const ABSENT: u64 = 9223372036854775808;
 
     pub const STRIDE: usize = 32;
-
-    pub const POINTS: usize = 31;
 
     pub const NODE: usize = 128;
 
@@ -37,7 +34,7 @@ pub fn find(work: &[u64], at: usize, end: u64) -> u64
         if w == 0 {
             return Words::ABSENT;
         }
-        if w % Words::BASE < end {
+        if w % Limits::TIMES < end {
             return w;
         }
         k += 1;
@@ -134,11 +131,11 @@ pub fn best_match(row: &[u32], symbols: &[u32], work: &[u64], load: u32, end: u6
         if w == Words::ABSENT {
             return Words::ABSENT;
         }
-        area += w / Words::BASE;
-        arrival = later(arrival, w % Words::BASE);
+        area += w / Limits::TIMES;
+        arrival = later(arrival, w % Limits::TIMES);
         k += 1;
     }
-    (wide(row[1]) + area) * Words::BASE + arrival
+    (wide(row[1]) + area) * Limits::TIMES + arrival
 }
 
 // The lesser of two words.
@@ -197,18 +194,18 @@ pub fn curve(
     ensures { λ r. ⌜ CurveStored (now (symbols .entry)) (now (work .entry)) (now (found .entry)) load count (slot node bin) (now (work .exit)) r ⌝ }
 {
     let at = Words::NODE * node + Words::STRIDE * bin;
-    let mut end = Words::BASE;
+    let mut end = Limits::TIMES;
     let mut k = 0;
     while k < Words::STRIDE {
         let w = best(found, count, symbols, work, load, end);
         if w == Words::ABSENT {
             return k;
         }
-        if k == Words::POINTS {
+        if k == Limits::POINTS {
             return Words::STRIDE;
         }
         work[at + k] = w;
-        end = w % Words::BASE;
+        end = w % Limits::TIMES;
         k += 1;
     }
     k

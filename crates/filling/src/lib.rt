@@ -1,6 +1,6 @@
 // Every node's curves, filled from the highest number down.
-use curves::Words;
 use sheets::CellRecord;
+use sheets::Limits;
 ghost use mathlib.Core.Path.{_≡_};
 ghost use Prim.Native.Nat.{ℕ, _+_, _*_, _<_, _≤_};
 ghost use lib.ListN.{length, getD};
@@ -81,7 +81,7 @@ fn too_many(counts: Counts, bins: usize) -> bool
     let points = counts.points;
     let mut b: usize = 0;
     while b < bins {
-        if Words::POINTS < points[b] as usize {
+        if Limits::POINTS < points[b] as usize {
             return true;
         }
         b += 1;

@@ -18,9 +18,11 @@ use Rattle.covers.specs.CoverSheet.{coverSheet, listSheet}
 use Rattle.filling.specs.declared.Filling.the-variants.{Whole, Overfull}
 use Rattle.filling.specs.Promises.{FillStart, FillingIs}
 use Rattle.mapper.specs.declared.Chosen.{Chosen}
+use Rattle.mapper.specs.declared.Task.{Task}
+use Rattle.mapper.specs.declared.Task.the-variants.{Cover, Tradeoffs}
 use Rattle.mapper.specs.declared.Reply.{Reply}
 use Rattle.mapper.specs.declared.Reply.the-variants.{Refused}
-use Rattle.mapper.specs.Promises.{Put, kept, put, Asked, Curved, replyTo, ofReply, Limited, Replied, Start}
+use Rattle.mapper.specs.Promises.{Put, kept, put, Asked, Curved, taskAnswer, replyTo, ofReply, Limited, Replied, Start}
 
 -- A node is numbered below the tree's size.
 node-small : (most : ℕ) (l : Library) {t : Tree} {n : ℕ} → SoundTree t → overfullNode most l t ≡ some n → n < 2 ^ 20
@@ -73,20 +75,16 @@ module _ {rows : List ℕ} {total : ℕ} {cells : List CellRecord} {loads : List
   }
 
 module _ (l : Library) (t : Tree) (work entry exit : List ℕ) where
-  pub map-overfull : (n : ℕ) → SoundTree t → FillingIs l t work (Overfull n) → exit ≡ entry → Replied entry exit (answering (mapAnswer capacity l t)) (Refused 7 n)
-  unfolding mapAnswer mapped
-  map-overfull n g e h = overfull-replied coverSheet (choice l (t .load) 0 (t .shape) (t .required)) e h (node-small capacity l g e)
+  pub task-overfull : (task : Task) (n : ℕ) → SoundTree t → FillingIs l t work (Overfull n) → exit ≡ entry → Replied entry exit (answering (taskAnswer task capacity l t)) (Refused 7 n)
+  unfolding taskAnswer mapAnswer mapped listAnswer listed
+  task-overfull Cover n g e h = overfull-replied coverSheet (choice l (t .load) 0 (t .shape) (t .required)) e h (node-small capacity l g e)
+  task-overfull Tradeoffs n g e h = overfull-replied listSheet (nonempty (tradeoffs l (t .load) 0 (t .shape))) e h (node-small capacity l g e)
 
-  pub map-replied : (chosen : Chosen) (r : Reply) → FillingIs l t work Whole → Put entry exit (Option·map coverSheet (choice l (t .load) 0 (t .shape) (t .required))) chosen → r ≡ replyTo chosen →
-      Replied entry exit (answering (mapAnswer capacity l t)) r
-  unfolding mapAnswer mapped
-  map-replied chosen r w p q = put-replied coverSheet (choice l (t .load) 0 (t .shape) (t .required)) (w .0) p q
+  module _ (task : Task) (chosen : Chosen) (r : Reply) (w : FillingIs l t work Whole) where
+    pub map-replied : task ≡ Cover → Put entry exit (Option·map coverSheet (choice l (t .load) 0 (t .shape) (t .required))) chosen → r ≡ replyTo chosen → Replied entry exit (answering (taskAnswer task capacity l t)) r
+    unfolding taskAnswer mapAnswer mapped
+    map-replied e p q = subst (λ (k : Task). Replied entry exit (answering (taskAnswer k capacity l t)) r) (sym e) (put-replied coverSheet (choice l (t .load) 0 (t .shape) (t .required)) (w .0) p q)
 
-  pub list-overfull : (n : ℕ) → SoundTree t → FillingIs l t work (Overfull n) → exit ≡ entry → Replied entry exit (answering (listAnswer capacity l t)) (Refused 7 n)
-  unfolding listAnswer listed
-  list-overfull n g e h = overfull-replied listSheet (nonempty (tradeoffs l (t .load) 0 (t .shape))) e h (node-small capacity l g e)
-
-  pub list-replied : (chosen : Chosen) (r : Reply) → FillingIs l t work Whole → Put entry exit (Option·map listSheet (nonempty (tradeoffs l (t .load) 0 (t .shape)))) chosen → r ≡ replyTo chosen →
-      Replied entry exit (answering (listAnswer capacity l t)) r
-  unfolding listAnswer listed
-  list-replied chosen r w p q = put-replied listSheet (nonempty (tradeoffs l (t .load) 0 (t .shape))) (w .0) p q
+    pub list-replied : task ≡ Tradeoffs → Put entry exit (Option·map listSheet (nonempty (tradeoffs l (t .load) 0 (t .shape)))) chosen → r ≡ replyTo chosen → Replied entry exit (answering (taskAnswer task capacity l t)) r
+    unfolding taskAnswer listAnswer listed
+    list-replied e p q = subst (λ (k : Task). Replied entry exit (answering (taskAnswer k capacity l t)) r) (sym e) (put-replied listSheet (nonempty (tradeoffs l (t .load) 0 (t .shape))) (w .0) p q)

@@ -10,6 +10,7 @@ use Rattle.sheets.specs.Model.{Library, Tree}
 use Rattle.sheets.specs.Layout.{padded}
 use Rattle.sheets.proofs.Sound.{SoundTree}
 use Rattle.covers.specs.Tradeoff.{overfullNode}
+use Rattle.covers.specs.Answer.{Answer, mapAnswer, listAnswer}
 use Rattle.covers.specs.Outcome.{Outcome, Told, refusal, bytes, told, outputAfter, capacity}
 use Rattle.curves.specs.Stored.{Stored}
 use Rattle.filling.specs.Promises.{FillStart}
@@ -17,6 +18,8 @@ use Rattle.choosing.specs.Promises.{Decoded}
 use Rattle.writing.specs.Written.{Written}
 use Rattle.mapper.specs.declared.Chosen.{Chosen}
 use Rattle.mapper.specs.declared.Chosen.the-variants.{NoCover, Bytes}
+use Rattle.mapper.specs.declared.Task.{Task}
+use Rattle.mapper.specs.declared.Task.the-variants.{Cover, Tradeoffs}
 use Rattle.mapper.specs.declared.Reply.{Reply}
 use Rattle.mapper.specs.declared.Reply.the-variants.{Refused, Sheet}
 
@@ -39,6 +42,16 @@ pub record Curved (l : Library) (t : Tree) (ss work : List ℕ) : Type 0 where
   pub work-long : 8192 ≤ length work
   pub curves : Stored l t work
   pub not-overfull : overfullNode capacity l t ≡ none
+
+-- The least output and the answer of each task.
+unfoldable pub leastOutput : Task → ℕ
+leastOutput Cover = 109
+leastOutput Tradeoffs = 179
+
+unfoldable pub taskAnswer : Task → ℕ → Library → Tree → Answer (List ℕ)
+unfolding mapAnswer listAnswer
+taskAnswer Cover = mapAnswer
+taskAnswer Tradeoffs = listAnswer
 
 -- The reply where no node is overfull: no cover is 8 at 0.
 unfoldable pub replyTo : Chosen → Reply

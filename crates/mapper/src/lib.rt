@@ -2,6 +2,7 @@
 use curves::Words;
 use filling::Filling;
 use sheets::CellRecord;
+use sheets::Limits;
 ghost use mathlib.Core.Path.{_≡_};
 ghost use mathlib.Core.List.{map};
 ghost use mathlib.Core.Option.{Option·map};
@@ -10,12 +11,17 @@ ghost use lib.ListN.{length, getD, take};
 ghost use Rattle.sheets.specs.Model.{Shape, leaf, Library, Tree};
 ghost use Rattle.covers.specs.Choice.{choice};
 ghost use Rattle.covers.specs.Tradeoff.{tradeoffs};
-ghost use Rattle.covers.specs.Answer.{nonempty, mapAnswer, listAnswer};
+ghost use Rattle.covers.specs.Answer.{nonempty};
 ghost use Rattle.covers.specs.Outcome.{capacity, answering};
 ghost use Rattle.covers.specs.CoverSheet.{coverSheet, listSheet};
 ghost use Rattle.curves.specs.Words.{pointOf, stored};
-ghost use Rattle.filling.specs.Promises.{FillStart};
-ghost use Rattle.mapper.specs.Promises.{Put, Asked, Curved, replyTo, Replied, Start};
+ghost use Rattle.mapper.specs.Promises.{Put, Asked, Curved, replyTo, leastOutput, taskAnswer, Replied, Start};
+
+// What is asked for: the cover that map hands over, or the list of the root's trade-offs, for which the required time does not count.
+pub enum Task {
+    Cover,
+    Tradeoffs,
+}
 
 // What is handed over: no cover, or a sheet of so many bytes in the output.
 pub enum Chosen {
@@ -29,12 +35,14 @@ pub enum Reply {
     Sheet(usize),
 }
 
-// Document 01's numbers of an overfull node and of no cover.
+// Document 01's numbers of refusals that no sheet causes: too little lent, an overfull node, no cover.
 pub struct Numbers {
     pub none: u8,
 }
 
 impl Numbers {
+    pub const SHORT: u32 = 1;
+
     pub const OVERFULL: u32 = 7;
 
     pub const NO_COVER: u32 = 8;
@@ -93,8 +101,8 @@ fn write_gate<'a>(
         &mut patterns,
         0,
     );
-    let area = (w / Words::BASE) as u32;
-    let arrival = (w % Words::BASE) as u32;
+    let area = (w / Limits::TIMES) as u32;
+    let arrival = (w % Limits::TIMES) as u32;
     Chosen::Bytes(writing::write_cover(output, area, arrival, &nodes, &patterns, count))
 }
 
@@ -178,8 +186,9 @@ fn answer(chosen: Chosen) -> Reply
     }
 }
 
-// Map of a sound library and a sound tree, as decoded.
-pub fn map_core<'a>(
+// The answer to a task for a sound library and a sound tree, as decoded, under a root load and a required time.
+pub fn answer_task<'a>(
+    task: Task,
     rows: &'a [u32],
     total: usize,
     cells: [CellRecord; 64],
@@ -194,9 +203,9 @@ pub fn map_core<'a>(
     work: &mut [u64],
     output: &mut [u8],
 ) -> Reply
-    requires { ⌜ (109 ≤ length (now output)) × ((l : Library) × ((t : Tree) × Start (now rows) total cells loads bins (now symbols) (now sizes) count load time (now found) (now work) l t)) ⌝ }
+    requires { ⌜ (leastOutput task ≤ length (now output)) × ((l : Library) × ((t : Tree) × Start (now rows) total cells loads bins (now symbols) (now sizes) count load time (now found) (now work) l t)) ⌝ }
     ensures { λ r. ⌜ ((l : Library) (t : Tree) → Start (now (rows .entry)) total cells loads bins (now (symbols .entry)) (now (sizes .entry)) count load time (now (found .entry)) (now (work .entry)) l t →
-        Replied (now (output .entry)) (now (output .exit)) (answering (mapAnswer capacity l t)) r) ⌝ }
+        Replied (now (output .entry)) (now (output .exit)) (answering (taskAnswer task capacity l t)) r) ⌝ }
 {
     let filling = filling::fill(
         rows,
@@ -214,55 +223,20 @@ pub fn map_core<'a>(
     if let Filling::Overfull(node) = filling {
         return Reply::Refused(Numbers::OVERFULL, node);
     }
-    answer(write_chosen(
-        rows,
-        total,
-        cells,
-        loads,
-        symbols,
-        sizes,
-        load as u32,
-        time,
-        found,
-        work,
-        output,
-    ))
-}
-
-// List of a sound library and a sound tree, as decoded.
-pub fn list_core<'a>(
-    rows: &'a [u32],
-    total: usize,
-    cells: [CellRecord; 64],
-    loads: [u8; 4],
-    bins: usize,
-    symbols: &'a [u32],
-    sizes: &'a [u8],
-    count: usize,
-    load: u8,
-    found: &mut [u32],
-    work: &mut [u64],
-    output: &mut [u8],
-) -> Reply
-    requires { ⌜ (179 ≤ length (now output)) × ((l : Library) × ((t : Tree) × FillStart (now rows) total cells loads bins (now symbols) (now sizes) count load (now found) (now work) l t)) ⌝ }
-    ensures { λ r. ⌜ ((l : Library) (t : Tree) → FillStart (now (rows .entry)) total cells loads bins (now (symbols .entry)) (now (sizes .entry)) count load (now (found .entry)) (now (work .entry)) l t →
-        Replied (now (output .entry)) (now (output .exit)) (answering (listAnswer capacity l t)) r) ⌝ }
-{
-    let filling = filling::fill(
-        rows,
-        total,
-        cells,
-        loads,
-        bins,
-        symbols,
-        sizes,
-        count,
-        load,
-        found,
-        work,
-    );
-    if let Filling::Overfull(node) = filling {
-        return Reply::Refused(Numbers::OVERFULL, node);
+    match task {
+        Task::Cover => answer(write_chosen(
+            rows,
+            total,
+            cells,
+            loads,
+            symbols,
+            sizes,
+            load as u32,
+            time,
+            found,
+            work,
+            output,
+        )),
+        Task::Tradeoffs => answer(write_points(symbols, work, output)),
     }
-    answer(write_points(symbols, work, output))
 }

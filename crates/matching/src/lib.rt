@@ -23,6 +23,8 @@ impl Row {
     pub const INPUT: usize = 4;
 
     pub const WORDS: usize = 68;
+
+    pub const TABLE: usize = 8704;
 }
 
 // What a walk over a pattern finds: whether it matches and, if so, how many inputs it has, with the pin and the node of each in drawn order.

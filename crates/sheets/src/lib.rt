@@ -13,7 +13,7 @@ ghost use Rattle.sheets.specs.Layout.{blankCell};
 ghost use Rattle.sheets.specs.Promises.{BinsAre, HeadIs, PinIs, PinsAre, PatternIs, RowIs, RowsAre, DrawingsAre, CountIs, CellIs, CellsAre, LibraryIs, TreeIs};
 ghost use Rattle.sheets.specs.Report.{ofLibraryJudged, libraryReport, libraryNumber, ofTreeJudged, treeReport, treeNumber, Limited};
 
-// Document 01's limits.
+// Document 01's limits, of the sheets and of what map and list are lent.
 pub struct Limits {}
 
 impl Limits {
@@ -42,6 +42,17 @@ impl Limits {
     pub const ARRIVAL: u32 = 1000000;
 
     pub const TIME: u32 = 16777215;
+
+    // How many times there are: a point's word is its area times this, plus its arrival.
+    pub const TIMES: u64 = 16777216;
+
+    pub const POINTS: usize = 31;
+
+    pub const OUTPUT_MAP: usize = 109;
+
+    pub const OUTPUT_LIST: usize = 179;
+
+    pub const WORK: usize = 8192;
 }
 
 // A cell as decoded. Its pins are the first `pins` places of the three arrays: load bins, intrinsic delays and drives.

@@ -1,25 +1,11 @@
 // The cover sheet and the list sheet written into a lent output, and the work area made zero.
+use sheets::Limits;
 ghost use mathlib.Core.Path.{_≡_};
 ghost use mathlib.Core.List.{_++_};
 ghost use Prim.Native.Nat.{ℕ, _+_, _*_, _<_, _≤_, _^_};
 ghost use lib.ListN.{length, take, drop, getD, replicate};
 ghost use Rattle.covers.specs.CoverSheet.{written, placedFields, pointFields, coverSheet, listSheet};
 ghost use Rattle.writing.specs.Written.{placedOf, coverOf, pointsOf, Written};
-
-// Document 01's least lengths of the output and the work area, and the base of a point's word.
-pub struct Limits {
-    pub none: u8,
-}
-
-impl Limits {
-    pub const OUTPUT_MAP: usize = 109;
-
-    pub const OUTPUT_LIST: usize = 179;
-
-    pub const WORK: usize = 8192;
-
-    pub const BASE: u64 = 16777216;
-}
 
 // Makes the first `count` bytes zero.
 fn clear(output: &mut [u8], count: usize)
@@ -91,8 +77,8 @@ fn put_points(output: &mut [u8], work: &[u64], count: usize)
     while 0 < k {
         k -= 1;
         let word = work[k];
-        bits::put(output, at, 24, (word % Limits::BASE) as u32);
-        bits::put(output, at + 24, 22, (word / Limits::BASE) as u32);
+        bits::put(output, at, 24, (word % Limits::TIMES) as u32);
+        bits::put(output, at + 24, 22, (word / Limits::TIMES) as u32);
         at += 46;
     }
 }

@@ -22,7 +22,7 @@ same-length-2 c = search needs
 
 returns : tie.Need-returns
 returns c =
-    let call = c .before .before .before .before .before .map .ensures in
+    let call = c .before .before .before .before .before .map .ensures .0 in
     (c .reply-word .ensures ∙ ap word (call .reply-is), call .leaves)
 
 pub treecover-map-spec : {M : Type 1} → statement M

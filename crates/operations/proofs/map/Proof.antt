@@ -1,52 +1,16 @@
 use borrow.Author.Needs.{needs}
-use native.Mathlib.Omega.{arith}
 use lib.ListN.{length}
-use Rattle.sheets.specs.LibrarySheet.{library as libraryOf}
-use Rattle.sheets.specs.TreeSheet.{tree as treeOf}
-use Rattle.sheets.specs.Report.{start}
-use Rattle.covers.specs.Answer.{mapAnswer}
-use Rattle.covers.specs.Outcome.{capacity, mapOutcome, withLibrary}
-use Rattle.operations.proofs.Laws.{library-laid, short-output, short-work, lent-short, library-answered, library-not-sound}
+use Rattle.covers.specs.Outcome.{operation, mapOutcome}
+use Rattle.covers.proofs.Demands.{map-demands}
+use Rattle.mapper.specs.Promises.{leastOutput, taskAnswer}
 use Rattle.operations.proofs.map.Statement.{statement}
 use Rattle.operations.proofs.map.Tie as tie
 use Rattle.operations.proofs.map.Reads as reads
 use Rattle.operations.proofs.map.Lts as lts
-use Rattle.operations.proofs.map_tree.Reads as map-tree-reads
-use Rattle.sheets.proofs.library_number.Reads as library-number-reads
-use Rattle.sheets.proofs.read_library.Reads as read-library-reads
+use Rattle.operations.proofs.operate.Reads as operate-reads
 
-returns : tie.Need-returns
-unfolding mapOutcome
-returns c =
-    let a = c .before .before .before .before .before .args in
-    lent-short 109 (mapAnswer capacity) (a .library .now) (a .tree .now) (a .output .now) (a .work .now)
-    (short-output 109 (length (a .output .now)) (length (a .work .now)) (withLibrary (mapAnswer capacity) (libraryOf (a .library .now) start) (treeOf (a .tree .now) start)) (omega arith))
-
-returns-2 : tie.Need-returns-2
-unfolding mapOutcome
-returns-2 c =
-    let a = c .before .before .before .before .before .before .args in
-    lent-short 109 (mapAnswer capacity) (a .library .now) (a .tree .now) (a .output .now) (a .work .now)
-    (short-work 109 (length (a .output .now)) (length (a .work .now)) (withLibrary (mapAnswer capacity) (libraryOf (a .library .now) start) (treeOf (a .tree .now) start)) (omega arith) (omega arith))
-
-read-library-requires : tie.Need-read-library-requires
-read-library-requires c κs = search needs
-
-enum-told : tie.Need-enum-told
-enum-told c = search needs
-
-map-tree-requires : tie.Need-map-tree-requires
-map-tree-requires c κs =
-    let a = c .before .before .before .before .before .before .before .before .before .before .before .args in
-    let read = c .before .before .before .before .read-library in
-    let told = c .before .before .enum-told .given in
-    (omega arith, omega arith, (libraryOf (a .library .now) start .0, library-laid (a .library .now) (read .result) (read .ensures) (told .0 .0) (told .1)))
-
-enum-known-scan : tie.Need-enum-known-scan
-enum-known-scan c = search needs
-
-library-number-requires : tie.Need-library-number-requires
-library-number-requires c κs = search needs
+operate-requires : tie.Need-operate-requires
+operate-requires c κs = search needs
 
 same-length : tie.Need-same-length
 same-length c = search needs
@@ -54,35 +18,11 @@ same-length c = search needs
 same-length-2 : tie.Need-same-length-2
 same-length-2 c = search needs
 
-returns-3 : tie.Need-returns-3
-unfolding mapOutcome
-returns-3 c =
-    let a = c .before .before .before .before .before .before .before .before .before .before .before .before .before .before .before .before .args in
-    let read = c .before .before .before .before .before .before .before .before .before .read-library in
-    let told = c .before .before .before .before .before .before .before .enum-told .given in
-    library-answered 109 (mapAnswer capacity) (a .library .now) (a .tree .now) (a .output .now) (a .work .now) (omega arith) (omega arith) (read .result) (read .ensures) (told .0 .0) (told .1)
-    (c .before .before .before .before .map-tree .ensures (libraryOf (a .library .now) start .0) (library-laid (a .library .now) (read .result) (read .ensures) (told .0 .0) (told .1)))
-
-returns-4 : tie.Need-returns-4
-unfolding mapOutcome
-returns-4 c =
+returns : tie.Need-returns
+unfolding mapOutcome leastOutput taskAnswer
+returns c =
     let a = c .before .before .before .before .before .before .before .before .before .before .before .args in
-    let read = c .before .before .before .before .read-library in
-    let told = c .before .before .scan .given in
-    library-not-sound 109 (mapAnswer capacity) (a .library .now) (a .tree .now) (a .output .now) (a .work .now) (omega arith) (omega arith) (read .result) (read .ensures) (told .0 .0) (told .0 .1 .0) (c .library-number .result) (told .1) (c .library-number .ensures)
+    (c .before .before .before .before .operate .ensures, map-demands (a .library .now) (a .tree .now) (length (a .output .now)) (length (a .work .now)))
 
 pub map-spec : {M : Type 1} → statement M
-map-spec =
-    tie.close
-    (tie.spec
-    returns
-    returns-2
-    read-library-requires
-    enum-told
-    map-tree-requires
-    enum-known-scan
-    library-number-requires
-    same-length
-    same-length-2
-    returns-3
-    returns-4)
+map-spec = tie.close (tie.spec operate-requires same-length same-length-2 returns)

@@ -1,14 +1,14 @@
 use borrow.Author.Needs.{needs}
 use Rattle.sheets.specs.TreeSheet.{tree as treeOf}
 use Rattle.sheets.specs.Report.{start}
-use Rattle.covers.specs.Answer.{listAnswer}
 use Rattle.covers.specs.Outcome.{capacity}
+use Rattle.mapper.specs.Promises.{taskAnswer}
 use Rattle.operations.proofs.Laws.{tree-laid, tree-answered, tree-not-sound}
-use Rattle.operations.proofs.list_tree.Statement.{statement}
-use Rattle.operations.proofs.list_tree.Tie as tie
-use Rattle.operations.proofs.list_tree.Reads as reads
-use Rattle.operations.proofs.list_tree.Lts as lts
-use Rattle.operations.proofs.list_decoded.Reads as list-decoded-reads
+use Rattle.operations.proofs.with_library.Statement.{statement}
+use Rattle.operations.proofs.with_library.Tie as tie
+use Rattle.operations.proofs.with_library.Reads as reads
+use Rattle.operations.proofs.with_library.Lts as lts
+use Rattle.operations.proofs.with_records.Reads as with-records-reads
 use Rattle.sheets.proofs.read_tree.Reads as read-tree-reads
 use Rattle.sheets.proofs.tree_number.Reads as tree-number-reads
 
@@ -18,8 +18,8 @@ read-tree-requires c κs = search needs
 enum-told : tie.Need-enum-told
 enum-told c = search needs
 
-list-decoded-requires : tie.Need-list-decoded-requires
-list-decoded-requires c κs =
+with-records-requires : tie.Need-with-records-requires
+with-records-requires c κs =
     let first = c .before .before .before .before .before .before .before .before in
     let read = c .before .before .before .before .read-tree in
     let told = c .before .before .enum-told .given in
@@ -43,24 +43,24 @@ returns c l laid =
     let first = c .before .before .before .before .before .before .before .before .before .before .before .before .before in
     let read = c .before .before .before .before .before .before .before .before .before .read-tree in
     let told = c .before .before .before .before .before .before .before .enum-told .given in
-    let call = c .before .before .before .before .list-decoded in
+    let call = c .before .before .before .before .with-records in
     let ts = first .args .tree .now in
-    tree-answered ts (read .result) (read .ensures) (listAnswer capacity l) (told .0 .0) (told .1) (call .ensures .1 l (treeOf ts start .0) (tree-laid ts (read .result) (read .ensures) laid (told .0 .0) (told .1))) (call .ensures .0)
+    tree-answered ts (read .result) (read .ensures) (taskAnswer (first .args .task) capacity l) (told .0 .0) (told .1) (call .ensures .1 l (treeOf ts start .0) (tree-laid ts (read .result) (read .ensures) laid (told .0 .0) (told .1))) (call .ensures .0)
 
 returns-2 : tie.Need-returns-2
 returns-2 c l laid =
     let first = c .before .before .before .before .before .before .before .before in
     let read = c .before .before .before .before .read-tree in
     let told = c .before .before .scan .given in
-    tree-not-sound (first .args .tree .now) (read .result) (read .ensures) (listAnswer capacity l) (first .args .output .now) (first .args .work .now) (told .0 .0) (told .0 .1 .0) (c .tree-number .result) (told .1) (c .tree-number .ensures)
+    tree-not-sound (first .args .tree .now) (read .result) (read .ensures) (taskAnswer (first .args .task) capacity l) (first .args .output .now) (first .args .work .now) (told .0 .0) (told .0 .1 .0) (c .tree-number .result) (told .1) (c .tree-number .ensures)
 
-pub list-tree-spec : {M : Type 1} → statement M
-list-tree-spec =
+pub with-library-spec : {M : Type 1} → statement M
+with-library-spec =
     tie.close
     (tie.spec
     read-tree-requires
     enum-told
-    list-decoded-requires
+    with-records-requires
     enum-known-scan
     tree-number-requires
     same-length

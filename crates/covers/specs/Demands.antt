@@ -1,0 +1,41 @@
+-- What is demanded of everything that map and list answer to a sound library and a sound tree. All of it is said of all legal covers.
+use Prim.Native.Nat.{ℕ, _≤_}
+use mathlib.Core.Path.{_≡_}
+use mathlib.Core.Logic.{_↔_}
+use mathlib.Core.List.{List, List·Memᴰ}
+use Rattle.bits.specs.declared.Cursor.{Cursor}
+use Rattle.shapes.specs.declared.Scan.the-variants.{At}
+use Rattle.sheets.specs.Model.{Library, Tree}
+use Rattle.sheets.specs.LibrarySheet.{library}
+use Rattle.sheets.specs.TreeSheet.{tree}
+use Rattle.sheets.specs.Report.{start}
+use Rattle.covers.specs.Cover.{Cover}
+use Rattle.covers.specs.Tradeoff.{Node, nodes, TooMany}
+use Rattle.covers.specs.CoverSheet.{coverSheet, listSheet}
+use Rattle.covers.specs.Outcome.{Outcome, refused, sheet, capacity}
+use Rattle.covers.specs.Promise.{RootCover, InTime, BestCover, RootTradeoffs, HighestTooMany, NoneTooMany}
+
+-- Covers of a wanted kind are asked for, and what is right is put on a sheet.
+pub record Demands {A : Type 0} (Wanted : Cover → Type 0) (Right : A → Type 0) (on : A → List ℕ) (l : Library) (t : Tree) (o : Outcome) : Type 0 where
+  -- Demand 3. Overfull (document 01's "crowded") is said exactly when some node has more than 31 trade-offs under a load considered there,
+  pub overfull-exactly : ((k : ℕ) × (o ≡ refused 7 k)) ↔ ((x : Node) × List·Memᴰ x (nodes 0 (t .shape)) × TooMany capacity l t x)
+  -- and its place is the highest-numbered such node.
+  pub overfull-place : (k : ℕ) → (o ≡ refused 7 k) ↔ HighestTooMany capacity l t k
+  -- No cover is said exactly when there is no such node and no cover of the wanted kind.
+  pub none-exactly : (o ≡ refused 8 0) ↔ (NoneTooMany capacity l t × ((c : Cover) → Wanted c → ⊥))
+  -- A sheet is handed over exactly when there is no such node and some cover of the wanted kind.
+  pub sheet-exactly : ((bytes : List ℕ) × (o ≡ sheet bytes)) ↔ (NoneTooMany capacity l t × ((c : Cover) × Wanted c))
+  -- Demand 2. The sheet's bytes say what is right.
+  pub sheet-is : (bytes : List ℕ) → o ≡ sheet bytes → (a : A) × (bytes ≡ on a) × Right a
+
+-- Map is asked for a cover in time and hands over the best.
+abbrev pub MapDemands : Library → Tree → Outcome → Type 0
+MapDemands l t = Demands (InTime l t) (BestCover l t) coverSheet l t
+
+-- List is asked for any legal cover and hands over the trade-offs of them all.
+abbrev pub ListDemands : Library → Tree → Outcome → Type 0
+ListDemands l t = Demands (RootCover l t) (RootTradeoffs l t) listSheet l t
+
+-- An outcome meets the demands of the library and the tree on the two sheets, if enough is lent and both sheets are sound.
+abbrev pub WhereSound : (Library → Tree → Outcome → Type 0) → ℕ → List ℕ → List ℕ → ℕ → ℕ → Outcome → Type 0
+WhereSound Demanded least ls ts output work o = (c c′ : Cursor) → least ≤ output → 8192 ≤ work → library ls start .1 ≡ At c → tree ts start .1 ≡ At c′ → Demanded (library ls start .0) (tree ts start .0) o
