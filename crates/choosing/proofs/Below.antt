@@ -19,7 +19,8 @@ use Rattle.covers.specs.Tradeoff.{nodes as nodesFrom}
 use Rattle.covers.specs.Choice.{least, bothChosen, chosenInputs, firstReaching, choice}
 use Rattle.covers.proofs.Basics.{at-all, FirstOf, nowhere, somewhere, first-of}
 use Rattle.covers.proofs.Least.{least-is, least-some}
-use Rattle.covers.proofs.Matching.{gates, Spread, last, next, matches-are, match-inside, spread-in, input-smaller}
+use Rattle.covers.specs.Curve.{gates}
+use Rattle.covers.proofs.Matching.{Spread, last, next, matches-are, match-inside, spread-in, input-smaller}
 use Rattle.covers.proofs.Handed.{choice-point, choice-handed}
 use Rattle.covers.proofs.Listing.{few-matches}
 use Rattle.covers.proofs.Nodes.{input-in, nodes-within}

@@ -23,14 +23,15 @@ use Rattle.covers.specs.Choice.{least, reaches, chosenInputs, withInputs, first
 use Rattle.covers.proofs.Basics.{lt-or-le, at-all, at-below, in-select}
 use Rattle.covers.proofs.Least.{In, IsLeast, least-is, least-some}
 use Rattle.covers.proofs.Deadline.{bestMatch}
-use Rattle.covers.proofs.Matching.{gates, size-pos, fitting-are}
+use Rattle.covers.specs.Curve.{Filled, base, curve, gates, lookup, pointOf}
+use Rattle.covers.proofs.Matching.{size-pos, fitting-are}
 use Rattle.covers.proofs.Unroll.{gate-choice}
 use Rattle.covers.proofs.Handed.{choice-point}
 use Rattle.covers.proofs.Nodes.{root-in, node-ends}
 use Rattle.covers.proofs.Ascending.{ascending-unique}
 use Rattle.covers.proofs.Overfull.{nodes-ascend}
-use Rattle.covers.proofs.Curve.{curve, lookup, curve-is, lookup-is-least}
-use Rattle.covers.proofs.Filling.{Filled, fromTable, reaches-from-table}
+use Rattle.covers.proofs.Curve.{curve-is, lookup-is-least}
+use Rattle.covers.proofs.Filling.{fromTable, reaches-from-table}
 use Rattle.covers.proofs.FromSheets.{binned}
 use Rattle.matching.specs.Found.{matchRow, tableFrom}
 use Rattle.matching.specs.Standing.{Stands}
@@ -39,13 +40,13 @@ use Rattle.matching.proofs.Lists.{at-mem}
 use Rattle.matching.proofs.Tables.{length-table}
 use Rattle.matching.proofs.Patterns.{fitting-sound}
 use Rattle.matching.proofs.Walking.{stands-size}
-use Rattle.curves.specs.Words.{base, absent, pointOf, tableOf}
+use Rattle.curves.specs.Words.{absent, tableOf}
 use Rattle.curves.specs.Best.{legalBest, RowSafe, Matches}
 use Rattle.curves.specs.Promises.{Worth}
 use Rattle.choosing.specs.declared.Inputs.{Inputs}
 use Rattle.choosing.specs.Promises.{rowOf, FirstRow, RowHolds, InputsAre, Decoded, Drives, at-root, below, Driven}
 use Rattle.filling.proofs.Rows.{legal-is, row-is-match}
-use Rattle.filling.proofs.Node.{sound-patterns, headed, row-holds, rows-ready}
+use Rattle.filling.proofs.Node.{headed, row-holds, rows-ready}
 use Rattle.choosing.proofs.Reading.{pattern-at}
 use Rattle.filling.proofs.At.{symbols-small}
 use Rattle.matching.proofs.Standing.{stands-everywhere}
@@ -140,7 +141,7 @@ module _ {l : Library} {t : Tree} {rows : List ℕ} {total : ℕ} {cells : List 
 
   pub ready : Ready rows total cells ss zs n room l s
   ready = record {
-    sound = sound-patterns (dec .library);
+    sound = dec .library;
     rows-are = dec .rows-are;
     total-is = dec .total-is;
     cells-are = dec .cells-are;
@@ -200,7 +201,7 @@ module _ {l : Library} {t : Tree} {rows : List ℕ} {total : ℕ} {cells : List 
     pub row-held : (j : ℕ) → j < count → RowHolds (rowOf found j) (getD (fitting l n s) j noMatch)
     row-held j h = record {
       long = length-take-le 68 (drop (68 * j) found) (omega (arith, length-drop (68 * j) found, found-long, rows-safe .few));
-      few = fitting-sound n s l (sound-patterns (dec .library)) (at-mem (fitting l n s) j noMatch (omega arith)) .few;
+      few = fitting-sound n s l (dec .library) (at-mem (fitting l n s) j noMatch (omega arith)) .few;
       words = row-holds l t (dec .library) (dec .tree) n s (drv .node) ss zs stand found₀ found (long ∙ dec .room-is) are noMatch work j (omega arith);
     }
 

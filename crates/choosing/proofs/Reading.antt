@@ -14,7 +14,8 @@ use Rattle.covers.specs.Cover.{Point, inputDelay}
 use Rattle.covers.proofs.Basics.{lt-or-le}
 use Rattle.matching.specs.Found.{inputWords, inputsWords, matchRow}
 use Rattle.matching.proofs.Written.{length-inputs}
-use Rattle.curves.specs.Words.{absent, wordOf, pointOf}
+use Rattle.covers.specs.Curve.{pointOf, wordOf}
+use Rattle.curves.specs.Words.{absent}
 use Rattle.curves.specs.Promises.{Worth}
 use Rattle.curves.proofs.Laws.{word-point}
 use Rattle.choosing.specs.Promises.{RowHolds, InputIs, noInput}

@@ -9,15 +9,14 @@ use Rattle.shapes.specs.Shape.{symbols, sizes}
 use Rattle.sheets.specs.declared.CellRecord.{CellRecord}
 use Rattle.sheets.specs.Model.{Shape, leaf, Library, Tree, patterns}
 use Rattle.sheets.specs.Layout.{padded, blankCell, cellLaid, rowsFrom, patternRows}
-use Rattle.sheets.proofs.Sound.{SoundLibrary, SoundTree}
+use Rattle.sheets.specs.Sound.{SoundLibrary, SoundTree}
 use Rattle.covers.specs.Match.{Input, Match}
 use Rattle.covers.specs.Cover.{Point, Placed, feeds, inputDelay}
 use Rattle.covers.specs.Enumeration.{covers}
 use Rattle.covers.specs.Tradeoff.{nodes}
 use Rattle.covers.specs.Choice.{least}
-use Rattle.covers.proofs.Matching.{gates}
+use Rattle.covers.specs.Curve.{base, gates, pointOf}
 use Rattle.matching.specs.Found.{matchRow}
-use Rattle.curves.specs.Words.{base, pointOf}
 use Rattle.curves.specs.Best.{legalBest}
 use Rattle.curves.specs.Stored.{Stored}
 use Rattle.choosing.specs.declared.Inputs.{Inputs}

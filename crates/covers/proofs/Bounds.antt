@@ -13,7 +13,8 @@ use Rattle.covers.specs.Cover.{Point, Cover, IsCover, bare, matching, Ar
 use Rattle.covers.specs.Enumeration.{covers}
 use Rattle.covers.specs.Tradeoff.{Node, nodes}
 use Rattle.covers.proofs.Basics.{at-in, at-all}
-use Rattle.covers.proofs.Matching.{gates, gates-lt-size, Spread, next, match-inside}
+use Rattle.covers.specs.Curve.{gates}
+use Rattle.covers.proofs.Matching.{gates-lt-size, Spread, next, match-inside}
 use Rattle.covers.proofs.Nodes.{input-in, leaves-within, node-ends}
 use Rattle.covers.proofs.Relation.{covers-are}
 

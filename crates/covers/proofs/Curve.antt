@@ -13,28 +13,11 @@ use borrow.Author.Tests.{lt-ltb, le-ltb}
 use Rattle.covers.specs.Cover.{Point, Cover}
 use Rattle.covers.specs.Tradeoff.{IsTradeoff, Climbing, top, step, tradeoffsOf, points}
 use Rattle.covers.specs.Choice.{least}
+use Rattle.covers.specs.Curve.{byDeadline, chained, curve, lookup}
 use Rattle.covers.proofs.Basics.{tests, each}
 use Rattle.covers.proofs.Points.{Leq, smaller, earlier, leq-area, point-path}
 use Rattle.covers.proofs.Least.{In, IsLeast, LeastOf, absent, found, least-is}
 use Rattle.covers.proofs.Tradeoffs.{tradeoffs-climb, tradeoffs-are}
-
--- The curve of some covers.
-unfoldable pub curve : List Cover → List Point
-curve cs = reverse (tradeoffsOf (points cs))
-
--- The first point of a list that arrives before an instant.
-unfoldable pub lookup : ℕ → List Point → Option Point
-lookup end [] = none
-lookup end (p ∷ ps) = cond (ltb (p .arrival) end) (some p) (lookup end ps)
-
--- The first k points by deadline: the best before an instant, then the best before its arrival, and so on.
-unfoldable pub chained : Option Point → (Point → List Point) → List Point
-chained none f = []
-chained (some p) f = p ∷ f p
-
-unfoldable pub byDeadline : ℕ → (ℕ → Option Point) → ℕ → List Point
-byDeadline zero best end = []
-byDeadline (suc k) best end = chained (best end) (λ p. byDeadline k best (p .arrival))
 
 -- Strictly latest first.
 pub data Falling : List Point → Type 0 where

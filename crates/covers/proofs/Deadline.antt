@@ -8,7 +8,8 @@ use Rattle.covers.specs.Match.{Input, Match}
 use Rattle.covers.specs.Cover.{Point, Cover, late, raised, nothing, delayed, topped, feeds, inputDelay}
 use Rattle.covers.specs.Enumeration.{inputCovers, matchCovers}
 use Rattle.covers.specs.Choice.{lesser, before, least}
-use Rattle.covers.proofs.Points.{both, lesser-none, late-carries, raised-carries, before-late, before-raised}
+use Rattle.covers.specs.Curve.{both}
+use Rattle.covers.proofs.Points.{lesser-none, late-carries, raised-carries, before-late, before-raised}
 use Rattle.covers.proofs.Least.{least-append, least-map, least-combined}
 
 -- The best of a match's inputs side by side, given the best of an input that feeds a pin before an instant.

@@ -8,7 +8,8 @@ use Rattle.sheets.specs.Model.{Shape, Cell, Library}
 use Rattle.covers.specs.Match.{Input, Match, IsMatch}
 use Rattle.covers.specs.Cover.{Cover, IsCover, bare, matching, AreCovers, done, more, nothing, leafCover, together, delayed, topped, inputDelay}
 use Rattle.covers.proofs.Ascending.{ascending-parts}
-use Rattle.covers.proofs.Matching.{gates, Spread, next, match-inside}
+use Rattle.covers.specs.Curve.{gates}
+use Rattle.covers.proofs.Matching.{Spread, next, match-inside}
 use Rattle.covers.proofs.Listing.{cover-ascends, inputs-ascend}
 
 module _ {l : Library} where

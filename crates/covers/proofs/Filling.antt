@@ -15,13 +15,14 @@ use Rattle.covers.specs.Enumeration.{matchCovers, gateCovers, under, cov
 use Rattle.covers.specs.Tradeoff.{tradeoffs, Node, nodes}
 use Rattle.covers.specs.Choice.{lesser, before, least, reaches}
 use Rattle.covers.proofs.Basics.{lt-or-le, at-all}
-use Rattle.covers.proofs.Points.{both, lesser-none}
+use Rattle.covers.specs.Curve.{both, byDeadline, curve, Filled, gates, lookup}
+use Rattle.covers.proofs.Points.{lesser-none}
 use Rattle.covers.proofs.Least.{In, IsLeast}
 use Rattle.covers.proofs.Deadline.{bestInputs, bestMatch, bestOf, leastInput, deadline}
-use Rattle.covers.proofs.Matching.{gates, matches-are, match-inside, spread-in}
+use Rattle.covers.proofs.Matching.{matches-are, match-inside, spread-in}
 use Rattle.covers.proofs.Unroll.{covers-unroll, gate-covers}
 use Rattle.covers.proofs.Handed.{pattern-reaches}
-use Rattle.covers.proofs.Curve.{curve, lookup, byDeadline, curve-is, lookup-is-least, curve-found, more-tradeoffs}
+use Rattle.covers.proofs.Curve.{curve-is, lookup-is-least, curve-found, more-tradeoffs}
 use Rattle.covers.proofs.Nodes.{nodeOf, input-in, nodes-within}
 use Rattle.covers.proofs.Ascending.{ascending-range, ascending-unique}
 use Rattle.covers.proofs.Overfull.{nodes-ascend}
@@ -60,22 +61,18 @@ module _ (l : Library) where
   from-curve (inv s) load n end ps h = ap (lookup end) (h (omega arith)) ∙ lookup-is-least end (curve-is (covers l load n (inv s)))
   from-curve (nand s t) load n end ps h = ap (lookup end) (h (omega arith)) ∙ lookup-is-least end (curve-is (covers l load n (nand s t)))
 
-  -- The table holds the curves, under every bin load, of the inverters and NANDs numbered k and above.
-  abbrev pub Filled : Shape → (ℕ → ℕ → List Point) → ℕ → Type 0
-  Filled root table k = (x : Node) → List·Memᴰ x (nodes 0 root) → k ≤ x .number → 0 < gates (x .shape) → (b : ℕ) → b < length (l .bins) → table (x .number) b ≡ curve (covers l (getD (l .bins) b 0) (x .number) (x .shape))
-
-  pub filled-start : (root : Shape) (table : ℕ → ℕ → List Point) → Filled root table (size root)
+  pub filled-start : (root : Shape) (table : ℕ → ℕ → List Point) → Filled l root table (size root)
   filled-start root table x m h = absurd (omega (arith, ascending-range (nodes-ascend 0 root) m .1))
 
   -- A node's curves put in keep those above it.
-  pub filled-next : (root : Shape) (table table′ : ℕ → ℕ → List Point) (n : ℕ) (s : Shape) → Filled root table (suc n) → List·Memᴰ (record { number = n; shape = s }) (nodes 0 root) → ((k b : ℕ) → n < k → table′ k b ≡ table k b) → (0 < gates s → (b : ℕ) → b < length (l .bins) → table′ n b ≡ curve (covers l (getD (l .bins) b 0) n s)) → Filled root table′ n
+  pub filled-next : (root : Shape) (table table′ : ℕ → ℕ → List Point) (n : ℕ) (s : Shape) → Filled l root table (suc n) → List·Memᴰ (record { number = n; shape = s }) (nodes 0 root) → ((k b : ℕ) → n < k → table′ k b ≡ table k b) → (0 < gates s → (b : ℕ) → b < length (l .bins) → table′ n b ≡ curve (covers l (getD (l .bins) b 0) n s)) → Filled l root table′ n
   filled-next root table table′ n s filled here kept new x m h = go (lt-or-le n (x .number))
     where
       go : (n < x .number) ⊎ (x .number ≤ n) → 0 < gates (x .shape) → (b : ℕ) → b < length (l .bins) → table′ (x .number) b ≡ curve (covers l (getD (l .bins) b 0) (x .number) (x .shape))
       go (inl k) = λ g b i. kept (x .number) b k ∙ filled x m k g b i
       go (inr k) = let e : x ≡ record { number = n; shape = s } = ascending-unique (nodes-ascend 0 root) m here (omega arith) in rw e new
 
-  module _ (binned : Binned l) (root : Shape) (table : ℕ → ℕ → List Point) (n : ℕ) (s : Shape) (filled : Filled root table (suc n)) (here : List·Memᴰ (record { number = n; shape = s }) (nodes 0 root)) where
+  module _ (binned : Binned l) (root : Shape) (table : ℕ → ℕ → List Point) (n : ℕ) (s : Shape) (filled : Filled l root table (suc n)) (here : List·Memᴰ (record { number = n; shape = s }) (nodes 0 root)) where
     input-best : {load : ℕ} {m : Match} → IsMatch l load n s m → (i : Input) → List·Memᴰ i (m .inputs) → (end : ℕ) → fromTable l table (feeds (m .pattern .cell) i) i end ≡ leastInput (allBelow l) (feeds (m .pattern .cell) i) i end
     unfolding fromTable under pinLoad feeds pinAt
     input-best {m = m} f i k end =

@@ -5,7 +5,7 @@ use mathlib.Core.List.{List, List·Memᴰ}
 use native.Mathlib.Omega.{arith}
 use lib.ListN.{length}
 use Rattle.sheets.specs.Model.{Library, Tree}
-use Rattle.sheets.proofs.Sound.{SoundLibrary, SoundTree}
+use Rattle.sheets.specs.Sound.{SoundLibrary, SoundTree}
 use Rattle.covers.specs.Cover.{Point, Cover}
 use Rattle.covers.specs.Tradeoff.{IsTradeoff}
 use Rattle.covers.specs.Promise.{RootCover}

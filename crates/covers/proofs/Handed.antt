@@ -17,10 +17,11 @@ use Rattle.covers.specs.Tradeoff.{same}
 use Rattle.covers.specs.Choice.{lesser, before, least, reaches, bothChosen, chosenInputs, withInputs, firstReaching, gateChoice, choiceStep, choice}
 use Rattle.covers.specs.Promise.{rootPattern, Handed}
 use Rattle.covers.proofs.Basics.{lt-or-le, any-true, true-any, FirstOf, nowhere, somewhere, first-of, in-flatMap, of-flatMap}
-use Rattle.covers.proofs.Points.{same-true, same-refl, Leq, smaller, earlier, leq-area, both, before-yes, before-no}
+use Rattle.covers.specs.Curve.{both, gates}
+use Rattle.covers.proofs.Points.{same-true, same-refl, Leq, smaller, earlier, leq-area, before-yes, before-no}
 use Rattle.covers.proofs.Least.{IsLeast, LeastOf, absent, found, In, least-is, least-some, least-none, is-least}
 use Rattle.covers.proofs.Deadline.{bestInputs, bestMatch, leastInput, deadline-match}
-use Rattle.covers.proofs.Matching.{gates, matches-are, matches-ascend, match-inside, input-smaller}
+use Rattle.covers.proofs.Matching.{matches-are, matches-ascend, match-inside, input-smaller}
 use Rattle.covers.proofs.Ascending.{first-lowest}
 use Rattle.covers.proofs.Unroll.{covers-unroll, gate-covers, choice-unroll, gate-choice, by-size}
 use Rattle.covers.proofs.Relation.{covers-all}

@@ -20,6 +20,5 @@ pub mod Demands
 pub mod Bounds
 pub mod SheetLengths
 pub mod ReadBack
-pub mod Packing
 pub mod Filling
 pub mod FromSheets

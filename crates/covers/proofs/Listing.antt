@@ -12,7 +12,8 @@ use Rattle.covers.specs.Cover.{Placed, Cover, IsCover, bare, matching, A
 use Rattle.covers.specs.Promise.{areaAt, listedArea}
 use Rattle.covers.proofs.Basics.{each, at-below}
 use Rattle.covers.proofs.Ascending.{Ascending, end, then, lowered, ascending-append}
-use Rattle.covers.proofs.Matching.{gates, Spread, last, next, match-inside}
+use Rattle.covers.specs.Curve.{gates}
+use Rattle.covers.proofs.Matching.{Spread, last, next, match-inside}
 
 module _ {l : Library} where
   mutual

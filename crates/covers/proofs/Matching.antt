@@ -11,6 +11,7 @@ use lib.ListN.{getElem?, length}
 use lib.Dec.{leb}
 use Rattle.sheets.specs.Model.{Shape, leaf, inv, nand, size, Library, Pattern, patterns}
 use Rattle.covers.specs.Match.{Input, joined, laid, matched, usable, legal, Match, IsMatch, found, fittingFrom, fitting, matches}
+use Rattle.covers.specs.Curve.{gates}
 use Rattle.covers.proofs.Basics.{tests, of-select, in-select}
 use Rattle.covers.proofs.Ascending.{Ascending, end, then, lowered, select-ascends}
 
@@ -81,12 +82,6 @@ match-legal {load} {m = m} h = go (m .pattern .cell .held) refl (leb load (m .pa
     go false e true f k = (e, omega (arith, tests))
     go false e false f k = absurd (false≢true k)
     go true e b f k = absurd (false≢true k)
-
--- How many inverters and NANDs a shape has.
-unfoldable pub gates : Shape → ℕ
-gates (leaf x) = 0
-gates (inv s) = suc (gates s)
-gates (nand s t) = suc (gates s + gates t)
 
 pub gates-lt-size : (s : Shape) → gates s < size s
 unfolding gates size

@@ -10,6 +10,7 @@ use borrow.Author.Tests.{eqb-false, lt-ltb, le-ltb, eq-eqb}
 use Rattle.covers.specs.Cover.{Point, beside, late, raised}
 use Rattle.covers.specs.Tradeoff.{same}
 use Rattle.covers.specs.Choice.{cheaper, pick, lesser, before}
+use Rattle.covers.specs.Curve.{both}
 use Rattle.covers.proofs.Basics.{tests, lt-or-le}
 
 pub point-path : {p q : Point} → p .area ≡ q .area → p .arrival ≡ q .arrival → p ≡ q
@@ -85,12 +86,6 @@ pub lesser-none : (a : Option Point) → lesser a none ≡ a
 unfolding lesser
 lesser-none none = refl
 lesser-none (some p) = refl
-
--- Side by side, if both are there.
-unfoldable pub both : Option Point → Option Point → Option Point
-both none b = none
-both (some p) none = none
-both (some p) (some q) = some (beside p q)
 
 -- For a loop that takes one input after another, from nothing on.
 pub both-assoc : (a b c : Option Point) → both (both a b) c ≡ both a (both b c)

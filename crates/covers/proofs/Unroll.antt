@@ -11,7 +11,8 @@ use Rattle.covers.specs.Cover.{Point, Cover, delayed, topped, feeds, inp
 use Rattle.covers.specs.Enumeration.{combined, within, throughout, inputCovers, matchCovers, gateCovers, under, coversStep, covers, allBelow}
 use Rattle.covers.specs.Choice.{least, reaches, bothChosen, chosenInputs, withInputs, firstReaching, gateChoice, choiceStep, choice}
 use Rattle.covers.proofs.Basics.{FirstOf, nowhere, somewhere, first-of}
-use Rattle.covers.proofs.Matching.{gates, size-pos, matches-are, input-smaller}
+use Rattle.covers.specs.Curve.{gates}
+use Rattle.covers.proofs.Matching.{size-pos, matches-are, input-smaller}
 
 module _ {A : Type 0} (base : A) (step : (ℕ → ℕ → Shape → A) → ℕ → ℕ → Shape → A) where
   -- The step asks only for what is below.

@@ -11,3 +11,4 @@ pub mod Outcome
 pub mod Promise
 pub mod Demands
 pub mod Specimens
+pub mod Curve

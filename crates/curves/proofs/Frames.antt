@@ -17,10 +17,10 @@ use Rattle.shapes.proofs.Sets.{sets-append}
 use Rattle.covers.specs.Cover.{Point, late, raised}
 use Rattle.covers.specs.Choice.{before, lesser}
 use Rattle.covers.proofs.Basics.{lt-or-le}
-use Rattle.covers.proofs.Points.{both, point-path}
+use Rattle.covers.specs.Curve.{base, both, byDeadline, chained, lookup, pointOf, wordOf}
+use Rattle.covers.proofs.Points.{point-path}
 use Rattle.matching.proofs.Lists.{before-sets}
-use Rattle.covers.proofs.Curve.{lookup, byDeadline, chained}
-use Rattle.curves.specs.Words.{base, wordOf, pointOf, stored, tableOf, Small, AgreeFrom}
+use Rattle.curves.specs.Words.{stored, tableOf, Small, AgreeFrom}
 use Rattle.curves.specs.Best.{inputBest, inputLate, rowDelay, inputsBest, rowBest, legalBest, rowsBest, Above}
 use Rattle.curves.specs.Promises.{bestBefore, CurveStored, Fit}
 use Rattle.curves.proofs.Laws.{word-point}

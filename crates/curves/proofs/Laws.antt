@@ -14,10 +14,10 @@ use lib.Dec.{leb, ltb, eqb}
 use borrow.Author.Tests.{eq-eqb, ne-eqb, lt-ltb, le-ltb, le-leb, lt-leb}
 use Rattle.covers.specs.Cover.{Point, late, raised, beside}
 use Rattle.covers.specs.Choice.{before, lesser}
-use Rattle.covers.proofs.Points.{point-path, both, both-assoc, both-nothing, Leq, smaller, earlier, pick-left, pick-right, lesser-none}
+use Rattle.covers.specs.Curve.{base, both, lookup, pointOf, wordOf}
+use Rattle.covers.proofs.Points.{point-path, both-assoc, both-nothing, Leq, smaller, earlier, pick-left, pick-right, lesser-none}
 use Rattle.covers.proofs.Basics.{lt-or-le}
-use Rattle.covers.proofs.Curve.{lookup}
-use Rattle.curves.specs.Words.{base, absent, word, wordOf, pointOf, stored, tableOf, Small}
+use Rattle.curves.specs.Words.{absent, word, stored, tableOf, Small}
 use Rattle.curves.specs.Best.{inputBest, inputLate, rowDelay, inputsBest, rowBest, legalBest, rowsBest}
 use Rattle.curves.specs.Promises.{Worth}
 

@@ -8,8 +8,7 @@ use lib.ListN.{length, getD, take, drop}
 use lib.Dec.{leb, ltb}
 use Rattle.covers.specs.Cover.{late, raised, Point}
 use Rattle.covers.specs.Choice.{lesser, before}
-use Rattle.covers.proofs.Points.{both}
-use Rattle.covers.proofs.Curve.{lookup, byDeadline}
+use Rattle.covers.specs.Curve.{both, byDeadline, lookup}
 use Rattle.curves.specs.Words.{tableOf, Small}
 
 module _ (symbols work : List ℕ) where

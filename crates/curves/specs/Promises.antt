@@ -6,8 +6,8 @@ use lib.ListN.{length, take}
 use lib.Seq.{sets}
 use mathlib.Core.Option.{Option, none, some}
 use Rattle.covers.specs.Cover.{Point}
-use Rattle.covers.proofs.Curve.{byDeadline}
-use Rattle.curves.specs.Words.{base, absent, wordOf, pointOf, Small}
+use Rattle.covers.specs.Curve.{base, byDeadline, pointOf, wordOf}
+use Rattle.curves.specs.Words.{absent, Small}
 use Rattle.curves.specs.Best.{rowsBest}
 
 -- A word below the limit for a point that arrives before an instant, or what stands for no point.

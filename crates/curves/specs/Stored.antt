@@ -4,9 +4,7 @@ use mathlib.Core.Path.{_≡_}
 use mathlib.Core.List.{List}
 use Rattle.sheets.specs.Model.{Library, Tree}
 use Rattle.covers.specs.Enumeration.{covers}
-use Rattle.covers.proofs.Matching.{gates}
-use Rattle.covers.proofs.Curve.{curve}
-use Rattle.covers.proofs.Filling.{Filled}
+use Rattle.covers.specs.Curve.{Filled, curve, gates}
 use Rattle.curves.specs.Words.{tableOf, Small}
 
 -- The curves of every gate below the root under every load bin, and the root's under the root load in the place of bin 0.

@@ -1,5 +1,5 @@
 -- Points as words, and curves as words in the work area.
-use Prim.Native.Nat.{ℕ, zero, suc, _+_, _*_, _/_, _%_, _≤_, _<_}
+use Prim.Native.Nat.{ℕ, zero, suc, _+_, _*_, _≤_, _<_}
 use mathlib.Core.Path.{_≡_}
 use mathlib.Core.Bool.{cond}
 use mathlib.Core.List.{List, [], _∷_}
@@ -7,20 +7,11 @@ use mathlib.Core.Option.{Option, none, some}
 use lib.ListN.{getD}
 use lib.Dec.{eqb}
 use Rattle.covers.specs.Cover.{Point}
-
--- The arrival stands below this, the area above it.
-abbrev pub base : ℕ
-base = 16777216
+use Rattle.covers.specs.Curve.{wordOf, pointOf}
 
 -- What stands for no point: above every word of a point.
 abbrev pub absent : ℕ
 absent = 9223372036854775808
-
-unfoldable pub wordOf : Point → ℕ
-wordOf p = p .area * base + p .arrival
-
-unfoldable pub pointOf : ℕ → Point
-pointOf w = record { area = w / base; arrival = w % base }
 
 unfoldable pub word : Option Point → ℕ
 word none = absent

@@ -3,7 +3,7 @@ use sheets::Limits;
 ghost use mathlib.Core.Path.{_≡_};
 ghost use Prim.Native.Nat.{ℕ, _+_, _-_, _*_, _<_, _≤_, _^_, min, max};
 ghost use lib.ListN.{length, getD};
-ghost use Rattle.covers.proofs.Curve.{lookup};
+ghost use Rattle.covers.specs.Curve.{lookup};
 ghost use Rattle.curves.specs.Words.{stored, word, slot, Small};
 ghost use Rattle.curves.specs.Best.{inputBest, inputLate, rowBest, legalBest, rowsBest, Tables, InputSafe, Matches, Above};
 ghost use Rattle.curves.specs.Promises.{Worth, PointsFit, CurveStored};

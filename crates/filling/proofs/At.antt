@@ -15,13 +15,13 @@ use Rattle.covers.specs.Match.{Match, fitting}
 use Rattle.covers.specs.Enumeration.{covers}
 use Rattle.covers.specs.Tradeoff.{Node, nodes}
 use Rattle.covers.proofs.Basics.{lt-or-le}
-use Rattle.covers.proofs.Matching.{gates, size-pos}
-use Rattle.covers.proofs.Curve.{curve}
+use Rattle.covers.specs.Curve.{base, curve, gates}
+use Rattle.covers.proofs.Matching.{size-pos}
 use Rattle.matching.specs.Found.{matchRow, tableFrom}
 use Rattle.matching.specs.Standing.{Stands}
 use Rattle.matching.proofs.Standing.{stands-everywhere}
 use Rattle.matching.proofs.Tables.{length-table}
-use Rattle.curves.specs.Words.{base, ZeroBelow}
+use Rattle.curves.specs.Words.{ZeroBelow}
 use Rattle.curves.specs.Best.{Matches, Above}
 use Rattle.curves.specs.Promises.{PointsFit}
 use Rattle.filling.specs.declared.Counts.{Counts}

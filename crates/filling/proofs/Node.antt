@@ -9,7 +9,7 @@ use native.Mathlib.Nat.{le-trans}
 use lib.ListN.{length, getD, take, drop}
 use lib.Seq.{getD-take, getD-drop}
 use Rattle.sheets.specs.Model.{Shape, leaf, inv, nand, size, Pin, Cell, Library, Pattern, patterns, Tree}
-use Rattle.sheets.proofs.Sound.{IsGate, SoundCell, SoundLibrary, SoundTree}
+use Rattle.sheets.specs.Sound.{SoundCell, SoundLibrary, SoundTree}
 use Rattle.covers.specs.Match.{Input, Match, fitting, matches, legal, pinAt}
 use Rattle.covers.specs.Cover.{Point, Cover, feeds, raised, topped, IsCover, bare, matching}
 use Rattle.covers.specs.Enumeration.{covers}
@@ -17,39 +17,23 @@ use Rattle.covers.specs.Choice.{least}
 use Rattle.covers.specs.Tradeoff.{Node, nodes, tradeoffs}
 use Rattle.covers.proofs.Basics.{at-all}
 use Rattle.covers.proofs.Least.{In, IsLeast, LeastOf, absent, found as reached, least-is}
-use Rattle.covers.proofs.Matching.{gates, size-pos, fitting-are, fits-inside, spread-in}
+use Rattle.covers.specs.Curve.{Filled, base, byDeadline, curve, gates}
+use Rattle.covers.proofs.Matching.{size-pos, fitting-are, fits-inside, spread-in}
 use Rattle.covers.proofs.Nodes.{nodeOf, fits-in, nodes-within, node-ends, leaves-within}
 use Rattle.covers.proofs.Bounds.{numbered-cell, area-bound, arrive-before}
 use Rattle.covers.proofs.Relation.{covers-are}
-use Rattle.covers.proofs.Curve.{curve, byDeadline, curve-found}
-use Rattle.covers.proofs.Filling.{Filled, best-from-table}
+use Rattle.covers.proofs.Curve.{curve-found}
+use Rattle.covers.proofs.Filling.{best-from-table}
 use Rattle.covers.proofs.FromSheets.{limited, binned}
 use Rattle.matching.specs.Found.{inputWords, matchRow, tableFrom}
 use Rattle.matching.specs.Standing.{Stands}
-use Rattle.matching.specs.Promises.{Gate, SoundPatterns}
 use Rattle.matching.proofs.Written.{length-row, row-input}
 use Rattle.matching.proofs.Patterns.{SoundMatch, fitting-sound, fitting-few, match-row-at}
 use Rattle.matching.proofs.Lists.{at-mem}
-use Rattle.curves.specs.Words.{base, tableOf, Small}
+use Rattle.curves.specs.Words.{tableOf, Small}
 use Rattle.curves.specs.Best.{InputSafe, RowSafe, Matches, Above, rowsBest}
 use Rattle.curves.specs.Promises.{bestBefore, PointsFit, Fit}
 use Rattle.filling.proofs.Rows.{Heads, Holds, Headed, rows-are-best}
-
-same-gate : (d : Shape) → IsGate d → Gate d
-same-gate (leaf x) h = h
-same-gate (inv a) h = tt
-same-gate (nand a b) h = tt
-
--- The limits as matching asks them.
-pub sound-patterns : {l : Library} → SoundLibrary l → SoundPatterns l
-sound-patterns sound = record {
-  cells-few = sound .few-cells;
-  patterns-few = sound .few-patterns;
-  cells = λ c m. let h = sound .cells c m in record {
-    few = h .few-pins;
-    drawings = λ d k. let g = h .drawings d k in record { gate = same-gate d (g .gate); small = g .size; pinned = g .leaves };
-  };
-}
 
 abbrev noInput : Input
 noInput = record { pin = 0; node = 0; shape = leaf 0 }
@@ -74,7 +58,7 @@ module _ (l : Library) (t : Tree) (sound : SoundLibrary l) (tree : SoundTree t) 
   node-small = omega (arith, node-ends 0 (t .shape) here, tree .size)
 
   sound-match : {m : Match} → List·Memᴰ m (fitting l n s) → SoundMatch n s m
-  sound-match k = fitting-sound n s l (sound-patterns sound) k
+  sound-match k = fitting-sound n s l sound k
 
   sound-cell : {m : Match} → List·Memᴰ m (fitting l n s) → SoundCell (length (l .bins)) (m .pattern .cell)
   sound-cell {m} k = sound .cells (m .pattern .cell) (numbered-cell l (m .number) (fitting-are l n s k .0))
@@ -102,7 +86,7 @@ module _ (l : Library) (t : Tree) (sound : SoundLibrary l) (tree : SoundTree t) 
         let m = getD (fitting l n s) j d in
         let few = sound-match (at-mem (fitting l n s) j d h) .row-few in
         getD-take 68 (drop (68 * j) found) c 0 (omega arith) ∙ getD-drop (68 * j) found c 0 ∙ ap (λ (q : List ℕ). getD q (68 * j + c) 0) are
-        ∙ match-row-at l n s (sound-patterns sound) found₀ long d j c h g
+        ∙ match-row-at l n s sound found₀ long d j c h g
 
     row-safe : (j : ℕ) → j < length (fitting l n s) → RowSafe (take 68 (drop (68 * j) found))
     unfolding matchRow inputWords

@@ -12,19 +12,19 @@ use lib.ListN.{length, getD, take, length-take, length-reverse, List·getD-eq-de
 use borrow.Author.Tests.{lt-ltb, le-ltb}
 use Rattle.sheets.specs.declared.CellRecord.{CellRecord}
 use Rattle.sheets.specs.Model.{Shape, leaf, inv, nand, size, Library, Tree}
-use Rattle.sheets.proofs.Sound.{SoundLibrary}
+use Rattle.sheets.specs.Sound.{SoundLibrary}
 use Rattle.covers.specs.Lists.{select}
 use Rattle.covers.specs.Cover.{Point, Cover, leafCover}
 use Rattle.covers.specs.Enumeration.{covers, coversStep}
 use Rattle.covers.specs.Tradeoff.{Node, nodes, tradeoffs, tradeoffsOf, insert, beaten, points, considered, overfull, overfullNode}
 use Rattle.covers.proofs.Basics.{lt-or-le, at-all, true-any, false-any}
-use Rattle.covers.proofs.Matching.{gates, size-pos}
+use Rattle.covers.specs.Curve.{Filled, curve, gates}
+use Rattle.covers.proofs.Matching.{size-pos}
 use Rattle.covers.proofs.Unroll.{covers-unroll}
 use Rattle.covers.proofs.Nodes.{root-in}
 use Rattle.covers.proofs.Ascending.{ascending-range, ascending-unique}
 use Rattle.covers.proofs.Overfull.{nodes-ascend, overfull-named, LastOf, nowhere, at, Highest, highest-unique}
-use Rattle.covers.proofs.Curve.{curve}
-use Rattle.covers.proofs.Filling.{Filled, filled-start, filled-next}
+use Rattle.covers.proofs.Filling.{filled-start, filled-next}
 use Rattle.matching.proofs.Lists.{at-mem}
 use Rattle.matching.proofs.Standing.{subject-everywhere}
 use Rattle.matching.proofs.Written.{in-padded}
@@ -33,7 +33,6 @@ use Rattle.curves.specs.Stored.{Stored}
 use Rattle.curves.proofs.Frames.{stored-same}
 use Rattle.filling.specs.declared.Counts.{Counts}
 use Rattle.filling.specs.Promises.{FillReady, NodeDone, Exceeds, FillStart}
-use Rattle.filling.proofs.Node.{sound-patterns}
 
 -- Every number within a tree is a node's.
 pub node-at : (n : ℕ) (s : Shape) (k : ℕ) → n ≤ k → k < n + size s → (x : Shape) × List·Memᴰ (record { number = k; shape = x }) (nodes n s)
@@ -133,7 +132,7 @@ module _ {rows : List ℕ} {total : ℕ} {cells : List CellRecord} {loads : List
           tree = g .tree;
           here = x .1;
           matches = record {
-            sound = sound-patterns (g .sound);
+            sound = g .sound;
             rows-are = g .rows-are;
             total-is = g .total-is;
             cells-are = g .cells-are;

@@ -16,8 +16,8 @@ use Rattle.covers.specs.Lists.{select}
 use Rattle.covers.specs.Match.{Input, Match, usable, legal, fitting, matches, delay, pinLoad}
 use Rattle.covers.specs.Cover.{Point, late, raised, feeds, inputDelay, leafPoint, leafArrival}
 use Rattle.covers.specs.Choice.{before, lesser}
-use Rattle.covers.proofs.Points.{both, lesser-assoc, lesser-none}
-use Rattle.covers.proofs.Curve.{lookup}
+use Rattle.covers.specs.Curve.{both, lookup}
+use Rattle.covers.proofs.Points.{lesser-assoc, lesser-none}
 use Rattle.covers.proofs.Deadline.{bestInputs, bestMatch, bestOf}
 use Rattle.covers.proofs.Filling.{fromCurve, fromTable}
 use Rattle.matching.proofs.Lists.{at-mem}

@@ -9,9 +9,9 @@ use native.Mathlib.Omega.{arith}
 use lib.ListN.{length, getD, take, set, length-map, length-take, length-set}
 use lib.Seq.{sets, getD-set-same, getD-set-other, take-all, length-sets}
 use Rattle.covers.specs.Cover.{Point}
-use Rattle.covers.proofs.Curve.{byDeadline}
+use Rattle.covers.specs.Curve.{base, byDeadline, wordOf}
 use Rattle.matching.proofs.Lists.{before-sets}
-use Rattle.curves.specs.Words.{base, wordOf, tableOf, slot, Small, AgreeFrom, ZeroBelow}
+use Rattle.curves.specs.Words.{tableOf, slot, Small, AgreeFrom, ZeroBelow}
 use Rattle.curves.specs.Best.{Above, rowsBest}
 use Rattle.curves.specs.Promises.{bestBefore, PointsFit, CurveStored, Fit}
 use Rattle.curves.proofs.Frames.{sets-above, stored-same, stored-laid, rows-same, deadline-all}

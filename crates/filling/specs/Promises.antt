@@ -9,15 +9,13 @@ use Rattle.shapes.specs.Shape as Shapes
 use Rattle.sheets.specs.declared.CellRecord.{CellRecord}
 use Rattle.sheets.specs.Model.{Shape, size, Library, Tree, patterns}
 use Rattle.sheets.specs.Layout.{padded, blankCell, cellLaid, rowsFrom, patternRows}
-use Rattle.sheets.proofs.Sound.{SoundLibrary, SoundTree}
+use Rattle.sheets.specs.Sound.{SoundLibrary, SoundTree}
 use Rattle.covers.specs.Enumeration.{covers}
 use Rattle.covers.specs.Tradeoff.{nodes, overfullNode}
-use Rattle.covers.proofs.Matching.{gates}
-use Rattle.covers.proofs.Filling.{Filled}
+use Rattle.covers.specs.Curve.{Filled, base, byDeadline, curve, gates}
 use Rattle.matching.specs.Promises.{Ready}
 use Rattle.covers.specs.Cover.{Point}
-use Rattle.covers.proofs.Curve.{curve, byDeadline}
-use Rattle.curves.specs.Words.{base, tableOf, Small, AgreeFrom, ZeroBelow}
+use Rattle.curves.specs.Words.{tableOf, Small, AgreeFrom, ZeroBelow}
 use Rattle.curves.specs.Promises.{bestBefore}
 use Rattle.curves.specs.Stored.{Stored}
 use Rattle.filling.specs.declared.Counts.{Counts}

@@ -11,7 +11,7 @@ use Rattle.covers.specs.Choice.{choice}
 use Rattle.covers.specs.Tradeoff.{tradeoffs, nodes, overfull, overfullNode}
 use Rattle.covers.proofs.Ascending.{ascending-range}
 use Rattle.covers.proofs.Overfull.{LastOf, at, nodes-ascend, overfull-named}
-use Rattle.sheets.proofs.Sound.{SoundTree}
+use Rattle.sheets.specs.Sound.{SoundTree}
 use Rattle.covers.specs.Answer.{answered, onSheet, mapped, mapAnswer, nonempty, listed, listAnswer}
 use Rattle.covers.specs.Outcome.{bytes, told, outputAfter, capacity, answering}
 use Rattle.covers.specs.CoverSheet.{coverSheet, listSheet}

@@ -19,13 +19,12 @@ use Rattle.covers.specs.Answer.{nonempty}
 use Rattle.covers.specs.Outcome.{capacity}
 use Rattle.covers.specs.CoverSheet.{listSheet}
 use Rattle.covers.proofs.Basics.{lt-or-le}
-use Rattle.covers.proofs.Curve.{curve}
+use Rattle.covers.specs.Curve.{curve, pointOf}
 use Rattle.covers.proofs.Nodes.{root-in}
 use Rattle.covers.proofs.Overfull.{LastOf, nowhere, at, overfull-listed, overfull-named}
-use Rattle.covers.proofs.Packing.{unpack}
 use Rattle.covers.proofs.Points.{point-path}
 use Rattle.covers.proofs.Unroll.{covers-unroll}
-use Rattle.curves.specs.Words.{pointOf, stored}
+use Rattle.curves.specs.Words.{stored}
 use Rattle.writing.specs.Written.{pointsOf, Written}
 use Rattle.mapper.specs.declared.Chosen.the-variants.{NoCover, Bytes}
 use Rattle.mapper.specs.Promises.{Put, kept, put, Curved}
@@ -119,7 +118,7 @@ module _ {l : Library} {t : Tree} {ss work : List ℕ} (given : Curved l t ss wo
     leaf-one = ap (tradeoffs l (t .load) 0) (leaf-symbol (t .shape) ss (given .tree .size) (given .symbols-are) leaf-root) ∙ leaf-tradeoffs l (t .load) (getD ss 0 0 - 2)
 
     pub leaf-listed : (entry exit : List ℕ) (r : ℕ) → Written (listSheet (pointsOf 1 ((getD ss 0 0 - 2) ∷ []))) entry exit r → Put entry exit (Option·map listSheet (nonempty all)) (Bytes r)
-    unfolding pointsOf unpack leafPoint leafArrival
+    unfolding pointsOf pointOf leafPoint leafArrival
     leaf-listed entry exit r w =
         listed-some all (omega (arith, ap length leaf-one))
         (ap (λ (p : Point). p ∷ []) (point-path (omega (arith, arrival-small)) (omega (arith, arrival-small))) ∙ sym leaf-one) w
@@ -144,7 +143,7 @@ module _ {l : Library} {t : Tree} {ss work : List ℕ} (given : Curved l t ss wo
         go (p ∷ ps) z = absurd (omega arith)
 
     pub gate-listed : (entry exit : List ℕ) (r : ℕ) → (count ≡ 0 → ⊥) → Written (listSheet (pointsOf count work)) entry exit r → Put entry exit (Option·map listSheet (nonempty all)) (Bytes r)
-    unfolding pointsOf unpack pointOf
+    unfolding pointsOf pointOf
     gate-listed entry exit r some-there w = listed-some all (positive count many some-there) (ap reverse words-are ∙ reverse-reverse all) w
       where
         positive : (k : ℕ) → k ≡ length all → (k ≡ 0 → ⊥) → 0 < length all

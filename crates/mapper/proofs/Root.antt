@@ -18,14 +18,15 @@ use Rattle.covers.specs.Cover.{Point, Placed, Cover, leafArrival, leafPoint, le
 use Rattle.covers.specs.Enumeration.{covers}
 use Rattle.covers.specs.Choice.{least, choiceStep, choice}
 use Rattle.covers.specs.CoverSheet.{coverSheet}
-use Rattle.covers.proofs.Curve.{lookup, curve-is, lookup-is-least}
+use Rattle.covers.specs.Curve.{base, gates, lookup, pointOf}
+use Rattle.covers.proofs.Curve.{curve-is, lookup-is-least}
 use Rattle.covers.proofs.Handed.{choice-point, choice-handed}
 use Rattle.covers.proofs.Listing.{few-matches}
-use Rattle.covers.proofs.Matching.{gates, gates-lt-size}
+use Rattle.covers.proofs.Matching.{gates-lt-size}
 use Rattle.covers.proofs.Nodes.{root-in}
 use Rattle.covers.proofs.Unroll.{choice-unroll}
 use Rattle.matching.specs.Standing.{Stands}
-use Rattle.curves.specs.Words.{base, absent, pointOf, tableOf}
+use Rattle.curves.specs.Words.{absent, tableOf}
 use Rattle.curves.specs.Promises.{Worth}
 use Rattle.choosing.specs.Promises.{Decoded, at-root, Driven, Chooses, Listed}
 use Rattle.choosing.proofs.Gate.{chosen-there}

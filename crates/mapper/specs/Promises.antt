@@ -8,7 +8,7 @@ use Rattle.shapes.specs.Shape.{symbols}
 use Rattle.sheets.specs.declared.CellRecord.{CellRecord}
 use Rattle.sheets.specs.Model.{Library, Tree}
 use Rattle.sheets.specs.Layout.{padded}
-use Rattle.sheets.proofs.Sound.{SoundTree}
+use Rattle.sheets.specs.Sound.{SoundTree}
 use Rattle.covers.specs.Tradeoff.{overfullNode}
 use Rattle.covers.specs.Answer.{Answer, mapAnswer, listAnswer}
 use Rattle.covers.specs.Outcome.{Outcome, Told, refusal, bytes, told, outputAfter, capacity}

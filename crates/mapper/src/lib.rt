@@ -14,7 +14,8 @@ ghost use Rattle.covers.specs.Tradeoff.{tradeoffs};
 ghost use Rattle.covers.specs.Answer.{nonempty};
 ghost use Rattle.covers.specs.Outcome.{capacity, answering};
 ghost use Rattle.covers.specs.CoverSheet.{coverSheet, listSheet};
-ghost use Rattle.curves.specs.Words.{pointOf, stored};
+ghost use Rattle.covers.specs.Curve.{pointOf};
+ghost use Rattle.curves.specs.Words.{stored};
 ghost use Rattle.mapper.specs.Promises.{Put, Asked, Curved, replyTo, leastOutput, taskAnswer, Replied, Start};
 
 // What is asked for: the cover that map hands over, or the list of the root's trade-offs, for which the required time does not count.

@@ -20,7 +20,8 @@ use Rattle.covers.specs.Match.{Input, Match, joined, laid, matched, found, fitt
 use Rattle.covers.proofs.Matching.{Whenever, never, holds, whenever}
 use Rattle.matching.specs.declared.Walked.{Walked}
 use Rattle.matching.specs.Found.{matchRow, tableFrom}
-use Rattle.matching.specs.Promises.{Gate, SoundDrawing, SoundPatterns, Walkable, WalkedIs, Writable, Tried, Ready}
+use Rattle.sheets.specs.Sound.{IsGate, SoundDrawing, SoundLibrary}
+use Rattle.matching.specs.Promises.{Walkable, WalkedIs, Writable, Tried, Ready}
 use Rattle.matching.proofs.Lists.{at-mem, at-map}
 use Rattle.matching.proofs.Tables.{rows-table, length-table, table-append, row-at}
 use Rattle.matching.proofs.Written.{in-padded, length-row}
@@ -57,7 +58,7 @@ laid-from (nand d e) n (nand s t) = go (laid-from d (suc n) s) (laid-from e (suc
       pins = λ i m. ⊎-elim (λ k. Memᴰ·append-left (leaves e) (f .pins i k)) (λ k. Memᴰ·append-right (leaves d) (g .pins i k)) (List·Memᴰ·append-cases is m);
     })
 
-pub matched-laid : (d : Shape) (n : ℕ) (s : Shape) → Gate d → matched d n s ≡ laid d n s
+pub matched-laid : (d : Shape) (n : ℕ) (s : Shape) → IsGate d → matched d n s ≡ laid d n s
 unfolding matched
 matched-laid (leaf x) n s h = absurd h
 matched-laid (inv d) n s h = refl
@@ -92,9 +93,9 @@ module _ (walked : Walked) (cell : CellRecord) (p : Pattern) (n : ℕ) (s : Shap
             writable = record {
               walks = w;
               cell-is = t .cell-is;
-              few = omega (arith, f .few, t .drawing .small);
+              few = omega (arith, f .few, t .drawing .size);
               pins-few = t .pins-few;
-              pinned = λ i m. t .drawing .pinned (i .pin) (f .pins i m);
+              pinned = λ i m. t .drawing .leaves (i .pin) (f .pins i m);
             };
           }
 
@@ -162,7 +163,7 @@ pub record SoundPattern (l : Library) (p : Pattern) : Type 0 where
   pub pins-few : length (p .cell .pins) ≤ 6
   pub drawing : SoundDrawing (length (p .cell .pins)) (p .drawing)
 
-pub sound-pattern : (l : Library) → SoundPatterns l → {p : Pattern} → List·Memᴰ p (patterns l) → SoundPattern l p
+pub sound-pattern : (l : Library) → SoundLibrary l → {p : Pattern} → List·Memᴰ p (patterns l) → SoundPattern l p
 unfolding patterns
 sound-pattern l h {p} m =
     let r = listed 0 (l .cells) m in
@@ -170,7 +171,7 @@ sound-pattern l h {p} m =
     record {
       number-small = omega (arith, r .number, r .inside);
       cell-is = λ d. ap (λ (k : ℕ). getD (l .cells) k d) (r .number ∙ zero-add (r .place)) ∙ r .cell-is d;
-      pins-few = c .few;
+      pins-few = c .few-pins;
       drawing = c .drawings (p .drawing) (r .drawing-in);
     }
 
@@ -234,19 +235,19 @@ module _ (n : ℕ) (s : Shape) where
       let f : FromDrawing (m .pattern .drawing) (m .inputs) =
       whenever (laid-from (m .pattern .drawing) n s) (sym (matched-laid (m .pattern .drawing) n s (p .drawing .gate)) ∙ e) in
       record {
-        few = omega (arith, f .few, p .drawing .small);
-        pinned = λ j k. p .drawing .pinned (j .pin) (f .pins j k);
+        few = omega (arith, f .few, p .drawing .size);
+        pinned = λ j k. p .drawing .leaves (j .pin) (f .pins j k);
         pins-few = p .pins-few;
         fits = e;
-        row-few = omega (arith, length-row m, f .few, p .drawing .small);
+        row-few = omega (arith, length-row m, f .few, p .drawing .size);
       }
 
-  pub fitting-sound : (l : Library) → SoundPatterns l → {m : Match} → List·Memᴰ m (fitting l n s) → SoundMatch m
+  pub fitting-sound : (l : Library) → SoundLibrary l → {m : Match} → List·Memᴰ m (fitting l n s) → SoundMatch m
   unfolding fitting
   fitting-sound l h {m} i = let r = fitting-of 0 (patterns l) i in match-sound m (sound-pattern l h (r .0)) (r .1)
 
 -- The rows of all matches fit, and each is read back.
-pub match-row-at : (l : Library) (n : ℕ) (s : Shape) → SoundPatterns l → (t : List ℕ) → length t ≡ 8704 → (d : Match) (j c : ℕ) → j < length (fitting l n s) →
+pub match-row-at : (l : Library) (n : ℕ) (s : Shape) → SoundLibrary l → (t : List ℕ) → length t ≡ 8704 → (d : Match) (j c : ℕ) → j < length (fitting l n s) →
     c < length (matchRow (getD (fitting l n s) j d)) →
     getD (tableFrom 68 t 0 (map matchRow (fitting l n s))) (68 * j + c) 0 ≡ getD (matchRow (getD (fitting l n s) j d)) c 0
 match-row-at l n s h t e d j c g k =
@@ -254,7 +255,7 @@ match-row-at l n s h t e d j c g k =
     let here : getD (map matchRow ms) j [] ≡ matchRow (getD ms j d) = at-map matchRow ms j d [] g in
     row-at 68 t (map matchRow ms) j c
     (λ r i. let m = Memᴰ·of-map matchRow ms i in omega (arith, fitting-sound n s l h (m .1) .row-few, ap length (m .2)))
-    (omega (arith, length-map ms matchRow, fitting-few n s l, h .patterns-few)) (omega (arith, length-map ms matchRow)) (omega (arith, ap length here))
+    (omega (arith, length-map ms matchRow, fitting-few n s l, h .few-patterns)) (omega (arith, length-map ms matchRow)) (omega (arith, ap length here))
     ∙ ap (λ (r : List ℕ). getD r c 0) here
 
 -- ---- one turn of the loop over the patterns
@@ -295,7 +296,7 @@ module _ {rows : List ℕ} {total : ℕ} {cells : List CellRecord} {ss zs : List
       ∙ length-replicate {A = ℕ} 2304 0
 
   pub few-patterns : total ≤ 128
-  few-patterns = omega (arith, ready .total-is, ready .sound .patterns-few)
+  few-patterns = omega (arith, ready .total-is, ready .sound .few-patterns)
 
   module _ (j : ℕ) (h : j < total) where
     at-hand : SoundPattern l (patternAt l j)
@@ -312,8 +313,8 @@ module _ {rows : List ℕ} {total : ℕ} {cells : List CellRecord} {ss zs : List
         ∙ row-at 18 (replicate 2304 0) (patternRows ps) j c
         (λ r i.
         let m = Memᴰ·of-map (λ (p : Pattern). row (p .number) (p .drawing)) ps i in
-        omega (arith, sound-pattern l (ready .sound) (m .1) .drawing .small, length-symbols (m .0 .drawing), ap length (m .2)))
-        (omega (arith, length-map ps (λ (p : Pattern). row (p .number) (p .drawing)), ready .sound .patterns-few, length-replicate {A = ℕ} 2304 0))
+        omega (arith, sound-pattern l (ready .sound) (m .1) .drawing .size, length-symbols (m .0 .drawing), ap length (m .2)))
+        (omega (arith, length-map ps (λ (p : Pattern). row (p .number) (p .drawing)), ready .sound .few-patterns, length-replicate {A = ℕ} 2304 0))
         (omega (arith, length-map ps (λ (p : Pattern). row (p .number) (p .drawing)), ready .total-is))
         (omega (arith, ap length here, length-symbols (patternAt l j .drawing)))
         ∙ ap (λ (r : List ℕ). getD r c 0) here
@@ -323,14 +324,14 @@ module _ {rows : List ℕ} {total : ℕ} {cells : List CellRecord} {ss zs : List
     number-is = ap (λ (i : ℕ). getD rows i 0) (sym (add-zero (18 * j))) ∙ words 0 (omega arith)
 
     pub number-small : getD rows (18 * j) 0 < 64
-    number-small = omega (arith, number-is, at-hand .number-small, ready .sound .cells-few)
+    number-small = omega (arith, number-is, at-hand .number-small, ready .sound .few-cells)
 
     pub walkable : (m : ℕ) → m ≡ 18 → Walkable (take m (drop (18 * j) rows)) ss zs n (patternAt l j .drawing) s
     unfolding row
     walkable m e =
         let d = patternAt l j .drawing in
         let part = take m (drop (18 * j) rows) in
-        let small = at-hand .drawing .small in
+        let small = at-hand .drawing .size in
         let read : (c : ℕ) → c < 2 + size d → getD part c 0 ≡ getD (row (patternAt l j .number) d) c 0 = λ c g. (
         getD-take m (drop (18 * j) rows) c 0 (omega arith) ∙ getD-drop (18 * j) rows c 0 ∙ words c g) in
         record {
@@ -340,7 +341,7 @@ module _ {rows : List ℕ} {total : ℕ} {cells : List CellRecord} {ss zs : List
               let two : 2 + k ≡ suc (suc k) = omega arith in
               read (2 + k) (omega arith) ∙ ap (λ (i : ℕ). getD (row (patternAt l j .number) d) i 0) two;
           small = small;
-          pinned = λ x i. omega (arith, at-hand .drawing .pinned x i, at-hand .pins-few);
+          pinned = λ x i. omega (arith, at-hand .drawing .leaves x i, at-hand .pins-few);
           subject = ready .subject;
         }
 
@@ -352,7 +353,7 @@ module _ {rows : List ℕ} {total : ℕ} {cells : List CellRecord} {ss zs : List
           walked-is = w;
           cell-is =
               ap₂ (λ (cs : List CellRecord) (k : ℕ). getD cs k outside) (ready .cells-are) number-is
-              ∙ in-padded 64 blankCell outside (map cellLaid (l .cells)) (p .number) (omega (arith, length-map (l .cells) cellLaid, ready .sound .cells-few)) (omega (arith, length-map (l .cells) cellLaid, at-hand .number-small))
+              ∙ in-padded 64 blankCell outside (map cellLaid (l .cells)) (p .number) (omega (arith, length-map (l .cells) cellLaid, ready .sound .few-cells)) (omega (arith, length-map (l .cells) cellLaid, at-hand .number-small))
               ∙ at-map cellLaid (l .cells) (p .number) (noPattern .cell) outside (at-hand .number-small)
               ∙ ap cellLaid (at-hand .cell-is (noPattern .cell));
           pins-few = at-hand .pins-few;

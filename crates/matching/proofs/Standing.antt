@@ -14,7 +14,8 @@ use Rattle.sheets.specs.Layout.{padded, libraryLaid, treeLaid}
 use Rattle.covers.specs.Tradeoff.{Node, nodes}
 use Rattle.covers.proofs.Nodes.{node-ends}
 use Rattle.matching.specs.Standing.{Stands, Subject}
-use Rattle.matching.specs.Promises.{SoundPatterns, Ready}
+use Rattle.sheets.specs.Sound.{SoundLibrary}
+use Rattle.matching.specs.Promises.{Ready}
 use Rattle.matching.proofs.Lists.{in-sets}
 
 -- A list stands in another from place i on.
@@ -81,7 +82,7 @@ module _ (ss zs : List ℕ) where
     }
 
 -- What `find_matches` is lent, from the decoded library and the decoded tree, at every node.
-pub ready-everywhere : (l : Library) (t : Tree) → SoundPatterns l → size (t .shape) ≤ 64 → (x : Node) → List·Memᴰ x (nodes 0 (t .shape)) →
+pub ready-everywhere : (l : Library) (t : Tree) → SoundLibrary l → size (t .shape) ≤ 64 → (x : Node) → List·Memᴰ x (nodes 0 (t .shape)) →
     Ready (libraryLaid l .rows) (libraryLaid l .total) (libraryLaid l .cells) (treeLaid t .symbols) (treeLaid t .sizes) (x .number) 8704 l (x .shape)
 unfolding libraryLaid treeLaid
 ready-everywhere l t h small x m = record {

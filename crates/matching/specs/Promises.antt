@@ -7,32 +7,12 @@ use mathlib.Core.Option.{Option, none, some}
 use lib.ListN.{getD, length, replicate}
 use Rattle.shapes.specs.Shape.{symbols}
 use Rattle.sheets.specs.declared.CellRecord.{CellRecord}
-use Rattle.sheets.specs.Model.{Shape, leaf, inv, nand, size, leaves, Cell, Library, Pattern, patterns}
+use Rattle.sheets.specs.Model.{Shape, size, leaves, Library, Pattern, patterns}
+use Rattle.sheets.specs.Sound.{SoundDrawing, SoundLibrary}
 use Rattle.sheets.specs.Layout.{padded, blankCell, cellLaid, rowsFrom, patternRows}
 use Rattle.covers.specs.Match.{Input, Match, laid}
 use Rattle.matching.specs.declared.Walked.{Walked}
 use Rattle.matching.specs.Standing.{Subject}
-
--- A shape that is no bare leaf.
-abbrev pub Gate : Shape → Type 0
-Gate (leaf x) = ⊥
-Gate (inv a) = Unit {0}
-Gate (nand a b) = Unit {0}
-
--- What matching needs of a library: the limits of document 01 on its drawings.
-pub record SoundDrawing (pins : ℕ) (d : Shape) : Type 0 where
-  pub gate : Gate d
-  pub small : size d ≤ 16
-  pub pinned : (x : ℕ) → List·Memᴰ x (leaves d) → x < pins
-
-pub record SoundDrawings (c : Cell) : Type 0 where
-  pub few : length (c .pins) ≤ 6
-  pub drawings : (d : Shape) → List·Memᴰ d (c .drawings) → SoundDrawing (length (c .pins)) d
-
-pub record SoundPatterns (l : Library) : Type 0 where
-  pub cells-few : length (l .cells) ≤ 64
-  pub patterns-few : length (patterns l) ≤ 128
-  pub cells : (c : Cell) → List·Memᴰ c (l .cells) → SoundDrawings c
 
 -- The row holds the drawing d, and the arrays hold the subtree s at node n.
 pub record Walkable (row ss zs : List ℕ) (n : ℕ) (d s : Shape) : Type 0 where
@@ -72,7 +52,7 @@ pub record Tried (walked : Walked) (cell : CellRecord) (p : Pattern) (n : ℕ) (
 
 -- The library l as decoded, the subtree s at node n, and room for a row of each pattern.
 pub record Ready (rows : List ℕ) (total : ℕ) (cells : List CellRecord) (ss zs : List ℕ) (n room : ℕ) (l : Library) (s : Shape) : Type 0 where
-  pub sound : SoundPatterns l
+  pub sound : SoundLibrary l
   pub rows-are : rows ≡ rowsFrom (replicate 2304 0) 0 (patternRows (patterns l))
   pub total-is : total ≡ length (patterns l)
   pub cells-are : cells ≡ padded 64 blankCell (map cellLaid (l .cells))

@@ -9,7 +9,7 @@ use Rattle.sheets.specs.Layout.{libraryLaid, treeLaid}
 use Rattle.covers.specs.Outcome.{Outcome, told, outputAfter, workAfter}
 use Rattle.mapper.specs.declared.Reply.{Reply}
 use Rattle.mapper.specs.Promises.{ofReply, Limited}
-use Rattle.sheets.proofs.Sound.{SoundLibrary, SoundTree}
+use Rattle.sheets.specs.Sound.{SoundLibrary, SoundTree}
 
 -- A sound library and a sound tree in the records that the readers hand over.
 pub record Laid (l : Library) (t : Tree) (library : LibraryRecord) (tree : TreeRecord) : Type 0 where

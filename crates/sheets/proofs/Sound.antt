@@ -1,4 +1,4 @@
--- What the sheets' definitions read from sound bytes keeps every limit.
+-- What the sheets' definitions read from sound bytes keeps the limits of `SoundLibrary` and `SoundTree`.
 use mathlib.Core.Path.{_≡_, sym, subst}
 use mathlib.Core.Logic.{⊎-elim}
 use mathlib.Core.List.{List, [], _∷_, _++_, List·Memᴰ, List·Memᴰ·append-cases, List·Memᴰ·eq-of-singleton, List·Memᴰ·not-nil}
@@ -19,48 +19,10 @@ use Rattle.sheets.specs.LibrarySheet.{Head, last, binLoad, head, pin, pa
 use Rattle.sheets.specs.TreeSheet.{tree, treeRules}
 use Rattle.sheets.specs.Promises.{cellAfter}
 use Rattle.sheets.specs.Report.{start}
+use Rattle.sheets.specs.Sound.{IsGate, SoundDrawing, SoundPin, SoundCell, SoundLibrary, SoundTree}
 use Rattle.sheets.proofs.Laws.{complete-live, count-fits}
 use Rattle.sheets.proofs.Cells.{length-drawn, patterns-more}
 use Rattle.sheets.proofs.Whole.{ended-live}
-
--- An inverter or a NAND.
-abbrev pub IsGate : Shape → Type 0
-IsGate (leaf x) = ⊥
-IsGate (inv a) = Unit {0}
-IsGate (nand a b) = Unit {0}
-
--- A drawing of a cell with so many pins.
-pub record SoundDrawing (pins : ℕ) (d : Shape) : Type 0 where
-  pub size : size d ≤ 16
-  pub gate : IsGate d
-  pub leaves : (x : ℕ) → List·Memᴰ x (leaves d) → x < pins
-
--- A pin and a cell of a library with so many bins.
-abbrev pub SoundPin : ℕ → Pin → Type 0
-SoundPin bins p = (p .bin < bins) × (p .intrinsic ≤ 65535) × (p .drive ≤ 255)
-
-pub record SoundCell (bins : ℕ) (c : Cell) : Type 0 where
-  pub some-area : 1 ≤ c .area
-  pub area : c .area ≤ 65535
-  pub highest : c .highest ≤ 255
-  pub some-pin : 1 ≤ length (c .pins)
-  pub few-pins : length (c .pins) ≤ 6
-  pub pins : (p : Pin) → List·Memᴰ p (c .pins) → SoundPin bins p
-  pub drawings : (d : Shape) → List·Memᴰ d (c .drawings) → SoundDrawing (length (c .pins)) d
-
-pub record SoundLibrary (l : Library) : Type 0 where
-  pub some-bin : 1 ≤ length (l .bins)
-  pub few-bins : length (l .bins) ≤ 4
-  pub loads : (x : ℕ) → List·Memᴰ x (l .bins) → x ≤ 255
-  pub few-cells : length (l .cells) ≤ 64
-  pub few-patterns : length (patterns l) ≤ 128
-  pub cells : (c : Cell) → List·Memᴰ c (l .cells) → SoundCell (length (l .bins)) c
-
-pub record SoundTree (t : Tree) : Type 0 where
-  pub load : t .load ≤ 255
-  pub required : t .required ≤ 16777215
-  pub size : size (t .shape) ≤ 64
-  pub leaves : (x : ℕ) → List·Memᴰ x (leaves (t .shape)) → x ≤ 1000000
 
 -- ---- readers
 

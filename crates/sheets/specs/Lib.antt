@@ -5,3 +5,4 @@ pub mod TreeSheet
 pub mod Report
 pub mod Layout
 pub mod Promises
+pub mod Sound

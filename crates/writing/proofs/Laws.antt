@@ -13,8 +13,8 @@ use Rattle.bits.proofs.Laws.{length-bit, length-field}
 use Rattle.covers.specs.Cover.{Point, Placed}
 use Rattle.covers.specs.CoverSheet.{Field, widths, written, packed, placedFields, coverFields, pointFields, listFields, coverSheet, listSheet}
 use Rattle.covers.proofs.SheetLengths.{length-packed, cover-sheet-length, list-sheet-length}
-use Rattle.covers.proofs.Packing.{unpack}
-use Rattle.writing.specs.Written.{placedOf, coverOf, base, pointsOf, Written}
+use Rattle.covers.specs.Curve.{base, pointOf}
+use Rattle.writing.specs.Written.{placedOf, coverOf, pointsOf, Written}
 
 -- ---- elements made zero from the front on
 
@@ -141,14 +141,14 @@ cover-written area arrival ns ps count hn hp entry s₀ s₁ s₂ s₃ exit e₀
 point-fields : (ws : List ℕ) (k : ℕ) → 0 < k → k ≤ length ws →
     pointFields (pointsOf k ws)
     ≡ record { value = getD ws (k - 1) 0 % base; width = 24 } ∷ record { value = getD ws (k - 1) 0 / base; width = 22 } ∷ pointFields (pointsOf (k - 1) ws)
-unfolding pointFields pointsOf unpack
+unfolding pointFields pointsOf pointOf
 point-fields ws zero h hk = absurd (omega arith)
 point-fields ws (suc k) h hk =
     let e : suc k - 1 ≡ k = omega arith in
     rw e
-    (ap (λ (l : List ℕ). pointFields (reverse (map (unpack base) l))) (take-suc ws k 0 hk)
-    ∙ ap (λ (l : List Point). pointFields (reverse l)) (map-append (unpack base) (take k ws) (getD ws k 0 ∷ []))
-    ∙ ap pointFields (reverse-append (map (unpack base) (take k ws)) (unpack base (getD ws k 0) ∷ [])))
+    (ap (λ (l : List ℕ). pointFields (reverse (map pointOf l))) (take-suc ws k 0 hk)
+    ∙ ap (λ (l : List Point). pointFields (reverse l)) (map-append pointOf (take k ws) (getD ws k 0 ∷ []))
+    ∙ ap pointFields (reverse-append (map pointOf (take k ws)) (pointOf (getD ws k 0) ∷ [])))
 
 pub point-turn : (ws : List ℕ) (k : ℕ) → 0 < k → k ≤ length ws → (i : ℕ) (s s₁ s₂ : List ℕ) →
     s₁ ≡ withField s i 24 (getD ws (k - 1) 0 % base) → s₂ ≡ withField s₁ (i + 24) 22 (getD ws (k - 1) 0 / base) →
@@ -164,7 +164,7 @@ points-done ws k i s e = rw e
 
 points-length : (count : ℕ) (ws : List ℕ) → count ≤ length ws → length (pointsOf count ws) ≡ count
 unfolding pointsOf
-points-length count ws h = length-reverse (map (unpack base) (take count ws)) ∙ length-map (take count ws) (unpack base) ∙ length-take-le count ws h
+points-length count ws h = length-reverse (map pointOf (take count ws)) ∙ length-map (take count ws) pointOf ∙ length-take-le count ws h
 
 -- The count, then the points.
 pub list-written : (ws : List ℕ) (count : ℕ) → count ≤ length ws → (entry s₀ s₁ exit : List ℕ) →

@@ -4,7 +4,7 @@ use mathlib.Core.Path.{_≡_}
 use mathlib.Core.List.{List, _++_, map, reverse, zipWith}
 use lib.ListN.{length, take, drop}
 use Rattle.covers.specs.Cover.{Point, Placed, Cover}
-use Rattle.covers.proofs.Packing.{unpack}
+use Rattle.covers.specs.Curve.{pointOf}
 
 -- Matches from their nodes and their patterns.
 unfoldable pub placedOf : List ℕ → List ℕ → List Placed
@@ -15,14 +15,10 @@ placedOf = zipWith (λ n p. record { node = n; pattern = p })
 abbrev pub coverOf : ℕ → ℕ → List Placed → Cover
 coverOf area arrival xs = record { point = record { area = area; arrival = arrival }; placed = xs }
 
--- 2 ^ 24: a point's word is its area times this, plus its arrival.
-abbrev pub base : ℕ
-base = 16777216
-
 -- The points of the first `count` words, the last word's first.
 unfoldable pub pointsOf : ℕ → List ℕ → List Point
-unfolding unpack
-pointsOf count words = reverse (map (unpack base) (take count words))
+unfolding pointOf
+pointsOf count words = reverse (map pointOf (take count words))
 
 -- The sheet stands at the front of the output, all after it is kept, and r is the sheet's length.
 pub record Written (sheet entry exit : List ℕ) (r : ℕ) : Type 0 where

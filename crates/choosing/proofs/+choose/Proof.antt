@@ -7,7 +7,7 @@ use lib.ListN.{length, getD, set, length-set}
 use Rattle.sheets.specs.Model.{Shape, Library, Tree}
 use Rattle.covers.specs.Cover.{Cover}
 use Rattle.covers.specs.Choice.{choice}
-use Rattle.covers.proofs.Matching.{gates}
+use Rattle.covers.specs.Curve.{gates}
 use Rattle.choosing.specs.Promises.{Chooses}
 use Rattle.choosing.proofs.Gate.{Limits, limits, gate-here, chosen-there}
 use Rattle.choosing.proofs.Below.{Going, going-start, going-next, going-end, leaf-listed, resized, Input-next}

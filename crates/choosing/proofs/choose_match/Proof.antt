@@ -6,7 +6,7 @@ use mathlib.Core.Path.{_≡_, refl, sym, subst}
 use lib.ListN.{length, getD, take, drop}
 use Rattle.sheets.specs.Model.{Shape, Library, Tree}
 use Rattle.covers.specs.Match.{Match}
-use Rattle.curves.specs.Words.{base}
+use Rattle.covers.specs.Curve.{base}
 use Rattle.curves.specs.Best.{RowSafe}
 use Rattle.choosing.specs.Promises.{RowHolds, InputsAre, Decoded, Driven}
 use Rattle.choosing.proofs.Gate.{limits, ready, word-found, gate-here, rows-safe, Picked, picked, picked-inputs}

@@ -7,7 +7,7 @@ use mathlib.Core.List.{List}
 use lib.ListN.{take, drop, length-drop}
 use lib.Seq.{length-take-le}
 use Rattle.covers.proofs.Basics.{lt-or-le}
-use Rattle.curves.specs.Words.{base}
+use Rattle.covers.specs.Curve.{base}
 use Rattle.curves.specs.Best.{legalBest, RowSafe}
 use Rattle.curves.specs.Promises.{Worth}
 use Rattle.choosing.specs.Promises.{Reaches, rowOf}

@@ -5,10 +5,10 @@ use native.Mathlib.Nat.{sub-zero}
 use mathlib.Core.Path.{_≡_, refl, sym, ap, ap₂, subst, _∙_}
 use mathlib.Core.Option.{Option, some}
 use lib.ListN.{getD}
-use Rattle.covers.proofs.Points.{both, both-nothing}
+use Rattle.covers.specs.Curve.{base, both}
+use Rattle.covers.proofs.Points.{both-nothing}
 use Rattle.covers.specs.Cover.{Point}
 use Rattle.curves.specs.Best.{inputsBest, rowBest}
-use Rattle.curves.specs.Words.{base}
 use Rattle.curves.specs.Promises.{Worth}
 use Rattle.curves.proofs.Laws.{worth-none, row-none, match-nothing, match-stops, match-turn, match-whole, row-worth, one-less}
 use Rattle.curves.proofs.best_match.Statement.{statement}

@@ -6,7 +6,8 @@ use mathlib.Core.List.{List}
 use mathlib.Core.Option.{some}
 use lib.ListN.{length, length-set}
 use Rattle.covers.specs.Cover.{Point}
-use Rattle.curves.specs.Words.{base, pointOf, Small}
+use Rattle.covers.specs.Curve.{base, pointOf}
+use Rattle.curves.specs.Words.{Small}
 use Rattle.curves.specs.Best.{rowsBest}
 use Rattle.curves.specs.Promises.{bestBefore, PointsFit}
 use Rattle.curves.proofs.Frames.{Growing, growing-start, growing-next, growing-done, growing-over, growing-same, small-set}

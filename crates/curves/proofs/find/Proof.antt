@@ -4,7 +4,7 @@ use Prim.Native.Nat.{ℕ, suc, _+_, _-_, _≤_}
 use native.Mathlib.Nat.{add-zero}
 use mathlib.Core.Path.{_≡_, sym, ap, _∙_}
 use lib.ListN.{getD}
-use Rattle.covers.proofs.Curve.{lookup}
+use Rattle.covers.specs.Curve.{lookup}
 use Rattle.curves.specs.Words.{stored}
 use Rattle.curves.proofs.Laws.{worth-none, worth-point, found-end, found-here, found-later, one-less}
 use Rattle.curves.proofs.find.Statement.{statement}

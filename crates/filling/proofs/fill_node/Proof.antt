@@ -5,7 +5,7 @@ use mathlib.Core.Path.{_≡_, refl, sym, ap, subst, _∙_}
 use lib.ListN.{getD}
 use mir.Syntax.{w8}
 use mir.Val.{Fits}
-use Rattle.curves.specs.Words.{base}
+use Rattle.covers.specs.Curve.{base}
 use Rattle.curves.specs.Promises.{bestBefore}
 use Rattle.curves.proofs.Frames.{deadline-few}
 use Rattle.filling.proofs.Steps.{Done, done-same, done-next}
