@@ -33,7 +33,8 @@ use Rattle.covers.proofs.Overfull.{nodes-ascend}
 use Rattle.covers.proofs.Curve.{curve-is, lookup-is-least}
 use Rattle.covers.proofs.Filling.{fromTable, reaches-from-table}
 use Rattle.covers.proofs.FromSheets.{binned}
-use Rattle.matching.specs.Found.{matchRow, tableFrom}
+use Rattle.matching.specs.Found.{matchRow}
+use Rattle.sheets.specs.Layout.{tableFrom}
 use Rattle.matching.specs.Standing.{Stands}
 use Rattle.matching.specs.Promises.{Ready}
 use Rattle.matching.proofs.Lists.{at-mem}

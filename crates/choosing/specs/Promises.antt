@@ -8,7 +8,7 @@ use lib.Seq.{sets}
 use Rattle.shapes.specs.Shape.{symbols, sizes}
 use Rattle.sheets.specs.declared.CellRecord.{CellRecord}
 use Rattle.sheets.specs.Model.{Shape, leaf, Library, Tree, patterns}
-use Rattle.sheets.specs.Layout.{padded, blankCell, cellLaid, rowsFrom, patternRows}
+use Rattle.sheets.specs.Layout.{padded, blankCell, cellLaid, tableFrom, patternRows}
 use Rattle.sheets.specs.Sound.{SoundLibrary, SoundTree}
 use Rattle.covers.specs.Match.{Input, Match}
 use Rattle.covers.specs.Cover.{Point, Placed, feeds, inputDelay}
@@ -61,7 +61,7 @@ pub record InputsAre (m : Match) (load t : ℕ) (r : Inputs) : Type 0 where
 pub record Decoded (l : Library) (t : Tree) (rows : List ℕ) (total : ℕ) (cells : List CellRecord) (ss zs work : List ℕ) (room : ℕ) : Type 0 where
   pub library : SoundLibrary l
   pub tree : SoundTree t
-  pub rows-are : rows ≡ rowsFrom (replicate 2304 0) 0 (patternRows (patterns l))
+  pub rows-are : rows ≡ tableFrom 18 (replicate 2304 0) 0 (patternRows (patterns l))
   pub total-is : total ≡ length (patterns l)
   pub cells-are : cells ≡ padded 64 blankCell (map cellLaid (l .cells))
   pub symbols-are : ss ≡ padded 64 0 (symbols (t .shape))

@@ -10,14 +10,14 @@ use lib.Seq.{sets, getD-set-same, getD-set-other, set-out, take-all}
 use Rattle.shapes.specs.Shape as Shapes
 use Rattle.sheets.specs.declared.CellRecord.{CellRecord}
 use Rattle.sheets.specs.Model.{Shape, leaf, inv, nand, leaves, Library, Tree, Pattern, Cell}
-use Rattle.sheets.specs.Layout.{padded}
+use Rattle.sheets.specs.Layout.{padded, tableFrom}
 use Rattle.covers.specs.Match.{Match, fitting}
 use Rattle.covers.specs.Enumeration.{covers}
 use Rattle.covers.specs.Tradeoff.{Node, nodes}
 use Rattle.covers.proofs.Basics.{lt-or-le}
 use Rattle.covers.specs.Curve.{base, curve, gates}
 use Rattle.covers.proofs.Matching.{size-pos}
-use Rattle.matching.specs.Found.{matchRow, tableFrom}
+use Rattle.matching.specs.Found.{matchRow}
 use Rattle.matching.specs.Standing.{Stands}
 use Rattle.matching.proofs.Standing.{stands-everywhere}
 use Rattle.matching.proofs.Tables.{length-table}

@@ -25,7 +25,8 @@ use Rattle.covers.proofs.Relation.{covers-are}
 use Rattle.covers.proofs.Curve.{curve-found}
 use Rattle.covers.proofs.Filling.{best-from-table}
 use Rattle.covers.proofs.FromSheets.{limited, binned}
-use Rattle.matching.specs.Found.{inputWords, matchRow, tableFrom}
+use Rattle.matching.specs.Found.{inputWords, matchRow}
+use Rattle.sheets.specs.Layout.{tableFrom}
 use Rattle.matching.specs.Standing.{Stands}
 use Rattle.matching.proofs.Written.{length-row, row-input}
 use Rattle.matching.proofs.Patterns.{SoundMatch, fitting-sound, fitting-few, match-row-at}

@@ -8,7 +8,7 @@ use lib.ListN.{length, getD, take, replicate}
 use Rattle.shapes.specs.Shape as Shapes
 use Rattle.sheets.specs.declared.CellRecord.{CellRecord}
 use Rattle.sheets.specs.Model.{Shape, size, Library, Tree, patterns}
-use Rattle.sheets.specs.Layout.{padded, blankCell, cellLaid, rowsFrom, patternRows}
+use Rattle.sheets.specs.Layout.{padded, blankCell, cellLaid, tableFrom, patternRows}
 use Rattle.sheets.specs.Sound.{SoundLibrary, SoundTree}
 use Rattle.covers.specs.Enumeration.{covers}
 use Rattle.covers.specs.Tradeoff.{nodes, overfullNode}
@@ -67,7 +67,7 @@ Exceeds false bins r = (b : ℕ) → b < bins → getD (r .points) b 0 ≤ 31
 pub record FillStart (rows : List ℕ) (total : ℕ) (cells : List CellRecord) (loads : List ℕ) (bins : ℕ) (symbols sizes : List ℕ) (count load : ℕ) (found work : List ℕ) (l : Library) (t : Tree) : Type 0 where
   pub sound : SoundLibrary l
   pub tree : SoundTree t
-  pub rows-are : rows ≡ rowsFrom (replicate 2304 0) 0 (patternRows (patterns l))
+  pub rows-are : rows ≡ tableFrom 18 (replicate 2304 0) 0 (patternRows (patterns l))
   pub total-is : total ≡ length (patterns l)
   pub cells-are : cells ≡ padded 64 blankCell (map cellLaid (l .cells))
   pub loads-are : loads ≡ padded 4 0 (l .bins)

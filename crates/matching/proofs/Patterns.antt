@@ -15,15 +15,16 @@ use Rattle.shapes.proofs.Sets.{mid-sets}
 use Rattle.shapes.proofs.Drawn.{length-symbols}
 use Rattle.sheets.specs.declared.CellRecord.{CellRecord}
 use Rattle.sheets.specs.Model.{Shape, leaf, inv, nand, size, leaves, Cell, Library, Pattern, drawn, patternsFrom, patterns}
-use Rattle.sheets.specs.Layout.{blankCell, cellLaid, row, patternRows}
+use Rattle.sheets.specs.Layout.{blankCell, cellLaid, row, tableFrom, patternRows}
 use Rattle.covers.specs.Match.{Input, Match, joined, laid, matched, found, fittingFrom, fitting}
 use Rattle.covers.proofs.Matching.{Whenever, never, holds, whenever}
 use Rattle.matching.specs.declared.Walked.{Walked}
-use Rattle.matching.specs.Found.{matchRow, tableFrom}
+use Rattle.matching.specs.Found.{matchRow}
 use Rattle.sheets.specs.Sound.{IsGate, SoundDrawing, SoundLibrary}
 use Rattle.matching.specs.Promises.{Walkable, WalkedIs, Writable, Tried, Ready}
 use Rattle.matching.proofs.Lists.{at-mem, at-map}
-use Rattle.matching.proofs.Tables.{rows-table, length-table, table-append, row-at}
+use Rattle.sheets.proofs.Laws.{table-append}
+use Rattle.matching.proofs.Tables.{length-table, row-at}
 use Rattle.matching.proofs.Written.{in-padded, length-row}
 
 -- ---- the inputs of one match
@@ -291,7 +292,7 @@ module _ {rows : List ℕ} {total : ℕ} {cells : List CellRecord} {ss zs : List
     (ready : Ready rows total cells ss zs n room l s) where
   pub rows-long : length rows ≡ 2304
   rows-long =
-      ap length (ready .rows-are ∙ rows-table (replicate 2304 0) 0 (patternRows (patterns l)))
+      ap length (ready .rows-are)
       ∙ length-table 18 (replicate 2304 0) 0 (patternRows (patterns l))
       ∙ length-replicate {A = ℕ} 2304 0
 
@@ -309,7 +310,7 @@ module _ {rows : List ℕ} {total : ℕ} {cells : List CellRecord} {ss zs : List
         let ps = patterns l in
         let here : getD (patternRows ps) j [] ≡ row (patternAt l j .number) (patternAt l j .drawing) =
         at-map (λ (p : Pattern). row (p .number) (p .drawing)) ps j noPattern [] (omega (arith, ready .total-is)) in
-        ap (λ (r : List ℕ). getD r (18 * j + c) 0) (ready .rows-are ∙ rows-table (replicate 2304 0) 0 (patternRows ps))
+        ap (λ (r : List ℕ). getD r (18 * j + c) 0) (ready .rows-are)
         ∙ row-at 18 (replicate 2304 0) (patternRows ps) j c
         (λ r i.
         let m = Memᴰ·of-map (λ (p : Pattern). row (p .number) (p .drawing)) ps i in

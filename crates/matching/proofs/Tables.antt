@@ -1,34 +1,19 @@
 -- Reading a table of rows back.
 use Prim.Native.Nat.{ℕ, zero, suc, _+_, _*_, _≤_, _<_}
 use mathlib.Core.Path.{_≡_, refl, sym, ap, _∙_}
-use mathlib.Core.List.{List, [], _∷_, _++_, List·Memᴰ, List·Memᴰ·head, List·Memᴰ·tail}
+use mathlib.Core.List.{List, [], _∷_, List·Memᴰ, List·Memᴰ·head, List·Memᴰ·tail}
 use native.Mathlib.Nat.{add-zero, zero-add, add-suc, suc-add, mul-suc, mul-add}
 use native.Mathlib.Omega.{arith}
 use lib.ListN.{length, getD}
 use lib.Seq.{sets, length-sets}
-use Rattle.sheets.specs.Layout.{rowsFrom}
-use Rattle.matching.specs.Found.{tableFrom}
+use Rattle.sheets.specs.Layout.{tableFrom}
 use Rattle.matching.proofs.Lists.{before-sets, in-sets}
-
--- The table of patterns is such a table.
-pub rows-table : (l : List ℕ) (i : ℕ) (rs : List (List ℕ)) → rowsFrom l i rs ≡ tableFrom 18 l i rs
-unfolding rowsFrom tableFrom
-rows-table l i [] = refl
-rows-table l i (r ∷ rs) = rows-table (sets l (18 * i) r) (suc i) rs
 
 module _ (stride : ℕ) where
   pub length-table : (l : List ℕ) (i : ℕ) (rs : List (List ℕ)) → length (tableFrom stride l i rs) ≡ length l
   unfolding tableFrom
   length-table l i [] = refl
   length-table l i (r ∷ rs) = length-table (sets l (stride * i) r) (suc i) rs ∙ length-sets l (stride * i) r
-
-  -- Rows after others.
-  pub table-append : (l : List ℕ) (i : ℕ) (rs qs : List (List ℕ)) → tableFrom stride l i (rs ++ qs) ≡ tableFrom stride (tableFrom stride l i rs) (i + length rs) qs
-  unfolding tableFrom
-  table-append l i [] qs = ap (λ (k : ℕ). tableFrom stride l k qs) (sym (add-zero i))
-  table-append l i (r ∷ rs) qs =
-      table-append (sets l (stride * i) r) (suc i) rs qs
-      ∙ ap (λ (k : ℕ). tableFrom stride (tableFrom stride (sets l (stride * i) r) (suc i) rs) k qs) (suc-add i (length rs) ∙ sym (add-suc i (length rs)))
 
   table-before : (l : List ℕ) (i : ℕ) (rs : List (List ℕ)) (k : ℕ) → k < stride * i → getD (tableFrom stride l i rs) k 0 ≡ getD l k 0
   unfolding tableFrom

@@ -24,8 +24,3 @@ firstIllegal c = cond (usable c) (suc (c .highest)) 0
 unfoldable pub matchRow : Match → List ℕ
 matchRow m =
     m .number ∷ (m .pattern .cell .area ∷ (firstIllegal (m .pattern .cell) ∷ (length (m .inputs) ∷ inputsWords (m .pattern .cell) (m .inputs))))
-
--- Rows of a table with a stride, from row i on.
-unfoldable pub tableFrom : ℕ → List ℕ → ℕ → List (List ℕ) → List ℕ
-tableFrom stride l i [] = l
-tableFrom stride l i (r ∷ rs) = tableFrom stride (sets l (stride * i) r) (suc i) rs

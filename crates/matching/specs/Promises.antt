@@ -9,7 +9,7 @@ use Rattle.shapes.specs.Shape.{symbols}
 use Rattle.sheets.specs.declared.CellRecord.{CellRecord}
 use Rattle.sheets.specs.Model.{Shape, size, leaves, Library, Pattern, patterns}
 use Rattle.sheets.specs.Sound.{SoundDrawing, SoundLibrary}
-use Rattle.sheets.specs.Layout.{padded, blankCell, cellLaid, rowsFrom, patternRows}
+use Rattle.sheets.specs.Layout.{padded, blankCell, cellLaid, tableFrom, patternRows}
 use Rattle.covers.specs.Match.{Input, Match, laid}
 use Rattle.matching.specs.declared.Walked.{Walked}
 use Rattle.matching.specs.Standing.{Subject}
@@ -53,7 +53,7 @@ pub record Tried (walked : Walked) (cell : CellRecord) (p : Pattern) (n : ℕ) (
 -- The library l as decoded, the subtree s at node n, and room for a row of each pattern.
 pub record Ready (rows : List ℕ) (total : ℕ) (cells : List CellRecord) (ss zs : List ℕ) (n room : ℕ) (l : Library) (s : Shape) : Type 0 where
   pub sound : SoundLibrary l
-  pub rows-are : rows ≡ rowsFrom (replicate 2304 0) 0 (patternRows (patterns l))
+  pub rows-are : rows ≡ tableFrom 18 (replicate 2304 0) 0 (patternRows (patterns l))
   pub total-is : total ≡ length (patterns l)
   pub cells-are : cells ≡ padded 64 blankCell (map cellLaid (l .cells))
   pub subject : Subject ss zs n s

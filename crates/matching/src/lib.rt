@@ -9,7 +9,8 @@ ghost use lib.ListN.{length};
 ghost use lib.Seq.{sets};
 ghost use Rattle.sheets.specs.Model.{Shape, Library, Pattern};
 ghost use Rattle.covers.specs.Match.{Match, laid, matched, found, fitting};
-ghost use Rattle.matching.specs.Found.{inputsWords, matchRow, tableFrom};
+ghost use Rattle.matching.specs.Found.{inputsWords, matchRow};
+ghost use Rattle.sheets.specs.Layout.{tableFrom};
 ghost use Rattle.matching.specs.Promises.{Walkable, WalkedIs, Writable, Tried, Ready};
 
 // A match's row: its pattern, its cell's area, the first load that is not legal and how many inputs it has, then four words for each input.

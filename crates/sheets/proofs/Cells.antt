@@ -20,9 +20,9 @@ use Rattle.sheets.specs.declared.CellRead.{CellRead}
 use Rattle.sheets.specs.declared.CellRecord.{CellRecord}
 use Rattle.sheets.specs.Model.{Pin, Cell, Pattern, drawn, patternsFrom}
 use Rattle.sheets.specs.LibrarySheet.{head, pin, pattern, countVerdict, drawings, cell}
-use Rattle.sheets.specs.Layout.{padded, blankCell, cellLaid, row, rowsFrom, patternRows}
+use Rattle.sheets.specs.Layout.{padded, blankCell, cellLaid, row, tableFrom, patternRows}
 use Rattle.sheets.specs.Promises.{HeadIs, PinsAre, RowsAre, CountIs, DrawingsAre, CellIs, cellAfter}
-use Rattle.sheets.proofs.Laws.{filled-more, rows-append}
+use Rattle.sheets.proofs.Laws.{filled-more, table-append}
 
 pub drawings-are : (s : List ℕ) (pins number total : ℕ) (scan : Scan) (l l′ : List ℕ) (got : Got) (r : Scan) →
     CountIs s total scan got → RowsAre s pins number total (got .value) (got .scan) l l′ r →
@@ -35,7 +35,7 @@ drawings-are s pins number total scan l l′ got r h w =
     record {
       scan-is = w .scan-is ∙ ap (λ (x : List Shape × Scan). x .1) same;
       count-is = sym (length-times (got .value) (pattern s pins) (got .scan)) ∙ ap (λ (x : List Shape × Scan). length (x .0)) same;
-      laid = λ q. w .laid q ∙ ap (λ (x : List Shape × Scan). rowsFrom l total (map (row number) (x .0))) same;
+      laid = λ q. w .laid q ∙ ap (λ (x : List Shape × Scan). tableFrom 18 l total (map (row number) (x .0))) same;
       fits = h .fits;
       near = omega (arith, h .reads .near, h .reads .small, w .near);
     }
@@ -72,7 +72,7 @@ cell-is s bins number total scan l l′ h p d hh hp hd =
       };
       scan-is = hd .scan-is ∙ ap (λ (x : List Shape × Scan). x .1) drew;
       count-is = hd .count-is ∙ ap (λ (x : List Shape × Scan). length (x .0)) drew;
-      laid = λ q. hd .laid q ∙ ap (λ (x : List Shape × Scan). rowsFrom l total (map (row number) (x .0))) drew;
+      laid = λ q. hd .laid q ∙ ap (λ (x : List Shape × Scan). tableFrom 18 l total (map (row number) (x .0))) drew;
       fits = hd .fits;
       near = omega (arith, hh .near, hh .few, hp .near, hd .near);
     }
@@ -138,16 +138,16 @@ module _ (s : List ℕ) (bins : ℕ) (scan : Scan) (l : List ℕ) (k total : ℕ
       ap₂ _+_ et (w .count-is ∙ sym (length-drawn k (cell s bins total at .0) (cell s bins total at .0 .drawings)))
       ∙ sym (ap length more ∙ length-append (patternsFrom 0 (times k (cellAfter s bins) scan .0)) _)
 
-  pub turn-rows : (Live at → l₁ ≡ rowsFrom l 0 (patternRows (patternsFrom 0 (times k (cellAfter s bins) scan .0)))) →
-      Live (r .scan) → l₂ ≡ rowsFrom l 0 (patternRows (patternsFrom 0 (times (k + 1) (cellAfter s bins) scan .0)))
+  pub turn-rows : (Live at → l₁ ≡ tableFrom 18 l 0 (patternRows (patternsFrom 0 (times k (cellAfter s bins) scan .0)))) →
+      Live (r .scan) → l₂ ≡ tableFrom 18 l 0 (patternRows (patternsFrom 0 (times (k + 1) (cellAfter s bins) scan .0)))
   unfolding patternRows
   turn-rows e q =
       let before = patternsFrom 0 (times k (cellAfter s bins) scan .0) in
       let ds = cell s bins total at .0 .drawings in
       let start : total ≡ 0 + length (patternRows before) = et ∙ sym (zero-add _ ∙ length-map before _) in
       w .laid q
-      ∙ ap₂ (λ (l′ : List ℕ) (i : ℕ). rowsFrom l′ i (map (row k) ds)) (e (cell-live s bins total at (subst Live (w .scan-is) q))) start
-      ∙ sym (rows-append l 0 (patternRows before) (map (row k) ds))
-      ∙ ap (rowsFrom l 0)
+      ∙ ap₂ (λ (l′ : List ℕ) (i : ℕ). tableFrom 18 l′ i (map (row k) ds)) (e (cell-live s bins total at (subst Live (w .scan-is) q))) start
+      ∙ sym (table-append 18 l 0 (patternRows before) (map (row k) ds))
+      ∙ ap (tableFrom 18 l 0)
       (ap (λ (rs : List (List ℕ)). patternRows before ++ rs) (sym (rows-drawn k (cell s bins total at .0) ds))
       ∙ sym (ap patternRows more ∙ map-append _ before (drawn k (cell s bins total at .0) ds)))

@@ -25,7 +25,7 @@ use Rattle.shapes.specs.Shape.{Shape, symbols, sizes, size}
 use Rattle.shapes.specs.Drawing.{elem, shape}
 use Rattle.shapes.specs.Promises.{Live, Laid, NodeRead}
 use Rattle.sheets.specs.LibrarySheet.{last, binLoad, complete, hasAll, pattern, patternRules, countVerdict}
-use Rattle.sheets.specs.Layout.{padded, row, rowsFrom}
+use Rattle.sheets.specs.Layout.{padded, row, tableFrom}
 use Rattle.sheets.specs.Promises.{PatternIs, RowIs}
 use Rattle.sheets.specs.declared.PatternRead.{PatternRead}
 
@@ -168,31 +168,20 @@ pattern-live s pins xs c h =
 
 -- ---- the table of rows
 
-pub rows-more : (l : List ℕ) (i : ℕ) (rs : List (List ℕ)) (r : List ℕ) → rowsFrom l i (rs ++ (r ∷ [])) ≡ sets (rowsFrom l i rs) (18 * (i + length rs)) r
-unfolding rowsFrom
-rows-more l i [] r = ap (λ (k : ℕ). sets l (18 * k) r) (sym (add-zero i))
-rows-more l i (x ∷ rs) r =
-    rows-more (sets l (18 * i) x) (suc i) rs r ∙ ap (λ (k : ℕ). sets (rowsFrom (sets l (18 * i) x) (suc i) rs) (18 * k) r) (suc-add i (length rs) ∙ sym (add-suc i (length rs)))
-
-pub rows-append : (l : List ℕ) (i : ℕ) (rs qs : List (List ℕ)) → rowsFrom l i (rs ++ qs) ≡ rowsFrom (rowsFrom l i rs) (i + length rs) qs
-unfolding rowsFrom
-rows-append l i [] qs = ap (λ (k : ℕ). rowsFrom l k qs) (sym (add-zero i))
-rows-append l i (x ∷ rs) qs =
-    rows-append (sets l (18 * i) x) (suc i) rs qs ∙ ap (λ (k : ℕ). rowsFrom (rowsFrom (sets l (18 * i) x) (suc i) rs) k qs) (suc-add i (length rs) ∙ sym (add-suc i (length rs)))
-
-pub length-rows : (l : List ℕ) (i : ℕ) (rs : List (List ℕ)) → length (rowsFrom l i rs) ≡ length l
-unfolding rowsFrom
-length-rows l i [] = refl
-length-rows l i (r ∷ rs) = length-rows (sets l (18 * i) r) (suc i) rs ∙ length-sets l (18 * i) r
+pub table-append : (stride : ℕ) (l : List ℕ) (i : ℕ) (rs qs : List (List ℕ)) → tableFrom stride l i (rs ++ qs) ≡ tableFrom stride (tableFrom stride l i rs) (i + length rs) qs
+unfolding tableFrom
+table-append stride l i [] qs = ap (λ (k : ℕ). tableFrom stride l k qs) (sym (add-zero i))
+table-append stride l i (x ∷ rs) qs =
+    table-append stride (sets l (stride * i) x) (suc i) rs qs ∙ ap (λ (k : ℕ). tableFrom stride (tableFrom stride (sets l (stride * i) x) (suc i) rs) k qs) (suc-add i (length rs) ∙ sym (add-suc i (length rs)))
 
 -- What a loop has read so far, and one pattern more.
 module _ (s : List ℕ) (pins number total : ℕ) (scan : Scan) (l : List ℕ) where
   pub rows-turn : (k : ℕ) (l₁ ys : List ℕ) (at r : Scan) → (m : ℕ) → m ≡ 18 → 18 * (total + k) + 18 ≤ length l₁ → at ≡ times k (pattern s pins) scan .1 →
-      (Live at → l₁ ≡ rowsFrom l total (map (row number) (times k (pattern s pins) scan .0))) →
+      (Live at → l₁ ≡ tableFrom 18 l total (map (row number) (times k (pattern s pins) scan .0))) →
       RowIs s pins number at (take m (drop (18 * (total + k)) l₁)) ys r →
       (r ≡ times (k + 1) (pattern s pins) scan .1)
-      × (Live r → putMid (18 * (total + k)) m l₁ ys ≡ rowsFrom l total (map (row number) (times (k + 1) (pattern s pins) scan .0)))
-  unfolding pattern
+      × (Live r → putMid (18 * (total + k)) m l₁ ys ≡ tableFrom 18 l total (map (row number) (times (k + 1) (pattern s pins) scan .0)))
+  unfolding pattern tableFrom
   rows-turn k l₁ ys at r m em h ea el w =
       let x = times k (pattern s pins) scan in
       let first = 18 * (total + k) in
@@ -204,9 +193,9 @@ module _ (s : List ℕ) (pins number total : ℕ) (scan : Scan) (l : List ℕ) w
             ap (putMid first m l₁) (w .laid q)
             ∙ mid-sets l₁ first m (row number y) (omega arith) (omega (arith, w .few q))
             ∙ ap₂ (λ (l′ : List ℕ) (z : Shape). sets l′ first (row number z)) (el was) (ap (λ (c : Scan). pattern s pins [] c .0) ea)
-            ∙ ap (λ (i : ℕ). sets (rowsFrom l total (map (row number) (x .0))) (18 * (total + i)) (row number (pattern s pins [] (x .1) .0))) (sym (length-map (x .0) (row number) ∙ length-times k (pattern s pins) scan))
-            ∙ sym (rows-more l total (map (row number) (x .0)) (row number (pattern s pins [] (x .1) .0)))
-            ∙ ap (rowsFrom l total) (sym (ap (map (row number)) (times-value k (pattern s pins) scan) ∙ map-append (row number) (x .0) _)),
+            ∙ ap (λ (i : ℕ). sets (tableFrom 18 l total (map (row number) (x .0))) (18 * (total + i)) (row number (pattern s pins [] (x .1) .0))) (sym (length-map (x .0) (row number) ∙ length-times k (pattern s pins) scan))
+            ∙ sym (table-append 18 l total (map (row number) (x .0)) (row number (pattern s pins [] (x .1) .0) ∷ []))
+            ∙ ap (tableFrom 18 l total) (sym (ap (map (row number)) (times-value k (pattern s pins) scan) ∙ map-append (row number) (x .0) _)),
       )
 
 -- ---- a cell's patterns

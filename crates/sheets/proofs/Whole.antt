@@ -30,7 +30,7 @@ use Rattle.sheets.specs.declared.LibraryRead.{LibraryRead}
 use Rattle.sheets.specs.declared.LibraryRecord.{LibraryRecord}
 use Rattle.sheets.specs.declared.TreeRead.{TreeRead}
 use Rattle.sheets.specs.declared.TreeRecord.{TreeRecord}
-use Rattle.sheets.specs.Layout.{padded, blankCell, cellLaid, rowsFrom, patternRows, libraryLaid, treeLaid}
+use Rattle.sheets.specs.Layout.{padded, blankCell, cellLaid, tableFrom, patternRows, libraryLaid, treeLaid}
 use Rattle.sheets.specs.Promises.{BinsAre, CellsAre, cellAfter, LibraryIs, TreeIs}
 
 -- A scan that was not refused at the end was not refused before.
@@ -117,7 +117,7 @@ library-is s c nb lb nc rc l′ res ec hnb hlb hnc hrc er =
       scan-is = er ∙ ap (ended s) (hrc .scan-is ∙ ap (λ (x : List Cell × Scan). x .1) same);
       laid = λ q.
           let z : Live (rc .scan) = ended-live s (rc .scan) (subst Live er q) in
-          let rows = hrc .laid z ∙ ap (λ (x : List Cell × Scan). rowsFrom (replicate 2304 0) 0 (patternRows (patternsFrom 0 (x .0)))) same in
+          let rows = hrc .laid z ∙ ap (λ (x : List Cell × Scan). tableFrom 18 (replicate 2304 0) 0 (patternRows (patternsFrom 0 (x .0)))) same in
           λ i. record { bins = all-bins i; loads = loads i; count = all-cells i; total = total i; cells = records i; rows = rows i };
       bins-few = hnb .small;
       cells-few = hnc .small;

@@ -29,10 +29,10 @@ cellLaid c = record {
 unfoldable pub row : ℕ → Shape → List ℕ
 row cell x = cell ∷ (size x ∷ symbols x)
 
--- Rows in a table, from row i on.
-unfoldable pub rowsFrom : List ℕ → ℕ → List (List ℕ) → List ℕ
-rowsFrom l i [] = l
-rowsFrom l i (r ∷ rs) = rowsFrom (sets l (18 * i) r) (suc i) rs
+-- Rows in a table with a stride, from row i on.
+unfoldable pub tableFrom : ℕ → List ℕ → ℕ → List (List ℕ) → List ℕ
+tableFrom stride l i [] = l
+tableFrom stride l i (r ∷ rs) = tableFrom stride (sets l (stride * i) r) (suc i) rs
 
 -- Every pattern's row, by its number.
 unfoldable pub patternRows : List Pattern → List (List ℕ)
@@ -56,7 +56,7 @@ libraryLaid l = record {
   count = length (l .cells);
   total = length (patterns l);
   cells = padded 64 blankCell (map cellLaid (l .cells));
-  rows = rowsFrom (replicate 2304 0) 0 (patternRows (patterns l));
+  rows = tableFrom 18 (replicate 2304 0) 0 (patternRows (patterns l));
 }
 
 unfoldable pub treeLaid : Tree → TreeRecord

@@ -22,7 +22,7 @@ use Rattle.sheets.specs.declared.TreeRead.{TreeRead}
 use Rattle.sheets.specs.Model.{Pin, size, Cell, patternsFrom}
 use Rattle.sheets.specs.LibrarySheet.{binLoad, head, pin, pattern, countVerdict, drawings, cell, library}
 use Rattle.sheets.specs.TreeSheet.{tree}
-use Rattle.sheets.specs.Layout.{padded, blankCell, cellLaid, row, rowsFrom, patternRows, libraryLaid, treeLaid}
+use Rattle.sheets.specs.Layout.{padded, blankCell, cellLaid, row, tableFrom, patternRows, libraryLaid, treeLaid}
 use Rattle.sheets.specs.Report.{start}
 
 module _ (s : List ℕ) where
@@ -72,7 +72,7 @@ module _ (s : List ℕ) where
   -- So many patterns of a cell, their rows laid out in l from row `total` on.
   pub record RowsAre (pins number total count : ℕ) (scan : Scan) (l l′ : List ℕ) (r : Scan) : Type 0 where
     pub scan-is : r ≡ times count (pattern s pins) scan .1
-    pub laid : Live r → l′ ≡ rowsFrom l total (map (row number) (times count (pattern s pins) scan .0))
+    pub laid : Live r → l′ ≡ tableFrom 18 l total (map (row number) (times count (pattern s pins) scan .0))
     pub near : place r ≤ place scan + 416 * count
 
   -- A pattern count.
@@ -83,7 +83,7 @@ module _ (s : List ℕ) where
   pub record DrawingsAre (pins number total : ℕ) (scan : Scan) (l l′ : List ℕ) (r : DrawingsRead) : Type 0 where
     pub scan-is : r .scan ≡ drawings s pins total scan .1
     pub count-is : r .count ≡ length (drawings s pins total scan .0)
-    pub laid : Live (r .scan) → l′ ≡ rowsFrom l total (map (row number) (drawings s pins total scan .0))
+    pub laid : Live (r .scan) → l′ ≡ tableFrom 18 l total (map (row number) (drawings s pins total scan .0))
     pub fits : total + r .count ≤ 128
     pub near : place (r .scan) ≤ place scan + 2915
 
@@ -91,7 +91,7 @@ module _ (s : List ℕ) where
     pub cell-is : r .cell ≡ cellLaid (cell s bins total scan .0)
     pub scan-is : r .scan ≡ cell s bins total scan .1
     pub count-is : r .count ≡ length (cell s bins total scan .0 .drawings)
-    pub laid : Live (r .scan) → l′ ≡ rowsFrom l total (map (row number) (cell s bins total scan .0 .drawings))
+    pub laid : Live (r .scan) → l′ ≡ tableFrom 18 l total (map (row number) (cell s bins total scan .0 .drawings))
     pub fits : total + r .count ≤ 128
     pub near : place (r .scan) ≤ place scan + 3099
 
@@ -104,7 +104,7 @@ module _ (s : List ℕ) where
     pub cells-are : r .cells ≡ padded 64 blankCell (map cellLaid (times count (cellAfter bins) scan .0))
     pub scan-is : r .scan ≡ times count (cellAfter bins) scan .1
     pub total-is : r .total ≡ length (patternsFrom 0 (times count (cellAfter bins) scan .0))
-    pub laid : Live (r .scan) → l′ ≡ rowsFrom l 0 (patternRows (patternsFrom 0 (times count (cellAfter bins) scan .0)))
+    pub laid : Live (r .scan) → l′ ≡ tableFrom 18 l 0 (patternRows (patternsFrom 0 (times count (cellAfter bins) scan .0)))
     pub fits : r .total ≤ 128
     pub near : place (r .scan) ≤ place scan + 3099 * count
 

@@ -10,7 +10,8 @@ use borrow.Rule.Slice.PartMut.{same-len-mid}
 use Rattle.sheets.specs.Model.{Shape, Library, patterns}
 use Rattle.sheets.specs.declared.CellRecord.{CellRecord}
 use Rattle.covers.specs.Match.{Match, fittingFrom, fitting}
-use Rattle.matching.specs.Found.{matchRow, tableFrom}
+use Rattle.matching.specs.Found.{matchRow}
+use Rattle.sheets.specs.Layout.{tableFrom}
 use Rattle.matching.specs.Promises.{Tried, Ready}
 use Rattle.matching.proofs.Patterns.{patternAt, matchesBefore, rows-long, few-patterns, number-small, walkable, tried, find-turn, one-at-most}
 use Rattle.matching.proofs.find_matches.Statement.{statement}

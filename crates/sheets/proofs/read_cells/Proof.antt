@@ -8,7 +8,7 @@ use Rattle.shapes.specs.declared.Scan.{Scan}
 use Rattle.shapes.specs.Reading.{place, times}
 use Rattle.shapes.specs.Promises.{Live}
 use Rattle.sheets.specs.Model.{Cell, patternsFrom}
-use Rattle.sheets.specs.Layout.{padded, blankCell, cellLaid, rowsFrom, patternRows}
+use Rattle.sheets.specs.Layout.{padded, blankCell, cellLaid, tableFrom, patternRows}
 use Rattle.sheets.specs.Promises.{cellAfter}
 use Rattle.sheets.proofs.Cells.{turn-scan, turn-cells, turn-total, turn-rows}
 use Rattle.sheets.proofs.read_cells.Statement.{statement}
@@ -23,7 +23,7 @@ Inv-loop s bins count rows₀ cells₀ at₀ total₀ k₀ rows cells at total k
     × (total ≡ length (patternsFrom 0 (x .0)))
     × (total ≤ 128)
     × (at ≡ x .1)
-    × (Live at → rows ≡ rowsFrom rows₀ 0 (patternRows (patternsFrom 0 (x .0))))
+    × (Live at → rows ≡ tableFrom 18 rows₀ 0 (patternRows (patternsFrom 0 (x .0))))
     × (place at ≤ place at₀ + 3099 * k)
 
 abbrev μ-loop : tie.MeasureT-loop
@@ -33,7 +33,7 @@ blank-cell-requires : tie.Need-blank-cell-requires Inv-loop μ-loop
 blank-cell-requires c κs = search needs
 
 loop-holds : tie.Need-loop-holds Inv-loop μ-loop
-unfolding times rowsFrom patternRows patternsFrom
+unfolding times tableFrom patternRows patternsFrom
 loop-holds c =
     (omega arith, refl, ap (replicate 64) (c .blank-cell .ensures), refl, omega arith, refl, λ q. refl, omega arith)
 
@@ -90,7 +90,7 @@ returns c =
       cells-are = i .inv .2 ∙ ap (λ (k : ℕ). padded 64 blankCell (map cellLaid (x k .0))) done;
       scan-is = i .inv .5 ∙ ap (λ (k : ℕ). x k .1) done;
       total-is = i .inv .3 ∙ ap (λ (k : ℕ). length (patternsFrom 0 (x k .0))) done;
-      laid = λ q. i .inv .6 q ∙ ap (λ (k : ℕ). rowsFrom (a .rows .now) 0 (patternRows (patternsFrom 0 (x k .0)))) done;
+      laid = λ q. i .inv .6 q ∙ ap (λ (k : ℕ). tableFrom 18 (a .rows .now) 0 (patternRows (patternsFrom 0 (x k .0)))) done;
       fits = i .inv .4;
       near = omega (arith, i .inv .7);
     }

@@ -10,7 +10,7 @@ use Rattle.shapes.specs.Shape.{Shape}
 use Rattle.shapes.specs.Reading.{place, times}
 use Rattle.shapes.specs.Promises.{Live}
 use Rattle.sheets.specs.LibrarySheet.{pattern}
-use Rattle.sheets.specs.Layout.{row, rowsFrom}
+use Rattle.sheets.specs.Layout.{row, tableFrom}
 use Rattle.sheets.proofs.Laws.{rows-turn}
 use Rattle.sheets.proofs.read_rows.Statement.{statement}
 use Rattle.sheets.proofs.read_rows.Tie as tie
@@ -21,14 +21,14 @@ Inv-loop s pins cell total count rows₀ at₀ k₀ rows at k =
     (k ≤ count)
     × (length rows ≡ length rows₀)
     × (at ≡ x .1)
-    × (Live at → rows ≡ rowsFrom rows₀ total (map (row cell) (x .0)))
+    × (Live at → rows ≡ tableFrom 18 rows₀ total (map (row cell) (x .0)))
     × (place at ≤ place at₀ + 416 * k)
 
 abbrev μ-loop : tie.MeasureT-loop
 μ-loop s pins cell total count rows₀ at₀ k₀ rows at k = count - k
 
 loop-holds : tie.Need-loop-holds Inv-loop μ-loop
-unfolding times rowsFrom
+unfolding times tableFrom
 loop-holds c = (omega arith, refl, refl, λ q. refl, omega arith)
 
 cast-first : tie.Need-cast-first Inv-loop μ-loop
@@ -94,7 +94,7 @@ returns c =
     let x : ℕ → List Shape × Scan = λ k. times k (pattern (a .s .now) (a .pins)) (a .scan) in
     record {
       scan-is = i .inv .2 ∙ ap (λ (k : ℕ). x k .1) done;
-      laid = λ q. i .inv .3 q ∙ ap (λ (k : ℕ). rowsFrom (a .rows .now) (a .total) (map (row (a .cell)) (x k .0))) done;
+      laid = λ q. i .inv .3 q ∙ ap (λ (k : ℕ). tableFrom 18 (a .rows .now) (a .total) (map (row (a .cell)) (x k .0))) done;
       near = omega (arith, i .inv .4);
     }
 
