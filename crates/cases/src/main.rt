@@ -1,7 +1,8 @@
-// Runs the stored cases on standard input through the judges, map and list, and writes a line for each.
+// Runs the stored cases on standard input through the judges, map, list and treecover's text, and writes what each answers.
 // A case opens with a kind, and its lengths are two bytes each, high byte first.
 //   0 library, 1 tree: the sheet's length, the sheet.
 //   2 map, 3 list: the lengths of library, tree, output in bytes and work area in words, the library, the tree.
+//   4 treecover: the input's length, the input.
 use libc::STDOUT_FILENO;
 use mapper::Reply;
 use sheets::LibraryJudged;
@@ -89,8 +90,15 @@ fn run_tree(sheet: &[u8]) {
     }
 }
 
-// The case of a judge. Answers where the next case starts.
-fn run_judge(s: &[u8], kind: u8, at: usize) -> usize
+// The text that treecover prints.
+fn run_text(input: &[u8]) {
+    let mut text = [0u8; printing::Text::LONGEST];
+    let length = printing::print_cover(input, &mut text);
+    io::write_all(STDOUT_FILENO, &text[..length]);
+}
+
+// The case of a judge or of treecover, which has one part. Answers where the next case starts.
+fn run_single(s: &[u8], kind: u8, at: usize) -> usize
     requires { ⌜ at ≤ length (now s) ⌝ }
     ensures { λ r. ⌜ at ≤ r ⌝ }
 {
@@ -107,8 +115,10 @@ fn run_judge(s: &[u8], kind: u8, at: usize) -> usize
     let end = first + sheet;
     if kind == 0 {
         run_library(&s[first..end]);
-    } else {
+    } else if kind == 1 {
         run_tree(&s[first..end]);
+    } else {
+        run_text(&s[first..end]);
     }
     end
 }
@@ -267,7 +277,10 @@ fn run_case(s: &[u8], at: usize) -> usize
 {
     let kind = s[at];
     if kind < 2 {
-        return run_judge(s, kind, at + 1);
+        return run_single(s, kind, at + 1);
+    }
+    if kind == 4 {
+        return run_single(s, kind, at + 1);
     }
     run_problem(s, kind, at + 1)
 }
@@ -281,7 +294,7 @@ fn run_cases(s: &[u8]) {
 }
 
 fn main() {
-    let mut space = [0u8; 655360];
+    let mut space = [0u8; 688128];
     let n = io::read_full(libc::STDIN_FILENO, &mut space);
     run_cases(&space[..n]);
 }

@@ -13,7 +13,7 @@ ghost use Rattle.sheets.specs.Layout.{blankCell};
 ghost use Rattle.sheets.specs.Promises.{BinsAre, HeadIs, PinIs, PinsAre, PatternIs, RowIs, RowsAre, DrawingsAre, CountIs, CellIs, CellsAre, LibraryIs, TreeIs};
 ghost use Rattle.sheets.specs.Report.{ofLibraryJudged, libraryReport, libraryNumber, ofTreeJudged, treeReport, treeNumber, Limited};
 
-// Document 01's limits, of the sheets and of what map and list are lent.
+// Document 01's limits: of the sheets, of what map and list are lent, and of the program's input.
 pub struct Limits {}
 
 impl Limits {
@@ -53,6 +53,8 @@ impl Limits {
     pub const OUTPUT_LIST: usize = 179;
 
     pub const WORK: usize = 8192;
+
+    pub const INPUT: usize = 4096;
 }
 
 // A cell as decoded. Its pins are the first `pins` places of the three arrays: load bins, intrinsic delays and drives.

@@ -18,6 +18,6 @@ fn main() -> io::Result<()> {
     let mut stored = Stored::default();
     judge::add_all(&mut stored);
     map::add_all(&mut stored);
-    // text::add_all(&mut stored);
+    text::add_all(&mut stored);
     stored.write(&directory)
 }

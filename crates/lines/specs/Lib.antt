@@ -1,0 +1,2 @@
+-- What the contracts of `lines` say.
+pub mod Text

@@ -1,0 +1,43 @@
+-- Numbers and lines as text, in ASCII, and text put into a lent slice.
+use Prim.Native.Nat.{ℕ, zero, suc, _+_, _/_, _%_}
+use mathlib.Core.Path.{_≡_}
+use mathlib.Core.Bool.{cond}
+use mathlib.Core.List.{List, [], _∷_, _++_}
+use lib.Dec.{ltb}
+use lib.ListN.{length, take, drop}
+
+-- The digit of a number below ten.
+abbrev pub digit : ℕ → ℕ
+digit n = 48 + n
+
+-- A number's decimal digits, the most significant first and no zero in front. `steps` is how many digits may stand before the last.
+unfoldable pub decimalIn : (steps : ℕ) → ℕ → List ℕ
+decimalIn zero n = digit n ∷ []
+decimalIn (suc steps) n = cond (ltb n 10) (digit n ∷ []) (decimalIn steps (n / 10) ++ (digit (n % 10) ∷ []))
+
+-- A number's decimal digits: no more than the number itself stand before the last.
+unfoldable pub decimal : ℕ → List ℕ
+unfolding decimalIn
+decimal n = decimalIn n n
+
+abbrev pub newline : ℕ
+newline = 10
+
+abbrev pub space : ℕ
+space = 32
+
+-- Words with a space before each, and a newline after the last.
+unfoldable pub spaced : List (List ℕ) → List ℕ
+spaced [] = newline ∷ []
+spaced (w ∷ ws) = space ∷ (w ++ spaced ws)
+
+-- A line: its words parted by one space, and a newline after the last.
+unfoldable pub line : List (List ℕ) → List ℕ
+unfolding spaced
+line [] = newline ∷ []
+line (w ∷ ws) = w ++ spaced ws
+
+-- The words stand in the text from `at` on, all before and after them is kept, and r is the place after them.
+pub record Appended (words entry : List ℕ) (at : ℕ) (exit : List ℕ) (r : ℕ) : Type 0 where
+  pub place : r ≡ at + length words
+  pub text : exit ≡ take at entry ++ words ++ drop (at + length words) entry

@@ -1,0 +1,4 @@
+-- The laws of `printing`, in reading order.
+pub mod Laws
+pub mod Reading
+pub mod Outcome
