@@ -10,17 +10,45 @@ extern "C" {
 
 /*
  * Each function reads the bytes that it is lent, keeps no pointer and never fails otherwise than by its answer.
- * An empty sheet may have any pointer.
+ * An empty sheet may have any pointer. Output and work area must not overlap each other or the sheets.
  *
- * A refusal is number * 2^32 + place: the number says what is wrong, the place is the bit at fault, counted from
- * the sheet's first bit, which is 0. A success has 0 above bit 31.
+ * A refusal is number * 2^32 + place; a success has 0 above bit 31. The numbers:
+ *    1  output or work area too short; place 0
+ *    2  the library ends before or inside a field; place: the field's first bit, counted from 0
+ *    3  a set bit in the library's last byte after the last field, or a byte after it; place: the bit after the last field
+ *    4  a value out of range, or a bin load not above the one before; place: the field's first bit
+ *    5  a pattern opens with a leaf, repeats a pin, or lacks one; place: the code, the pin number, the pattern's first bit
+ *    6  a pattern's 17th node, or a pattern count past 128 in all; place: that field
+ *   12, 13, 14  as 2, 3 and 4, in the tree
+ *   16  the tree's 65th node; place: its code
+ *    7  more than 31 trade-offs at a node under a load considered there; place: the highest-numbered such node
+ *    8  map: no cover arrives by the required time; list: the root has no cover; place 0
  */
+
+/* The least lengths of an output in bytes and of a work area in words. */
+#define TREECOVER_MAP_OUTPUT 109
+#define TREECOVER_LIST_OUTPUT 179
+#define TREECOVER_WORK 8192
 
 /* Judges a library: cells * 256 + patterns, or a refusal with a number from 2 to 6. */
 uint64_t treecover_judge_library(const uint8_t *library, size_t library_len);
 
 /* Judges a tree: its node count, or a refusal with the number 12, 13, 14 or 16. */
 uint64_t treecover_judge_tree(const uint8_t *tree, size_t tree_len);
+
+/*
+ * Finds the smallest cover of the tree that arrives by its required time, and the earliest of that area. Answers how many
+ * bytes of the output the cover sheet takes; the bytes after them are as they were. A refusal leaves the whole output as it was.
+ *
+ * The first TREECOVER_WORK words of the work area are zero after a success and after refusals 7 and 8, words beyond are as
+ * they were, and other refusals touch none. What output and work area hold before the call does not matter.
+ */
+uint64_t treecover_map(const uint8_t *library, size_t library_len, const uint8_t *tree, size_t tree_len,
+                       uint8_t *output, size_t output_len, uint64_t *work, size_t work_len);
+
+/* Lists every trade-off of the tree's root between arrival and area, earliest first; the rest is as for treecover_map. */
+uint64_t treecover_list(const uint8_t *library, size_t library_len, const uint8_t *tree, size_t tree_len,
+                        uint8_t *output, size_t output_len, uint64_t *work, size_t work_len);
 
 #ifdef __cplusplus
 }

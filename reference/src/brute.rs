@@ -4,7 +4,7 @@ use crate::cover::{Cover, Pair};
 use crate::library::Library;
 use crate::matching::{matches_at, Match};
 use crate::merging::MOST_TRADE_OFFS;
-use crate::refusal::{Refusal, CROWDED, NO_COVER};
+use crate::refusal::{Refusal, OVERFULL, NO_COVER};
 use crate::shape::Node;
 use crate::tree::Tree;
 
@@ -36,12 +36,12 @@ impl<'a> Listing<'a> {
     }
 
     pub fn map(&self) -> Result<Cover, Refusal> {
-        self.refuse_crowded()?;
+        self.refuse_overfull()?;
         self.choose(0, 0, self.tree.required).ok_or(Refusal::new(NO_COVER, 0))
     }
 
     pub fn list(&self) -> Result<Vec<Pair>, Refusal> {
-        self.refuse_crowded()?;
+        self.refuse_overfull()?;
         match trade_offs(&self.covers[0][0]) {
             pairs if pairs.is_empty() => Err(Refusal::new(NO_COVER, 0)),
             pairs => Ok(pairs),
@@ -101,10 +101,10 @@ impl<'a> Listing<'a> {
         covers
     }
 
-    fn refuse_crowded(&self) -> Result<(), Refusal> {
-        let crowded = |&node: &usize| self.covers[node].iter().any(|covers| trade_offs(covers).len() > MOST_TRADE_OFFS);
-        match (0..self.covers.len()).rev().find(crowded) {
-            Some(node) => Err(Refusal::new(CROWDED, node)),
+    fn refuse_overfull(&self) -> Result<(), Refusal> {
+        let overfull = |&node: &usize| self.covers[node].iter().any(|covers| trade_offs(covers).len() > MOST_TRADE_OFFS);
+        match (0..self.covers.len()).rev().find(overfull) {
+            Some(node) => Err(Refusal::new(OVERFULL, node)),
             None => Ok(()),
         }
     }

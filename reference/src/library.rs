@@ -1,6 +1,6 @@
 //! The library sheet.
 
-use crate::refusal::{Refusal, MISDRAWN, OVERGROWN, RANGE};
+use crate::refusal::{Refusal, DRAWING, SIZE, RANGE};
 use crate::shape::Shape;
 use crate::sheet::Sheet;
 
@@ -99,7 +99,7 @@ fn read_pin(sheet: &mut Sheet, bin_count: usize) -> Result<Pin, Refusal> {
 fn read_pattern_count(sheet: &mut Sheet, room: usize) -> Result<u32, Refusal> {
     let count = sheet.any(3)?;
     if count.value as usize > room {
-        return sheet.refuse(OVERGROWN, count.place);
+        return sheet.refuse(SIZE, count.place);
     }
     if count.value == 0 {
         return sheet.refuse(RANGE, count.place);
@@ -113,12 +113,12 @@ fn read_pattern(sheet: &mut Sheet, pin_count: usize) -> Result<Shape, Refusal> {
     let seen = &mut marks[..pin_count];
     let steps = sheet.nodes(MOST_PATTERN_NODES, |sheet, code_place| {
         if code_place == first {
-            return sheet.refuse(MISDRAWN, first);
+            return sheet.refuse(DRAWING, first);
         }
         read_pin_number(sheet, seen)
     })?;
     if seen.contains(&false) {
-        return sheet.refuse(MISDRAWN, first);
+        return sheet.refuse(DRAWING, first);
     }
     Ok(Shape::from_steps(&steps))
 }
@@ -127,7 +127,7 @@ fn read_pin_number(sheet: &mut Sheet, seen: &mut [bool]) -> Result<u32, Refusal>
     let pin = sheet.within(3, 0..=seen.len() as u32 - 1)?;
     let mark = &mut seen[pin.value as usize];
     if *mark {
-        return sheet.refuse(MISDRAWN, pin.place);
+        return sheet.refuse(DRAWING, pin.place);
     }
     *mark = true;
     Ok(pin.value)

@@ -4,7 +4,7 @@ use crate::cover::{Cover, Pair};
 use crate::curve::{Curve, Point};
 use crate::library::Library;
 use crate::matching::{matches_at, Input, Match};
-use crate::refusal::{Refusal, CROWDED, NO_COVER};
+use crate::refusal::{Refusal, OVERFULL, NO_COVER};
 use crate::shape::{Node, Shape};
 use crate::tree::Tree;
 
@@ -57,7 +57,7 @@ impl<'a> Curves<'a> {
     fn checked(&self, node: usize, load: u32) -> Result<Curve, Refusal> {
         let curve = self.curve(node, load);
         if curve.points.len() > MOST_TRADE_OFFS {
-            return Err(Refusal::new(CROWDED, node));
+            return Err(Refusal::new(OVERFULL, node));
         }
         Ok(curve)
     }

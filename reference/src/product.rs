@@ -1,6 +1,7 @@
 //! The product's C interface.
 
 use crate::generate::damage::Kind;
+use crate::operation::Operation;
 
 extern "C" {
     fn treecover_judge_library(library: *const u8, library_len: usize) -> u64;
@@ -18,53 +19,45 @@ pub fn judge(kind: Kind, sheet: &[u8]) -> u64 {
     }
 }
 
-#[cfg(feature = "product_map")]
-pub use mapping::run;
+type Function = unsafe extern "C" fn(*const u8, usize, *const u8, usize, *mut u8, usize, *mut u64, usize) -> u64;
 
-#[cfg(feature = "product_map")]
-mod mapping {
-    use crate::operation::Operation;
-
-    type Function = unsafe extern "C" fn(*const u8, usize, *const u8, usize, *mut u8, usize, *mut u64, usize) -> u64;
-
-    /// Declares functions of that type.
-    macro_rules! mappers {
-        ($($name:ident),*) => {
-            extern "C" {
-                $(fn $name(
-                    library: *const u8,
-                    library_len: usize,
-                    tree: *const u8,
-                    tree_len: usize,
-                    output: *mut u8,
-                    output_len: usize,
-                    work: *mut u64,
-                    work_len: usize,
-                ) -> u64;)*
-            }
-        };
-    }
-
-    mappers!(treecover_map, treecover_list);
-
-    /// The product's answer: a refusal, number × 2^32 + place, or the bytes written.
-    pub fn run(operation: Operation, library: &[u8], tree: &[u8], output: &mut [u8], work: &mut [u64]) -> u64 {
-        let function: Function = match operation {
-            Operation::Map => treecover_map,
-            Operation::List => treecover_list,
-        };
-        // It reads within the first two slices and writes within the others.
-        unsafe {
-            function(
-                library.as_ptr(),
-                library.len(),
-                tree.as_ptr(),
-                tree.len(),
-                output.as_mut_ptr(),
-                output.len(),
-                work.as_mut_ptr(),
-                work.len(),
-            )
+/// Declares functions of that type.
+macro_rules! mappers {
+    ($($name:ident),*) => {
+        extern "C" {
+            $(fn $name(
+                library: *const u8,
+                library_len: usize,
+                tree: *const u8,
+                tree_len: usize,
+                output: *mut u8,
+                output_len: usize,
+                work: *mut u64,
+                work_len: usize,
+            ) -> u64;)*
         }
+    };
+}
+
+mappers!(treecover_map, treecover_list);
+
+/// The product's answer: a refusal, number × 2^32 + place, or the bytes written.
+pub fn run(operation: Operation, library: &[u8], tree: &[u8], output: &mut [u8], work: &mut [u64]) -> u64 {
+    let function: Function = match operation {
+        Operation::Map => treecover_map,
+        Operation::List => treecover_list,
+    };
+    // It reads within the first two slices and writes within the others.
+    unsafe {
+        function(
+            library.as_ptr(),
+            library.len(),
+            tree.as_ptr(),
+            tree.len(),
+            output.as_mut_ptr(),
+            output.len(),
+            work.as_mut_ptr(),
+            work.len(),
+        )
     }
 }

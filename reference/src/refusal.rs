@@ -5,15 +5,15 @@ pub const SHORT: u32 = 1;
 /// The sheet ends before or inside a field (torn).
 pub const TRUNCATED: u32 = 2;
 /// Something after the last field (loose tail).
-pub const LOOSE: u32 = 3;
+pub const TAIL: u32 = 3;
 /// A value outside its range (off the scale).
 pub const RANGE: u32 = 4;
 /// A pattern's leaves are wrong (misdrawn).
-pub const MISDRAWN: u32 = 5;
+pub const DRAWING: u32 = 5;
 /// Too many nodes or patterns (overgrown).
-pub const OVERGROWN: u32 = 6;
+pub const SIZE: u32 = 6;
 /// More than 31 trade-offs (crowded).
-pub const CROWDED: u32 = 7;
+pub const OVERFULL: u32 = 7;
 /// No cover (arrives in time).
 pub const NO_COVER: u32 = 8;
 /// Added to a sheet's number when the sheet is a tree.

@@ -1,7 +1,7 @@
 //! What a library and a tree have in common: fields in order, and a tail.
 
 use crate::bits::Reader;
-use crate::refusal::{Refusal, LOOSE, OVERGROWN, RANGE, TRUNCATED};
+use crate::refusal::{Refusal, TAIL, SIZE, RANGE, TRUNCATED};
 use crate::shape::Step;
 use std::ops::RangeInclusive;
 
@@ -62,7 +62,7 @@ impl<'a> Sheet<'a> {
         while open_branches > 0 {
             let code = self.any(2)?;
             if steps.len() == most {
-                return self.refuse(OVERGROWN, code.place);
+                return self.refuse(SIZE, code.place);
             }
             let step = match code.value {
                 0 => Step::Leaf(leaf(self, code.place)?),
@@ -81,7 +81,7 @@ impl<'a> Sheet<'a> {
         if self.reader.is_spent() {
             Ok(())
         } else {
-            self.refuse(LOOSE, self.at())
+            self.refuse(TAIL, self.at())
         }
     }
 }

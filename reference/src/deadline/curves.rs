@@ -1,7 +1,7 @@
 //! The curves of all nodes in the work area: node × 4 bins × 32 words, latest point first.
 
 use super::compact::{Compact, Pattern, Subject};
-use crate::refusal::{Refusal, CROWDED};
+use crate::refusal::{Refusal, OVERFULL};
 
 const STRIDE: usize = 32;
 /// Above every arrival, and the factor that packs a point into a word.
@@ -40,7 +40,7 @@ pub fn fill(library: &Compact, subject: &Subject, work: &mut [u64]) -> Result<Co
             let load = if node == 0 { subject.root_load } else { library.bins[bin] };
             let count = fill_curve(library, subject, &matches, (node, bin, load), &counts, work);
             if count == STRIDE {
-                return Err(Refusal::new(CROWDED, node));
+                return Err(Refusal::new(OVERFULL, node));
             }
             counts[node][bin] = count as u8;
         }

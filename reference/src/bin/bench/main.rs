@@ -3,19 +3,16 @@
 //! `bench`: a table of times and ratios.
 //! `bench repeat COUNT WHO ROW`: so many maps of a row (`typical`, `chain`, `comb`, `deep`) by
 //! `product`, `plain` or `merging`, for a profiler that counts instructions: two counts,
-//! and the difference is free of what comes before the first map (feature `product_map`).
+//! and the difference is free of what comes before the first map.
 
 mod clock;
 mod judge;
-#[cfg(feature = "product_map")]
 mod map;
 
 fn main() {
-    #[cfg(feature = "product_map")]
     if map::repeat(std::env::args().skip(1).collect()) {
         return;
     }
     judge::run();
-    #[cfg(feature = "product_map")]
     map::run();
 }

@@ -19,8 +19,8 @@ pub fn add_all(stored: &mut Stored) {
     }
     long_ends(stored);
     edges(stored, Kind::Library, &Form::of_library(&specimen::rich_library()));
-    overgrown(stored);
-    torn_fields(stored);
+    too_large(stored);
+    truncated_fields(stored);
     large(stored);
     random(stored, 160, |rng, kind| any_form(rng, kind).bytes());
     random(stored, 360, |rng, kind| damaged(rng, kind, 1));
@@ -76,7 +76,7 @@ fn long_ends(stored: &mut Stored) {
 }
 
 /// Inverters put before each node, so that the whole is below, at and above the limit.
-fn overgrown(stored: &mut Stored) {
+fn too_large(stored: &mut Stored) {
     let library = Form::of_library(&specimen::rich_library());
     let tree = Form::of_tree(&specimen::mixed_tree());
     for (kind, form, counts) in [(Kind::Library, library, 8..=14), (Kind::Tree, tree, 57..=60)] {
@@ -94,7 +94,7 @@ fn with_inverters(form: &Form, code: usize, count: usize) -> Form {
 }
 
 /// Each kind of field torn, five times.
-fn torn_fields(stored: &mut Stored) {
+fn truncated_fields(stored: &mut Stored) {
     let mut rng = Rng::new(2);
     let of_library = Role::OF_LIBRARY.map(|role| (Kind::Library, role));
     let of_tree = Role::OF_TREE.map(|role| (Kind::Tree, role));

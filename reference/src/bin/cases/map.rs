@@ -98,9 +98,9 @@ fn lent_lengths(stored: &mut Stored) {
 
 /// Inputs at fault in several ways, of which the first in order is said.
 fn order_of_refusals(stored: &mut Stored) {
-    let is_crowded = |chosen: &chosen::Chosen| chosen.name == "crowded under a root without cover";
-    let crowded = chosen::all().into_iter().find(is_crowded).expect("that problem").problem;
-    let (library, tree) = (crowded.library_sheet(), crowded.tree_sheet());
+    let is_crowded = |chosen: &chosen::Chosen| chosen.name == "overfull under a root without cover";
+    let overfull = chosen::all().into_iter().find(is_crowded).expect("that problem").problem;
+    let (library, tree) = (overfull.library_sheet(), overfull.tree_sheet());
     for lent in [Lent::ENOUGH, Lent { output: 108, work: LEAST_WORK }, Lent { output: 200, work: LEAST_WORK - 1 }] {
         for library in [&library[..], &library[1..], &[]] {
             for tree in [&tree[..], &tree[..tree.len() - 1], &[]] {

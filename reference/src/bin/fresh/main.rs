@@ -1,12 +1,11 @@
 //! Runs fresh random sheets through the product and the reference and compares.
 //!
 //! `fresh judge [COUNT] [SEED]`: the two judges.
-//! `fresh map [COUNT] [SEED]`: map and list (feature `product_map`).
+//! `fresh map [COUNT] [SEED]`: map and list.
 //!
 //! The exit status is 1 if anything disagrees.
 
 mod judge;
-#[cfg(feature = "product_map")]
 mod map;
 mod tally;
 
@@ -20,10 +19,9 @@ fn main() -> ExitCode {
     };
     let tally = match arguments.first().map(String::as_str) {
         Some("judge") => judge::run(number(1, 100_000), number(2, 1)),
-        #[cfg(feature = "product_map")]
         Some("map") => map::run(number(1, 200_000), number(2, 1)),
         _ => {
-            eprintln!("usage: fresh judge|map [COUNT] [SEED]; map needs the feature product_map");
+            eprintln!("usage: fresh judge|map [COUNT] [SEED]");
             return ExitCode::from(2);
         }
     };

@@ -7,7 +7,7 @@ use reference::generate::problem::{any_style, problem, varied, Problem};
 use reference::hex::hex;
 use reference::operation::{Lent, Operation, LEAST_WORK};
 use reference::product;
-use reference::refusal::{CROWDED, NO_COVER};
+use reference::refusal::{OVERFULL, NO_COVER};
 use reference::rng::Rng;
 
 struct Question {
@@ -102,7 +102,7 @@ fn by_reference(question: &Question, mut lent: Answer) -> Answer {
     let result = question.operation.run(question.lent, &question.library, &question.tree);
     let clears = match &result {
         Ok(_) => true,
-        Err(refusal) => [CROWDED, NO_COVER].contains(&refusal.number),
+        Err(refusal) => [OVERFULL, NO_COVER].contains(&refusal.number),
     };
     if clears {
         lent.work[..LEAST_WORK].fill(0);

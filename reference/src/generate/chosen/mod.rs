@@ -1,6 +1,6 @@
 //! Problems made by hand, each with what its list of trade-offs must be.
 
-mod crowding;
+mod overfull;
 mod loads;
 mod points;
 mod unions;
@@ -8,7 +8,7 @@ mod unions;
 use super::parts::{cell, pin, tree};
 use super::problem::Problem;
 use crate::library::{Cell, Library};
-use crate::refusal::CROWDED;
+use crate::refusal::OVERFULL;
 use crate::shape::Step;
 
 /// What the list operation says.
@@ -29,7 +29,7 @@ pub struct Chosen {
 
 pub fn all() -> Vec<Chosen> {
     let mut table = Table { rows: Vec::new() };
-    crowding::add(&mut table);
+    overfull::add(&mut table);
     unions::add(&mut table);
     loads::add(&mut table);
     points::add(&mut table);
@@ -47,10 +47,10 @@ impl Table {
     }
 }
 
-/// More than 31 points are crowded at `node`; else there are so many.
+/// More than 31 points are overfull at `node`; else there are so many.
 fn points_at(node: u32, points: usize) -> Outcome {
     if points > 31 {
-        Outcome::Refused(CROWDED, node)
+        Outcome::Refused(OVERFULL, node)
     } else {
         Outcome::Points(points)
     }

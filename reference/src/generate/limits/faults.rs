@@ -11,7 +11,7 @@ use crate::verdict::Verdict;
 pub fn add(table: &mut Table) {
     tails(table);
     first_of_two(table);
-    torn(table);
+    truncated(table);
     (1..=6).for_each(|pins| ends_after_sixteen(table, pins));
     lacking_and_more(table);
 }
@@ -40,16 +40,16 @@ fn first_of_two(table: &mut Table) {
     table.refused_at("two areas 0", &form.with(areas[1], 0).with(areas[0], 0), areas[0], 4);
     table.refused_at("code 3, then area 0", &form.with(codes[0], 3).with(areas[3], 0), codes[0], 4);
     let bytes = form.with(areas[1], 0).bytes();
-    table.refused("area 0, then torn", bytes[..bytes.len() - 1].to_vec(), 4, form.place(areas[1]));
-    table.refused("area 0, then a loose tail", followed_by(&bytes, &[1]), 4, form.place(areas[1]));
+    table.refused("area 0, then truncated", bytes[..bytes.len() - 1].to_vec(), 4, form.place(areas[1]));
+    table.refused("area 0, then a tail", followed_by(&bytes, &[1]), 4, form.place(areas[1]));
 }
 
-fn torn(table: &mut Table) {
+fn truncated(table: &mut Table) {
     table.refused("empty library", vec![], 2, 0);
     let form = drawn(1, &[Leaf(0)]);
     let code = form.place(last(&form, Role::Code));
     let length = (code + 2).div_ceil(8);
-    table.refused("opening leaf, its pin torn", form.bytes()[..length].to_vec(), 5, code);
+    table.refused("opening leaf, its pin truncated", form.bytes()[..length].to_vec(), 5, code);
 }
 
 /// A sheet that stops after a pattern's 16th node, with bits for one more code or without.
@@ -65,7 +65,7 @@ fn ends_after_sixteen(table: &mut Table, pins: usize) {
 fn lacking_and_more(table: &mut Table) {
     let form = drawn(2, &[Inv, Leaf(0)]);
     let first = form.find(Role::Code)[0];
-    table.refused("pin lacking, then a loose tail", followed_by(&form.bytes(), &[1]), 5, form.place(first));
-    table.refused_at("pin lacking, then torn", &form.with(last(&form, Role::PatternCount), 2), first, 5);
+    table.refused("pin lacking, then a tail", followed_by(&form.bytes(), &[1]), 5, form.place(first));
+    table.refused_at("pin lacking, then truncated", &form.with(last(&form, Role::PatternCount), 2), first, 5);
     table.value_refused("pin out of range, one lacking", &form, last(&form, Role::PinNumber), 2, 4);
 }

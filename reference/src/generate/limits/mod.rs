@@ -66,9 +66,9 @@ impl Table {
         let end = form.place(form.fields.len());
         self.row("sound tail", kind_of(number), bytes.clone(), verdict);
         for bit in end..bytes.len() * 8 {
-            let mut loose = bytes.clone();
-            loose[bit / 8] |= 128 >> (bit % 8);
-            self.refused("bit in the tail", loose, number, end);
+            let mut tailed = bytes.clone();
+            tailed[bit / 8] |= 128 >> (bit % 8);
+            self.refused("bit in the tail", tailed, number, end);
         }
         for more in [&[0][..], &[1], &[255], &[0, 0], &[0, 9]] {
             self.refused("bytes after the tail", followed_by(&bytes, more), number, end);

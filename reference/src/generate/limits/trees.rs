@@ -10,7 +10,7 @@ pub fn add(table: &mut Table) {
     values(table);
     nodes(table);
     tails(table);
-    torn(table);
+    truncated(table);
     first_of_two(table);
 }
 
@@ -52,7 +52,7 @@ fn nodes(table: &mut Table) {
         }
     }
     let form = tree(&chain(64, &[Leaf(0)]));
-    table.refused("65th node torn", form.bytes()[..20].to_vec(), 12, 160);
+    table.refused("65th node truncated", form.bytes()[..20].to_vec(), 12, 160);
     table.value_refused("64th node of code 3", &form, form.find(Role::Code)[63], 3, 14);
 }
 
@@ -63,10 +63,10 @@ fn tails(table: &mut Table) {
     }
 }
 
-fn torn(table: &mut Table) {
+fn truncated(table: &mut Table) {
     table.refused("empty tree", vec![], 12, 0);
     for (length, place) in [(1, 8), (2, 8), (3, 8), (4, 32), (5, 34), (6, 34)] {
-        table.refused("torn tree", vec![0; length], 12, place);
+        table.refused("truncated tree", vec![0; length], 12, place);
     }
 }
 
@@ -74,10 +74,10 @@ fn first_of_two(table: &mut Table) {
     let form = tree(&[Nand, Leaf(1_000_001), Leaf(0)]);
     let arrival = form.find(Role::Arrival)[0];
     let place = form.place(arrival);
-    table.refused("late leaf, then torn", form.bytes()[..7].to_vec(), 14, place);
-    table.refused("late leaf, then a loose tail", followed_by(&form.bytes(), &[7]), 14, place);
+    table.refused("late leaf, then truncated", form.bytes()[..7].to_vec(), 14, place);
+    table.refused("late leaf, then a tail", followed_by(&form.bytes(), &[7]), 14, place);
     table.refused_at("late leaf, then code 3", &form.with(form.find(Role::Code)[2], 3), arrival, 14);
     let mut long = tree(&chain(64, &[Leaf(0)]));
     long.fields.push(Field { role: Role::Area, value: 65_535 });
-    table.refused("65 nodes and a loose tail", long.bytes(), 16, 160);
+    table.refused("65 nodes and a tail", long.bytes(), 16, 160);
 }

@@ -1,16 +1,16 @@
-//! Curves of just as many points as may be, and crowding at one node or one bin.
+//! Curves of just as many points as may be, and overfull at one node or one bin.
 
 use super::super::parts::{cell, chain, pin, AND, INVERTER, NAND};
 use super::{grades, library, plain, points_at, with, Outcome, Table};
 use crate::library::{Cell, Pin};
-use crate::refusal::{CROWDED, NO_COVER};
+use crate::refusal::{OVERFULL, NO_COVER};
 use crate::shape::Step::{Inv, Leaf, Nand};
 
 pub fn add(table: &mut Table) {
     curve_lengths(table);
-    crowded_below(table);
-    crowded_in_branches(table);
-    crowded_in_vain(table);
+    overfull_below(table);
+    overfull_in_branches(table);
+    overfull_in_vain(table);
     for crowd in [31, 32] {
         [0, 2, 3].into_iter().for_each(|used| at_load_two(table, crowd, used));
         at_lowest_bin(table, crowd);
@@ -36,42 +36,42 @@ fn curve_lengths(table: &mut Table) {
     }
 }
 
-/// One node crowded, with nodes above it that would be so too.
-fn crowded_below(table: &mut Table) {
+/// One node overfull, with nodes above it that would be so too.
+fn overfull_below(table: &mut Table) {
     let cells = library(&[1, 2], with(vec![plain(INVERTER)], grades(32, NAND)));
     for above in [0, 1, 2, 7, 30, 61] {
-        table.add("crowded NAND", &cells, 1, &chain(above, NAND), Outcome::Refused(CROWDED, above as u32));
+        table.add("overfull NAND", &cells, 1, &chain(above, NAND), Outcome::Refused(OVERFULL, above as u32));
     }
     for (count, node) in [(31, 7), (17, 7), (16, 6), (11, 5), (9, 5), (8, 4)] {
         let cells = library(&[5], grades(count, INVERTER));
-        let outcome = Outcome::Refused(CROWDED, node);
-        table.add("crowded above the leaf", &cells, 5, &chain(9, &[Leaf(0)]), outcome);
+        let outcome = Outcome::Refused(OVERFULL, node);
+        table.add("overfull above the leaf", &cells, 5, &chain(9, &[Leaf(0)]), outcome);
     }
 }
 
-fn crowded_in_branches(table: &mut Table) {
+fn overfull_in_branches(table: &mut Table) {
     let cells = library(&[1, 2], with(vec![plain(INVERTER)], grades(32, NAND)));
     let side = [Inv, Nand, Leaf(0), Leaf(0)];
     let both = [&[Nand][..], &side, &side].concat();
-    table.add("crowded on both sides", &cells, 1, &both, Outcome::Refused(CROWDED, 6));
+    table.add("overfull on both sides", &cells, 1, &both, Outcome::Refused(OVERFULL, 6));
     let left = [&[Nand][..], &side, INVERTER].concat();
-    table.add("crowded on the left", &cells, 1, &left, Outcome::Refused(CROWDED, 2));
+    table.add("overfull on the left", &cells, 1, &left, Outcome::Refused(OVERFULL, 2));
     let right = [&[Nand, Leaf(0)][..], &side].concat();
-    table.add("crowded on the right", &cells, 1, &right, Outcome::Refused(CROWDED, 3));
+    table.add("overfull on the right", &cells, 1, &right, Outcome::Refused(OVERFULL, 3));
 }
 
-/// Crowding is said though no cover of the root uses the node, or the root has none.
-fn crowded_in_vain(table: &mut Table) {
+/// Overfull is said though no cover of the root uses the node, or the root has none.
+fn overfull_in_vain(table: &mut Table) {
     let inside = |count| library(&[1], with(vec![plain(AND)], grades(count, NAND)));
-    table.add("crowded inside the only match", &inside(32), 1, AND, Outcome::Refused(CROWDED, 1));
-    table.add("nearly crowded inside it", &inside(31), 1, AND, Outcome::Single(2, 1));
+    table.add("overfull inside the only match", &inside(32), 1, AND, Outcome::Refused(OVERFULL, 1));
+    table.add("nearly overfull inside it", &inside(31), 1, AND, Outcome::Single(2, 1));
     let below = |count| library(&[1], grades(count, NAND));
-    table.add("crowded under a root without cover", &below(32), 1, AND, Outcome::Refused(CROWDED, 1));
-    table.add("nearly crowded under it", &below(31), 1, AND, Outcome::Refused(NO_COVER, 0));
+    table.add("overfull under a root without cover", &below(32), 1, AND, Outcome::Refused(OVERFULL, 1));
+    table.add("nearly overfull under it", &below(31), 1, AND, Outcome::Refused(NO_COVER, 0));
     let weak = |cell| Cell { highest_load: 4, ..cell };
     let shut = library(&[1], grades(32, INVERTER).into_iter().map(weak).collect());
     table.add("the root's load shuts all out", &shut, 5, INVERTER, Outcome::Refused(NO_COVER, 0));
-    table.add("the root's load shuts none out", &shut, 4, INVERTER, Outcome::Refused(CROWDED, 0));
+    table.add("the root's load shuts none out", &shut, 4, INVERTER, Outcome::Refused(OVERFULL, 0));
 }
 
 /// Equal delays under load 1, and under load 2 the larger the faster.
@@ -84,8 +84,8 @@ fn at_load_two(table: &mut Table, crowd: u32, used: u32) {
     let mut cells: Vec<Cell> = (0..crowd).map(|grade| cell(grade + 1, 2, steep_pin(used, grade), INVERTER)).collect();
     cells.push(cell(crowd + 1, 255, steep_pin(used, 0), INVERTER));
     let library = library(&[1, 2, 3, 4], cells);
-    let outcome = if crowd > 31 { Outcome::Refused(CROWDED, 1) } else { Outcome::Points(1) };
-    table.add("crowded at load 2 of 4", &library, 3, &chain(2, &[Leaf(0)]), outcome);
+    let outcome = if crowd > 31 { Outcome::Refused(OVERFULL, 1) } else { Outcome::Points(1) };
+    table.add("overfull at load 2 of 4", &library, 3, &chain(2, &[Leaf(0)]), outcome);
 }
 
 /// All pins use bin 1, whose load shuts all but four out.
@@ -96,8 +96,8 @@ fn at_lowest_bin(table: &mut Table, crowd: u32) {
         cell.highest_load = if grade < 4 { 2 } else { 1 };
     }
     let library = library(&[1, 2], cells);
-    let outcome = if crowd > 31 { Outcome::Refused(CROWDED, 1) } else { Outcome::Points(7) };
-    table.add("crowded at the lowest bin", &library, 2, &chain(2, &[Leaf(0)]), outcome);
+    let outcome = if crowd > 31 { Outcome::Refused(OVERFULL, 1) } else { Outcome::Points(7) };
+    table.add("overfull at the lowest bin", &library, 2, &chain(2, &[Leaf(0)]), outcome);
     table.add("the root is not under that bin", &library, 2, INVERTER, Outcome::Points(4));
 }
 
@@ -105,8 +105,8 @@ fn at_lowest_bin(table: &mut Table, crowd: u32) {
 fn at_highest_bin(table: &mut Table, crowd: u32) {
     let cells = (0..crowd).map(|grade| cell(grade + 1, 255, steep_pin(0, grade), INVERTER)).collect();
     let library = library(&[1, 2], cells);
-    let outcome = if crowd > 31 { Outcome::Refused(CROWDED, 1) } else { Outcome::Single(400, 2) };
-    table.add("crowded at the highest bin", &library, 1, &chain(2, &[Leaf(0)]), outcome);
+    let outcome = if crowd > 31 { Outcome::Refused(OVERFULL, 1) } else { Outcome::Single(400, 2) };
+    table.add("overfull at the highest bin", &library, 1, &chain(2, &[Leaf(0)]), outcome);
     table.add("the root is not under that bin", &library, 1, INVERTER, Outcome::Single(200, 1));
     table.add("the root under that bin's load", &library, 2, INVERTER, points_at(0, crowd as usize));
 }
