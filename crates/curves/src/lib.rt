@@ -114,7 +114,7 @@ fn input_word(row: &[u32], symbols: &[u32], work: &[u64], load: u32, end: u64, a
 }
 
 // The least point of a match before `end`: its cell on top of its inputs side by side.
-pub fn best_match(row: &[u32], symbols: &[u32], work: &[u64], load: u32, end: u64) -> u64
+fn best_match(row: &[u32], symbols: &[u32], work: &[u64], load: u32, end: u64) -> u64
     requires { ⌜ Tables (now row) (now symbols) (now work) ⌝ }
     requires { ⌜ (load ≤ 255) × (end ≤ 16777216) ⌝ }
     ensures { λ r. ⌜ Worth 2251799813685248 end r (rowBest (now (symbols .entry)) (now (work .entry)) (now (row .entry)) load end) ⌝ }
@@ -161,7 +161,7 @@ pub fn legal_match(row: &[u32], symbols: &[u32], work: &[u64], load: u32, end: u
 }
 
 // The least point before `end` of the first `count` matches.
-pub fn best(found: &[u32], count: usize, symbols: &[u32], work: &[u64], load: u32, end: u64) -> u64
+fn best(found: &[u32], count: usize, symbols: &[u32], work: &[u64], load: u32, end: u64) -> u64
     requires { ⌜ Matches (now found) count (now symbols) (now work) ⌝ }
     requires { ⌜ (load ≤ 255) × (end ≤ 16777216) ⌝ }
     ensures { λ r. ⌜ Worth 2251799813685248 end r (rowsBest (now (symbols .entry)) (now (work .entry)) (now (found .entry)) load end count) ⌝ }

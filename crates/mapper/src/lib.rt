@@ -108,7 +108,7 @@ fn write_gate<'a>(
 }
 
 // The cover that map hands over, on its sheet.
-pub fn write_chosen<'a>(
+fn write_chosen<'a>(
     rows: &'a [u32],
     total: usize,
     cells: [CellRecord; 64],
@@ -160,7 +160,7 @@ fn count_points(work: &[u64]) -> usize
 }
 
 // The root's trade-offs, on their sheet. A leaf has one, of no area.
-pub fn write_points(symbols: &[u32], work: &[u64], output: &mut [u8]) -> Chosen
+fn write_points(symbols: &[u32], work: &[u64], output: &mut [u8]) -> Chosen
     requires { ⌜ (179 ≤ length (now output)) × ((l : Library) × ((t : Tree) × Curved l t (now symbols) (now work))) ⌝ }
     ensures { λ r. ⌜ ((l : Library) (t : Tree) → Curved l t (now (symbols .entry)) (now (work .entry)) →
         Put (now (output .entry)) (now (output .exit)) (Option·map listSheet (nonempty (tradeoffs l (t .load) 0 (t .shape)))) r) ⌝ }
