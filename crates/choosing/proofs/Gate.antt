@@ -103,7 +103,7 @@ chosen-there l load n s time {p} e = let q = map-eq-some-iff (λ (c : Cover). c 
 -- ---- at a node
 
 abbrev pub noMatch : Match
-noMatch = record { number = 0; pattern = record { number = 0; cell = record { held = false; area = 0; highest = 0; pins = []; drawings = [] }; drawing = leaf 0 }; inputs = [] }
+noMatch = record { number = 0; pattern = record { cellNumber = 0; cell = record { held = false; area = 0; highest = 0; pins = []; drawings = [] }; drawing = leaf 0 }; inputs = [] }
 
 pub record Limits (n load bin : ℕ) (ss zs : List ℕ) : Type 0 where
   pub node-small : n < 64

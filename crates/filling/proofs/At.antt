@@ -57,7 +57,7 @@ pub symbols-small : (symbols : List ℕ) (s : Shape) → symbols ≡ padded 64 0
 symbols-small symbols s e h k = rw e (sets-most 1000002 (replicate 64 0) 0 (Shapes.symbols s) (λ i. rw (zeros-at 64 i) (omega arith)) (symbol-most s 1000000 h) k)
 
 abbrev noMatch : Match
-noMatch = record { number = 0; pattern = record { number = 0; cell = record { held = mathlib.Core.Bool.false; area = 0; highest = 0; pins = []; drawings = [] }; drawing = leaf 0 }; inputs = [] }
+noMatch = record { number = 0; pattern = record { cellNumber = 0; cell = record { held = mathlib.Core.Bool.false; area = 0; highest = 0; pins = []; drawings = [] }; drawing = leaf 0 }; inputs = [] }
 
 module _ {rows : List ℕ} {total : ℕ} {cells : List CellRecord} {symbols sizes : List ℕ} {n : ℕ} {found work : List ℕ} {bins : ℕ} {l : Library} {t : Tree} {s : Shape}
     (g : FillReady rows total cells symbols sizes n found work bins l t s) where

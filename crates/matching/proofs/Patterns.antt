@@ -117,17 +117,17 @@ wrote-one k p o is t t′ e h = rw e (refl, h)
 -- A pattern of these cells, the first of which has number n.
 record Listed (n : ℕ) (cs : List Cell) (p : Pattern) : Type 0 where
   place : ℕ
-  number : p .number ≡ n + place
+  number : p .cellNumber ≡ n + place
   inside : place < length cs
   cell-is : (d : Cell) → getD cs place d ≡ p .cell
   cell-in : List·Memᴰ (p .cell) cs
   drawing-in : List·Memᴰ (p .drawing) (p .cell .drawings)
 
-drawn-cases : (n : ℕ) (c : Cell) (ds : List Shape) {p : Pattern} → List·Memᴰ p (drawn n c ds) → (p .number ≡ n) × (p .cell ≡ c) × List·Memᴰ (p .drawing) ds
+drawn-cases : (n : ℕ) (c : Cell) (ds : List Shape) {p : Pattern} → List·Memᴰ p (drawn n c ds) → (p .cellNumber ≡ n) × (p .cell ≡ c) × List·Memᴰ (p .drawing) ds
 unfolding drawn
 drawn-cases n c [] h = absurd (List·Memᴰ·not-nil h)
 drawn-cases n c (d ∷ ds) (List·Memᴰ·head e) =
-    (ap (λ (q : Pattern). q .number) e, ap (λ (q : Pattern). q .cell) e, List·Memᴰ·head (ap (λ (q : Pattern). q .drawing) e))
+    (ap (λ (q : Pattern). q .cellNumber) e, ap (λ (q : Pattern). q .cell) e, List·Memᴰ·head (ap (λ (q : Pattern). q .drawing) e))
 drawn-cases n c (d ∷ ds) (List·Memᴰ·tail h) = let r = drawn-cases n c ds h in (r .0, r .1, List·Memᴰ·tail (r .2))
 
 listed : (n : ℕ) (cs : List Cell) {p : Pattern} → List·Memᴰ p (patternsFrom n cs) → Listed n cs p
@@ -159,8 +159,8 @@ listed n (c ∷ cs) {p} h =
 
 -- What is known of a pattern of a sound library.
 pub record SoundPattern (l : Library) (p : Pattern) : Type 0 where
-  pub number-small : p .number < length (l .cells)
-  pub cell-is : (d : Cell) → getD (l .cells) (p .number) d ≡ p .cell
+  pub number-small : p .cellNumber < length (l .cells)
+  pub cell-is : (d : Cell) → getD (l .cells) (p .cellNumber) d ≡ p .cell
   pub pins-few : length (p .cell .pins) ≤ 6
   pub drawing : SoundDrawing (length (p .cell .pins)) (p .drawing)
 
@@ -262,7 +262,7 @@ match-row-at l n s h t e d j c g k =
 -- ---- one turn of the loop over the patterns
 
 abbrev noPattern : Pattern
-noPattern = record { number = 0; cell = record { held = false; area = 0; highest = 0; pins = []; drawings = [] }; drawing = leaf 0 }
+noPattern = record { cellNumber = 0; cell = record { held = false; area = 0; highest = 0; pins = []; drawings = [] }; drawing = leaf 0 }
 
 abbrev pub patternAt : Library → ℕ → Pattern
 patternAt l j = getD (patterns l) j noPattern
@@ -304,23 +304,23 @@ module _ {rows : List ℕ} {total : ℕ} {cells : List CellRecord} {ss zs : List
     at-hand = sound-pattern l (ready .sound) (at-mem (patterns l) j noPattern (omega (arith, ready .total-is)))
 
     -- The row of pattern j, word by word.
-    words : (c : ℕ) → c < 2 + size (patternAt l j .drawing) → getD rows (18 * j + c) 0 ≡ getD (row (patternAt l j .number) (patternAt l j .drawing)) c 0
+    words : (c : ℕ) → c < 2 + size (patternAt l j .drawing) → getD rows (18 * j + c) 0 ≡ getD (row (patternAt l j .cellNumber) (patternAt l j .drawing)) c 0
     unfolding patternRows row
     words c g =
         let ps = patterns l in
-        let here : getD (patternRows ps) j [] ≡ row (patternAt l j .number) (patternAt l j .drawing) =
-        at-map (λ (p : Pattern). row (p .number) (p .drawing)) ps j noPattern [] (omega (arith, ready .total-is)) in
+        let here : getD (patternRows ps) j [] ≡ row (patternAt l j .cellNumber) (patternAt l j .drawing) =
+        at-map (λ (p : Pattern). row (p .cellNumber) (p .drawing)) ps j noPattern [] (omega (arith, ready .total-is)) in
         ap (λ (r : List ℕ). getD r (18 * j + c) 0) (ready .rows-are)
         ∙ row-at 18 (replicate 2304 0) (patternRows ps) j c
         (λ r i.
-        let m = Memᴰ·of-map (λ (p : Pattern). row (p .number) (p .drawing)) ps i in
+        let m = Memᴰ·of-map (λ (p : Pattern). row (p .cellNumber) (p .drawing)) ps i in
         omega (arith, sound-pattern l (ready .sound) (m .1) .drawing .size, length-symbols (m .0 .drawing), ap length (m .2)))
-        (omega (arith, length-map ps (λ (p : Pattern). row (p .number) (p .drawing)), ready .sound .few-patterns, length-replicate {A = ℕ} 2304 0))
-        (omega (arith, length-map ps (λ (p : Pattern). row (p .number) (p .drawing)), ready .total-is))
+        (omega (arith, length-map ps (λ (p : Pattern). row (p .cellNumber) (p .drawing)), ready .sound .few-patterns, length-replicate {A = ℕ} 2304 0))
+        (omega (arith, length-map ps (λ (p : Pattern). row (p .cellNumber) (p .drawing)), ready .total-is))
         (omega (arith, ap length here, length-symbols (patternAt l j .drawing)))
         ∙ ap (λ (r : List ℕ). getD r c 0) here
 
-    number-is : getD rows (18 * j) 0 ≡ patternAt l j .number
+    number-is : getD rows (18 * j) 0 ≡ patternAt l j .cellNumber
     unfolding row
     number-is = ap (λ (i : ℕ). getD rows i 0) (sym (add-zero (18 * j))) ∙ words 0 (omega arith)
 
@@ -333,14 +333,14 @@ module _ {rows : List ℕ} {total : ℕ} {cells : List CellRecord} {ss zs : List
         let d = patternAt l j .drawing in
         let part = take m (drop (18 * j) rows) in
         let small = at-hand .drawing .size in
-        let read : (c : ℕ) → c < 2 + size d → getD part c 0 ≡ getD (row (patternAt l j .number) d) c 0 = λ c g. (
+        let read : (c : ℕ) → c < 2 + size d → getD part c 0 ≡ getD (row (patternAt l j .cellNumber) d) c 0 = λ c g. (
         getD-take m (drop (18 * j) rows) c 0 (omega arith) ∙ getD-drop (18 * j) rows c 0 ∙ words c g) in
         record {
           row-long = length-take-le m (drop (18 * j) rows) (omega (arith, length-drop (18 * j) rows, rows-long, few-patterns)) ∙ e;
           size-is = read 1 (omega arith);
           symbols-are = λ k g.
               let two : 2 + k ≡ suc (suc k) = omega arith in
-              read (2 + k) (omega arith) ∙ ap (λ (i : ℕ). getD (row (patternAt l j .number) d) i 0) two;
+              read (2 + k) (omega arith) ∙ ap (λ (i : ℕ). getD (row (patternAt l j .cellNumber) d) i 0) two;
           small = small;
           pinned = λ x i. omega (arith, at-hand .drawing .leaves x i, at-hand .pins-few);
           subject = ready .subject;
@@ -354,8 +354,8 @@ module _ {rows : List ℕ} {total : ℕ} {cells : List CellRecord} {ss zs : List
           walked-is = w;
           cell-is =
               ap₂ (λ (cs : List CellRecord) (k : ℕ). getD cs k outside) (ready .cells-are) number-is
-              ∙ in-padded 64 blankCell outside (map cellLaid (l .cells)) (p .number) (omega (arith, length-map (l .cells) cellLaid, ready .sound .few-cells)) (omega (arith, length-map (l .cells) cellLaid, at-hand .number-small))
-              ∙ at-map cellLaid (l .cells) (p .number) (noPattern .cell) outside (at-hand .number-small)
+              ∙ in-padded 64 blankCell outside (map cellLaid (l .cells)) (p .cellNumber) (omega (arith, length-map (l .cells) cellLaid, ready .sound .few-cells)) (omega (arith, length-map (l .cells) cellLaid, at-hand .number-small))
+              ∙ at-map cellLaid (l .cells) (p .cellNumber) (noPattern .cell) outside (at-hand .number-small)
               ∙ ap cellLaid (at-hand .cell-is (noPattern .cell));
           pins-few = at-hand .pins-few;
           drawing = at-hand .drawing;

@@ -39,7 +39,7 @@ module _ {l : Library} (sound : SoundLibrary l) where
   row-few : (r : List ℕ) → List·Memᴰ r (patternRows ps) → (1 ≤ length r) × (length r ≤ 18)
   unfolding patternRows row
   row-few r m =
-      let p = Memᴰ·of-map (λ (p : Pattern). row (p .number) (p .drawing)) ps m in
+      let p = Memᴰ·of-map (λ (p : Pattern). row (p .cellNumber) (p .drawing)) ps m in
       let small = sound-pattern l sound (p .1) .drawing .size in
       (omega (arith, ap length (p .2)), omega (arith, small, length-symbols (p .0 .drawing), ap length (p .2)))
 
@@ -47,16 +47,16 @@ module _ {l : Library} (sound : SoundLibrary l) where
   unfolding libraryLaid patternRows row cellOf
   cell-at j h =
       let rows = patternRows ps in
-      let count : length rows ≡ length ps = length-map ps (λ (p : Pattern). row (p .number) (p .drawing)) in
+      let count : length rows ≡ length ps = length-map ps (λ (p : Pattern). row (p .cellNumber) (p .drawing)) in
       ap (λ (i : ℕ). getD (libraryLaid l .rows) i 0) (sym (add-zero (18 * j)))
       ∙ row-at 18 (replicate 2304 0) rows j 0 (λ r m. row-few r m .1) (omega (arith, sound .few-patterns, length-replicate {A = ℕ} 2304 0)) (omega arith) (row-few (getD rows j []) (at-mem rows j [] (omega arith)) .0)
       ∙ sym (at-map (λ (r : List ℕ). getD r 0 0) rows j [] 0 (omega arith))
-      ∙ ap (λ (ns : List ℕ). getD ns j 0) (map-map (λ (r : List ℕ). getD r 0 0) (λ (p : Pattern). row (p .number) (p .drawing)) ps)
+      ∙ ap (λ (ns : List ℕ). getD ns j 0) (map-map (λ (r : List ℕ). getD r 0 0) (λ (p : Pattern). row (p .cellNumber) (p .drawing)) ps)
 
   cell-small : (j : ℕ) → cellOf l j < 64
   unfolding cellOf
-  cell-small j = at-all (λ n. n < 64) (map (λ (p : Pattern). p .number) ps) j 0 (omega arith) (λ n m.
-      let p = Memᴰ·of-map (λ (p : Pattern). p .number) ps m in
+  cell-small j = at-all (λ n. n < 64) (map (λ (p : Pattern). p .cellNumber) ps) j 0 (omega arith) (λ n m.
+      let p = Memᴰ·of-map (λ (p : Pattern). p .cellNumber) ps m in
       omega (arith, sound-pattern l sound (p .1) .number-small, sound .few-cells, p .2))
 
   rows-length : length (libraryLaid l .rows) ≡ 2304

@@ -23,7 +23,7 @@ spoiledWord = 115 ∷ 112 ∷ 111 ∷ 105 ∷ 108 ∷ 101 ∷ 100 ∷ []
 -- The number of a pattern's cell.
 unfoldable pub cellOf : Library → ℕ → ℕ
 unfolding patterns
-cellOf l pattern = getD (map (λ (p : Pattern). p .number) (patterns l)) pattern 0
+cellOf l pattern = getD (map (λ (p : Pattern). p .cellNumber) (patterns l)) pattern 0
 
 -- A match: its node, its cell and its pattern.
 unfoldable pub matchLine : Library → Placed → List ℕ

@@ -36,7 +36,7 @@ tableFrom stride l i (r ∷ rs) = tableFrom stride (sets l (stride * i) r) (suc 
 
 -- Every pattern's row, by its number.
 unfoldable pub patternRows : List Pattern → List (List ℕ)
-patternRows ps = map (λ (p : Pattern). row (p .number) (p .drawing)) ps
+patternRows ps = map (λ (p : Pattern). row (p .cellNumber) (p .drawing)) ps
 
 abbrev pub blankCell : CellRecord
 blankCell = record {

@@ -26,13 +26,13 @@ pub record Library : Type 0 where
 
 -- A pattern: the number of its cell, the cell, and the shape drawn.
 pub record Pattern : Type 0 where
-  pub number : ℕ
+  pub cellNumber : ℕ
   pub cell : Cell
   pub drawing : Shape
 
 unfoldable pub drawn : ℕ → Cell → List Shape → List Pattern
 drawn n c [] = []
-drawn n c (d ∷ ds) = record { number = n; cell = c; drawing = d } ∷ drawn n c ds
+drawn n c (d ∷ ds) = record { cellNumber = n; cell = c; drawing = d } ∷ drawn n c ds
 
 unfoldable pub patternsFrom : ℕ → List Cell → List Pattern
 patternsFrom n [] = []
