@@ -93,8 +93,3 @@ found-by-deadline (suc k) best end h (down {p = p} {ps = ps} a f) t =
 -- The curve theorem: from an instant after every arrival, deadlines find the curve, point by point.
 pub curve-found : (k end : ℕ) (cs : List Cover) → ((c : Cover) → In cs c → c .point .arrival < end) → byDeadline k (λ e. least e cs) end ≡ take k (curve cs)
 curve-found k end cs h = found-by-deadline k (λ e. least e cs) end (λ e l. sym (lookup-is-least e (curve-is cs))) (curve-is cs .falls) (λ p m. let r = curve-is cs .holds p .0 m in rw (r .point) at (h (r .cover) (r .among)))
-
--- There are more trade-offs than `most` exactly when deadlines find one point more than that.
-pub more-tradeoffs : (most end : ℕ) (cs : List Cover) → ((c : Cover) → In cs c → c .point .arrival < end) → (most < length (tradeoffsOf (points cs))) ↔ (length (byDeadline (suc most) (λ e. least e cs) end) ≡ suc most)
-unfolding curve
-more-tradeoffs most end cs h = rw (curve-found (suc most) end cs h, length-take, length-reverse) (λ k. omega arith, λ k. omega arith)

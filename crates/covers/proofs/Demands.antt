@@ -1,22 +1,33 @@
 -- Map and list meet the demands, from the bytes of the two sheets.
 use Prim.Native.Nat.{ℕ, _≤_, _<_}
-use mathlib.Core.Path.{_≡_, refl, ap, ap₂, subst}
-use mathlib.Core.List.{List}
+use mathlib.Core.Path.{_≡_, refl, sym, ap, ap₂, subst}
+use mathlib.Core.Logic.{⊎-elim}
+use mathlib.Core.List.{List, List·Memᴰ·head}
 use native.Mathlib.Omega.{arith}
+use lib.ListN.{length, drop}
+use lib.Seq.{take-at}
 use borrow.Author.Tests.{le-leb}
 use Rattle.bits.specs.declared.Cursor.{Cursor}
+use Rattle.shapes.specs.declared.Scan.{Scan}
 use Rattle.shapes.specs.declared.Scan.the-variants.{At}
+use Rattle.shapes.specs.Promises.{Live}
 use Rattle.sheets.specs.Model.{Library, Tree}
 use Rattle.sheets.specs.LibrarySheet.{library}
 use Rattle.sheets.specs.TreeSheet.{tree}
 use Rattle.sheets.specs.Report.{start}
-use Rattle.covers.specs.Cover.{Cover}
-use Rattle.covers.specs.CoverSheet.{coverSheet, listSheet}
+use Rattle.sheets.proofs.Sound.{library-limits, tree-limits}
+use Rattle.covers.specs.Cover.{Point, Cover}
+use Rattle.covers.specs.Tradeoff.{Node, considered}
+use Rattle.covers.specs.CoverSheet.{coverSheet, listSheet, CoverReads, ListReads}
 use Rattle.covers.specs.Answer.{Answer, onSheet, mapAnswer, listAnswer}
-use Rattle.covers.specs.Outcome.{Outcome, refused, sheet, answering, withTree, withLibrary, lent, operation, capacity, mapOutcome, listOutcome}
-use Rattle.covers.specs.Promise.{HighestTooMany, NoneTooMany, Promise, overfull, none-wanted, right}
+use Rattle.covers.specs.Outcome.{Outcome, refused, sheet, told, outputAfter, observed, answering, withTree, withLibrary, lent, operation, capacity, mapOutcome, listOutcome}
+use Rattle.covers.specs.Promise.{HighestTooMany, NoneTooMany, RootTradeoffs}
 use Rattle.covers.specs.Demands.{Demands, MapDemands, ListDemands, WhereSound}
-use Rattle.covers.proofs.Promises.{map-promise, list-promise}
+use Rattle.covers.proofs.Basics.{lt-or-le}
+use Rattle.covers.proofs.Nodes.{root-in}
+use Rattle.covers.proofs.ReadBack.{cover-reads, list-reads}
+use Rattle.covers.proofs.FromSheets.{cover-fits, list-fits}
+use Rattle.covers.proofs.Promises.{Promise, too-many, none-wanted, right, map-promise, list-promise}
 
 -- Outcomes with different numbers differ; a sheet's is 0.
 number : Outcome → ℕ
@@ -35,29 +46,46 @@ module _ {l : Library} {t : Tree} where
   not-both a h = a (h .node) (h .among) (h .tooMany)
 
   -- An answer that keeps its promise, put on its sheet, meets the demands; what is right shows that there is a wanted cover.
-  meets : {A : Type 0} {Wanted : Cover → Type 0} {Right : A → Type 0} (on : A → List ℕ) → ((a : A) → Right a → (c : Cover) × Wanted c) → {r : Answer A} → Promise Wanted Right capacity l t r → Demands Wanted Right on l t (answering (onSheet on r))
+  meets : {A : Type 0} {Wanted : Cover → Type 0} {Right : A → Type 0} (on : A → List ℕ) (Says : A → List ℕ → Type 0) → ((a : A) → Right a → (c : Cover) × Wanted c) → ((a : A) → NoneTooMany capacity l t → Right a → Says a (on a)) → {r : Answer A} → Promise Wanted Right capacity l t r → Demands Wanted Right on Says l t (answering (onSheet on r))
   unfolding answering onSheet number
-  meets on wanted (overfull {k = k} h) = record {
+  meets on Says wanted says (too-many {k = k} h) = record {
     overfull-exactly = (λ e. (h .node, h .among, h .tooMany), λ x. (k, refl));
     overfull-place = λ j. (λ e. subst (HighestTooMany capacity l t) (cc) h, λ g. ap (refused 7) (highest-same h g));
     none-exactly = (λ e. absurd (omega (arith, ap number e)), λ n. absurd (not-both (n .0) h));
     sheet-exactly = (λ e. absurd (omega (arith, ap number (e .1))), λ n. absurd (not-both (n .0) h));
     sheet-is = λ bytes e. absurd (omega (arith, ap number e));
   }
-  meets on wanted (none-wanted a n) = record {
+  meets on Says wanted says (none-wanted a n) = record {
     overfull-exactly = (λ e. absurd (omega (arith, ap number (e .1))), λ x. absurd (a (x .0) (x .1) (x .2)));
     overfull-place = λ j. (λ e. absurd (omega (arith, ap number e)), λ g. absurd (not-both a g));
     none-exactly = (λ e. (a, n), λ x. refl);
     sheet-exactly = (λ e. absurd (omega (arith, ap number (e .1))), λ x. absurd (n (x .1 .0) (x .1 .1)));
     sheet-is = λ bytes e. absurd (omega (arith, ap number e));
   }
-  meets on wanted (right {a = x} a r) = record {
+  meets on Says wanted says (right {a = x} a r) = record {
     overfull-exactly = (λ e. absurd (omega (arith, ap number (e .1))), λ y. absurd (a (y .0) (y .1) (y .2)));
     overfull-place = λ j. (λ e. absurd (omega (arith, ap number e)), λ g. absurd (not-both a g));
     none-exactly = (λ e. absurd (omega (arith, ap number e)), λ n. let w = wanted x r in absurd (n .1 (w .0) (w .1)));
     sheet-exactly = (λ e. (a, wanted x r), λ n. (on x, refl));
-    sheet-is = λ bytes e. (x, cc, r);
+    sheet-is = λ bytes e. let same : bytes ≡ on x = cc in (x, same, rw same (says x a r), r);
   }
+
+-- With no node overfull the root has at most as many trade-offs as a node may have.
+few : {l : Library} {t : Tree} {ps : List Point} → NoneTooMany capacity l t → RootTradeoffs l t ps → length ps ≤ capacity
+unfolding considered
+few {l} {t} {ps} n r = ⊎-elim (λ h. absurd (n root (root-in 0 (t .shape)) record { load = t .load; among = List·Memᴰ·head refl; points = ps; apart = r .earliest-first; each = λ p. r .all p .0; exceeds = h })) (λ h. h) (lt-or-le capacity (length ps))
+  where
+    root : Node
+    root = record { number = 0; shape = t .shape }
+
+sound : {s : Scan} {c : Cursor} → s ≡ At c → Live s
+sound e = subst Live (sym e) tt
+
+-- The caller sees the outcome.
+pub observed-is : (o : Outcome) (output : List ℕ) → observed (told o) (outputAfter o output) ≡ o
+unfolding observed told outputAfter
+observed-is (refused n p) output = refl
+observed-is (sheet s) output = ap sheet (take-at s (drop (length s) output) (length s) refl)
 
 -- A sound library and a sound tree are answered, if what is lent is enough.
 answers : (least : ℕ) (f : Library → Tree → Answer (List ℕ)) (ls ts : List ℕ) (output work : ℕ) {c c′ : Cursor} → least ≤ output → 8192 ≤ work → library ls start .1 ≡ At c → tree ts start .1 ≡ At c′ → operation least f ls ts output work ≡ answering (f (library ls start .0) (tree ts start .0))
@@ -66,8 +94,8 @@ answers least f ls ts output work h g e e′ = rw (le-leb least output h, le-leb
 
 pub map-demands : (ls ts : List ℕ) (output work : ℕ) → WhereSound MapDemands 109 ls ts output work (mapOutcome ls ts output work)
 unfolding mapOutcome mapAnswer
-map-demands ls ts output work c c′ h g e e′ = rw (answers 109 (mapAnswer capacity) ls ts output work h g e e′) (meets coverSheet (λ c r. (c, (r .best .legal, r .best .intime))) (map-promise capacity (library ls start .0) (tree ts start .0)))
+map-demands ls ts output work c c′ h g e e′ = rw (answers 109 (mapAnswer capacity) ls ts output work h g e e′) (meets coverSheet CoverReads (λ c r. (c, (r .best .legal, r .best .intime))) (λ c n r. cover-reads (cover-fits (library-limits ls (sound e)) (tree-limits ts (sound e′)) (r .best .legal))) (map-promise capacity (library ls start .0) (tree ts start .0)))
 
 pub list-demands : (ls ts : List ℕ) (output work : ℕ) → WhereSound ListDemands 179 ls ts output work (listOutcome ls ts output work)
 unfolding listOutcome listAnswer
-list-demands ls ts output work c c′ h g e e′ = rw (answers 179 (listAnswer capacity) ls ts output work h g e e′) (meets listSheet (λ ps r. let p = r .all (r .one .0) .0 (r .one .1) in (p .cover, p .among)) (list-promise capacity (library ls start .0) (tree ts start .0)))
+list-demands ls ts output work c c′ h g e e′ = rw (answers 179 (listAnswer capacity) ls ts output work h g e e′) (meets listSheet ListReads (λ ps r. let p = r .all (r .one .0) .0 (r .one .1) in (p .cover, p .among)) (λ ps n r. list-reads (list-fits (library-limits ls (sound e)) (tree-limits ts (sound e′)) (few n r) (λ p. r .all p .0))) (list-promise capacity (library ls start .0) (tree ts start .0)))

@@ -22,7 +22,7 @@ use Rattle.covers.proofs.Deadline.{bestInputs, bestMatch, bestOf, least
 use Rattle.covers.proofs.Matching.{matches-are, match-inside, spread-in}
 use Rattle.covers.proofs.Unroll.{covers-unroll, gate-covers}
 use Rattle.covers.proofs.Handed.{pattern-reaches}
-use Rattle.covers.proofs.Curve.{curve-is, lookup-is-least, curve-found, more-tradeoffs}
+use Rattle.covers.proofs.Curve.{curve-is, lookup-is-least, curve-found}
 use Rattle.covers.proofs.Nodes.{nodeOf, input-in, nodes-within}
 use Rattle.covers.proofs.Ascending.{ascending-range, ascending-unique}
 use Rattle.covers.proofs.Overfull.{nodes-ascend}
@@ -90,15 +90,6 @@ module _ (l : Library) where
     unfolding bestMatch
     reaches-from-table load {p = p} {m = m} f k = rw (inputs-same (fromTable l table) (leastInput (allBelow l)) (m .pattern .cell) load (suc (p .arrival)) (m .inputs) (input-best (matches-are l load n s k))) (pattern-reaches l load n s f k)
 
-    -- So deadlines find its curve, up to one point more than `most`, and all of it if it has no more than that.
+    -- So deadlines find its curve, as far as they go.
     pub curve-from-table : (k load end : ℕ) → 0 < gates s → ((c : Cover) → In (covers l load n s) c → c .point .arrival < end) → byDeadline k (λ e. bestOf (fromTable l table) load e (matches l load n s)) end ≡ take k (curve (covers l load n s))
     curve-from-table k load end g h = ap (λ f. byDeadline k f end) (fun-ext (λ e. best-from-table load e g)) ∙ curve-found k end (covers l load n s) h
-
-    pub whole-curve-from-table : (most load end : ℕ) → 0 < gates s → ((c : Cover) → In (covers l load n s) c → c .point .arrival < end) → length (tradeoffs l load n s) ≤ most → byDeadline (suc most) (λ e. bestOf (fromTable l table) load e (matches l load n s)) end ≡ curve (covers l load n s)
-    unfolding curve tradeoffs
-    whole-curve-from-table most load end g h few = curve-from-table (suc most) load end g h ∙ take-all (suc most) (curve (covers l load n s)) (simp length-reverse (omega arith))
-
-    -- And there are more trade-offs than `most` exactly when one point more than that is found.
-    pub more-from-table : (most load end : ℕ) → 0 < gates s → ((c : Cover) → In (covers l load n s) c → c .point .arrival < end) → (most < length (tradeoffs l load n s)) ↔ (length (byDeadline (suc most) (λ e. bestOf (fromTable l table) load e (matches l load n s)) end) ≡ suc most)
-    unfolding tradeoffs
-    more-from-table most load end g h = let e = ap (λ f. length (byDeadline (suc most) f end)) (fun-ext (λ e. best-from-table load e g)) in rw e (more-tradeoffs most end (covers l load n s) h)

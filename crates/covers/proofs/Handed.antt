@@ -234,11 +234,3 @@ module _ (l : Library) where
     -- None is handed over only if no legal cover meets the time.
     pub choice-none : choice l load n s time ≡ none → (d : Cover) → IsCover l load n s d → time < d .point .arrival
     choice-none e d k = least-none (least-is (suc time) (covers l load n s)) (sym (choice-point load n s time) ∙ ap pointOf e) d (covers-all l k)
-
-    -- One is handed over exactly when some legal cover meets the time.
-    pub choice-exactly : ((c : Cover) × (choice l load n s time ≡ some c)) ↔ ((d : Cover) × IsCover l load n s d × (d .point .arrival ≤ time))
-    choice-exactly = (λ r. let h = choice-handed (r .1) in (r .0, h .legal, h .intime), λ r. go (choice l load n s time) refl (r .0) (r .1) (r .2))
-      where
-        go : (o : Option Cover) → choice l load n s time ≡ o → (d : Cover) → IsCover l load n s d → d .point .arrival ≤ time → (c : Cover) × (o ≡ some c)
-        go none e d k t = absurd (omega (arith, choice-none e d k))
-        go (some c) e d k t = (c, refl)

@@ -16,9 +16,9 @@ pub mod Curve
 pub mod Nodes
 pub mod Overfull
 pub mod Promises
-pub mod Demands
 pub mod Bounds
 pub mod SheetLengths
 pub mod ReadBack
 pub mod Filling
 pub mod FromSheets
+pub mod Demands

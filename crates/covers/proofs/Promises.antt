@@ -10,8 +10,8 @@ use Rattle.covers.specs.Cover.{Point, Cover}
 use Rattle.covers.specs.Enumeration.{covers}
 use Rattle.covers.specs.Tradeoff.{Climbing, points, tradeoffs, Node, nodes, TooMany, overfull, overfullNode}
 use Rattle.covers.specs.Choice.{choice}
-use Rattle.covers.specs.Answer.{answered, mapped, nonempty, listed}
-use Rattle.covers.specs.Promise.{RootCover, HighestTooMany, NoneTooMany, Promise, none-wanted, right, MapPromise, ListPromise}
+use Rattle.covers.specs.Answer.{Answer, overfullAt, noCover, success, answered, mapped, nonempty, listed}
+use Rattle.covers.specs.Promise.{RootCover, HighestTooMany, NoneTooMany, InTime, BestCover, RootTradeoffs}
 use Rattle.covers.proofs.Least.{LeastOf, absent, found, In, least-is}
 use Rattle.covers.proofs.Relation.{covers-all}
 use Rattle.covers.proofs.Listing.{area-listed}
@@ -20,6 +20,20 @@ use Rattle.covers.proofs.Handed.{choice-handed, choice-none}
 use Rattle.covers.proofs.Tradeoffs.{tradeoffs-climb, tradeoffs-legal, tradeoffs-are}
 use Rattle.covers.proofs.Curve.{least-is-tradeoff}
 use Rattle.covers.proofs.Overfull.{LastOf, nowhere, at, overfull-when, overfull-named}
+
+-- What an answer promises where covers of a wanted kind are asked for: it names the highest node with too many trade-offs; or there is no such node,
+-- and either it says no cover and there is none of that kind, or what it hands over is right.
+pub data Promise {A : Type 0} (Wanted : Cover → Type 0) (Right : A → Type 0) (most : ℕ) (l : Library) (t : Tree) : Answer A → Type 0 where
+  too-many : {k : ℕ} → HighestTooMany most l t k → Promise Wanted Right most l t (overfullAt k)
+  none-wanted : NoneTooMany most l t → ((c : Cover) → Wanted c → ⊥) → Promise Wanted Right most l t noCover
+  right : {a : A} → NoneTooMany most l t → Right a → Promise Wanted Right most l t (success a)
+
+-- Of map those in time are wanted, of list all legal ones.
+abbrev pub MapPromise : ℕ → Library → Tree → Answer Cover → Type 0
+MapPromise most l t = Promise (InTime l t) (BestCover l t) most l t
+
+abbrev pub ListPromise : ℕ → Library → Tree → Answer (List Point) → Type 0
+ListPromise most l t = Promise (RootCover l t) (RootTradeoffs l t) most l t
 
 module _ (most : ℕ) (l : Library) (t : Tree) where
   fails : {x : Node} → overfull most l t x ≡ false → TooMany most l t x → ⊥
@@ -42,7 +56,7 @@ module _ (most : ℕ) (l : Library) (t : Tree) where
   map-promise = go counted (choice l (t .load) 0 (t .shape) (t .required)) refl
     where
       go : {o : Option ℕ} → Counted o → (c : Option Cover) → choice l (t .load) 0 (t .shape) (t .required) ≡ c → MapPromise most l t (answered o c)
-      go (exceeds h) c e = Promise.overfull h
+      go (exceeds h) c e = too-many h
       go (fits a) none e = none-wanted a (λ c k. omega (arith, choice-none l (t .load) 0 (t .shape) (t .required) e c (k .0), k .1))
       go (fits a) (some c) e = let h = choice-handed l (t .load) 0 (t .shape) (t .required) e in right a record { best = h; area-is = area-listed l (h .legal); only = λ d k. placed-determines k (h .legal) }
 
@@ -60,7 +74,7 @@ module _ (most : ℕ) (l : Library) (t : Tree) where
   list-promise = go counted (tradeoffs l (t .load) 0 (t .shape)) refl
     where
       go : {o : Option ℕ} → Counted o → (ps : List Point) → tradeoffs l (t .load) 0 (t .shape) ≡ ps → ListPromise most l t (answered o (nonempty ps))
-      go (exceeds h) ps e = Promise.overfull h
+      go (exceeds h) ps e = too-many h
       go (fits a) [] e = none-wanted a (none-listed e)
       go (fits a) (p ∷ ps) e = right a record {
         one = (p, List·Memᴰ·head refl);

@@ -9,7 +9,7 @@ use lib.ListN.{length, getD, replicate, length-replicate}
 use Rattle.bits.specs.Bits.{bytesTo, valueAt, withField}
 use Rattle.bits.proofs.Laws.{length-field, value-field, value-beside}
 use Rattle.covers.specs.Cover.{Point, Placed, Cover}
-use Rattle.covers.specs.CoverSheet.{Field, widths, written, packed, placedFields, coverFields, pointFields, listFields, coverSheet, listSheet}
+use Rattle.covers.specs.CoverSheet.{Field, widths, written, packed, placedFields, coverFields, pointFields, listFields, coverSheet, listSheet, CoverReads, ListReads}
 
 -- Fields written from place i on leave what stands before it.
 written-before : (fs : List Field) (i : ℕ) (s : List ℕ) (j u : ℕ) → j + u ≤ i → valueAt (written fs i s) j u ≡ valueAt s j u
@@ -69,14 +69,6 @@ pub record CoverFits (c : Cover) : Type 0 where
   pub count : length (c .placed) < 2 ^ 6
   pub placed : (x : Placed) → List·Memᴰ x (c .placed) → (x .node < 2 ^ 6) × (x .pattern < 2 ^ 7)
 
--- Bytes that read as a cover sheet of the cover.
-pub record CoverReads (c : Cover) (s : List ℕ) : Type 0 where
-  pub area : valueAt s 0 22 ≡ c .point .area
-  pub arrival : valueAt s 22 24 ≡ c .point .arrival
-  pub count : valueAt s 46 6 ≡ length (c .placed)
-  pub node : (k : ℕ) (d : Placed) → k < length (c .placed) → valueAt s (52 + 13 * k) 6 ≡ getD (c .placed) k d .node
-  pub pattern : (k : ℕ) (d : Placed) → k < length (c .placed) → valueAt s (58 + 13 * k) 7 ≡ getD (c .placed) k d .pattern
-
 pub cover-reads : {c : Cover} → CoverFits c → CoverReads c (coverSheet c)
 unfolding coverSheet coverFields placedFields widths
 cover-reads {c} h =
@@ -99,12 +91,6 @@ cover-reads {c} h =
 pub record ListFits (ps : List Point) : Type 0 where
   pub count : length ps < 2 ^ 5
   pub points : (p : Point) → List·Memᴰ p ps → (p .arrival < 2 ^ 24) × (p .area < 2 ^ 22)
-
--- Bytes that read as a list sheet of the trade-offs.
-pub record ListReads (ps : List Point) (s : List ℕ) : Type 0 where
-  pub count : valueAt s 0 5 ≡ length ps
-  pub arrival : (k : ℕ) (d : Point) → k < length ps → valueAt s (5 + 46 * k) 24 ≡ getD ps k d .arrival
-  pub area : (k : ℕ) (d : Point) → k < length ps → valueAt s (29 + 46 * k) 22 ≡ getD ps k d .area
 
 pub list-reads : {ps : List Point} → ListFits ps → ListReads ps (listSheet ps)
 unfolding listSheet listFields pointFields widths

@@ -11,12 +11,12 @@ use Rattle.sheets.specs.TreeSheet.{tree}
 use Rattle.sheets.specs.Report.{start}
 use Rattle.covers.specs.Cover.{Cover}
 use Rattle.covers.specs.Tradeoff.{Node, nodes, TooMany}
-use Rattle.covers.specs.CoverSheet.{coverSheet, listSheet}
+use Rattle.covers.specs.CoverSheet.{coverSheet, listSheet, CoverReads, ListReads}
 use Rattle.covers.specs.Outcome.{Outcome, refused, sheet, capacity}
 use Rattle.covers.specs.Promise.{RootCover, InTime, BestCover, RootTradeoffs, HighestTooMany, NoneTooMany}
 
 -- Covers of a wanted kind are asked for, and what is right is put on a sheet.
-pub record Demands {A : Type 0} (Wanted : Cover → Type 0) (Right : A → Type 0) (on : A → List ℕ) (l : Library) (t : Tree) (o : Outcome) : Type 0 where
+pub record Demands {A : Type 0} (Wanted : Cover → Type 0) (Right : A → Type 0) (on : A → List ℕ) (Says : A → List ℕ → Type 0) (l : Library) (t : Tree) (o : Outcome) : Type 0 where
   -- Demand 3. Overfull (document 01's "crowded") is said exactly when some node has more than 31 trade-offs under a load considered there,
   pub overfull-exactly : ((k : ℕ) × (o ≡ refused 7 k)) ↔ ((x : Node) × List·Memᴰ x (nodes 0 (t .shape)) × TooMany capacity l t x)
   -- and its place is the highest-numbered such node.
@@ -25,16 +25,16 @@ pub record Demands {A : Type 0} (Wanted : Cover → Type 0) (Right : A → Type 
   pub none-exactly : (o ≡ refused 8 0) ↔ (NoneTooMany capacity l t × ((c : Cover) → Wanted c → ⊥))
   -- A sheet is handed over exactly when there is no such node and some cover of the wanted kind.
   pub sheet-exactly : ((bytes : List ℕ) × (o ≡ sheet bytes)) ↔ (NoneTooMany capacity l t × ((c : Cover) × Wanted c))
-  -- Demand 2. The sheet's bytes say what is right.
-  pub sheet-is : (bytes : List ℕ) → o ≡ sheet bytes → (a : A) × (bytes ≡ on a) × Right a
+  -- Demand 2. The sheet is that of what is right, and its fields say it.
+  pub sheet-is : (bytes : List ℕ) → o ≡ sheet bytes → (a : A) × (bytes ≡ on a) × Says a bytes × Right a
 
 -- Map is asked for a cover in time and hands over the best.
 abbrev pub MapDemands : Library → Tree → Outcome → Type 0
-MapDemands l t = Demands (InTime l t) (BestCover l t) coverSheet l t
+MapDemands l t = Demands (InTime l t) (BestCover l t) coverSheet CoverReads l t
 
 -- List is asked for any legal cover and hands over the trade-offs of them all.
 abbrev pub ListDemands : Library → Tree → Outcome → Type 0
-ListDemands l t = Demands (RootCover l t) (RootTradeoffs l t) listSheet l t
+ListDemands l t = Demands (RootCover l t) (RootTradeoffs l t) listSheet ListReads l t
 
 -- An outcome meets the demands of the library and the tree on the two sheets, if enough is lent and both sheets are sound.
 abbrev pub WhereSound : (Library → Tree → Outcome → Type 0) → ℕ → List ℕ → List ℕ → ℕ → ℕ → Outcome → Type 0

@@ -1,9 +1,9 @@
 -- The whole answer of map and of list, from the bytes of the two sheets and the lengths of what is lent: a number and a place, or the sheet.
 use Prim.Native.Nat.{ℕ, _+_, _*_, _^_}
-use mathlib.Core.Bool.{Bool, cond, _&&_, _||_}
+use mathlib.Core.Bool.{cond, _&&_, _||_}
 use mathlib.Core.List.{List, _++_}
 use lib.Dec.{leb, eqb}
-use lib.ListN.{length, drop, replicate}
+use lib.ListN.{length, take, drop, replicate}
 use Rattle.shapes.specs.declared.Scan.{Scan}
 use Rattle.shapes.specs.declared.Scan.the-variants.{At, Refused}
 use Rattle.sheets.specs.Model.{Library, Tree}
@@ -75,6 +75,11 @@ word (bytes n) = n
 unfoldable pub outputAfter : Outcome → List ℕ → List ℕ
 outputAfter (refused number place) output = output
 outputAfter (sheet s) output = s ++ drop (length s) output
+
+-- The outcome as the caller sees it: what it is told, and the first bytes of the output.
+unfoldable pub observed : Told → List ℕ → Outcome
+observed (refusal number place) output = refused number place
+observed (bytes n) output = sheet (take n output)
 
 -- The first n words are zero, and those beyond are as they were.
 unfoldable pub cleared : ℕ → List ℕ → List ℕ

@@ -8,7 +8,6 @@ use lib.ListN.{getElem?}
 use Rattle.sheets.specs.Model.{Shape, Library, Tree, Pattern, patterns}
 use Rattle.covers.specs.Cover.{Point, Placed, Cover, IsCover}
 use Rattle.covers.specs.Tradeoff.{IsTradeoff, Climbing, Node, nodes, TooMany}
-use Rattle.covers.specs.Answer.{Answer, overfullAt, noCover, success}
 
 -- The number of the pattern at a cover's root; 0 for a cover with no match.
 unfoldable pub rootPattern : Cover → ℕ
@@ -69,17 +68,3 @@ pub record RootTradeoffs (l : Library) (t : Tree) (ps : List Point) : Type 0 whe
   pub one : (p : Point) × List·Memᴰ p ps
   pub all : (p : Point) → List·Memᴰ p ps ↔ IsTradeoff (RootCover l t) p
   pub earliest-first : Climbing ps
-
--- What an answer promises where covers of a wanted kind are asked for: it names the highest node with too many trade-offs; or there is no such node,
--- and either it says no cover and there is none of that kind, or what it hands over is right.
-pub data Promise {A : Type 0} (Wanted : Cover → Type 0) (Right : A → Type 0) (most : ℕ) (l : Library) (t : Tree) : Answer A → Type 0 where
-  overfull : {k : ℕ} → HighestTooMany most l t k → Promise Wanted Right most l t (overfullAt k)
-  none-wanted : NoneTooMany most l t → ((c : Cover) → Wanted c → ⊥) → Promise Wanted Right most l t noCover
-  right : {a : A} → NoneTooMany most l t → Right a → Promise Wanted Right most l t (success a)
-
--- Of map those in time are wanted, of list all legal ones.
-abbrev pub MapPromise : ℕ → Library → Tree → Answer Cover → Type 0
-MapPromise most l t = Promise (InTime l t) (BestCover l t) most l t
-
-abbrev pub ListPromise : ℕ → Library → Tree → Answer (List Point) → Type 0
-ListPromise most l t = Promise (RootCover l t) (RootTradeoffs l t) most l t

@@ -8,7 +8,7 @@ ghost use lib.ListN.{length};
 ghost use Rattle.sheets.specs.Report.{word, libraryReport, treeReport};
 ghost use Rattle.covers.specs.Outcome.{told, mapOutcome, listOutcome};
 ghost use Rattle.covers.specs.Outcome.{word as wordOf};
-ghost use Rattle.mapper.specs.Promises.{ofReply, Limited};
+ghost use Rattle.mapper.specs.Said.{ofReply, Limited};
 ghost use Rattle.operations.specs.Promises.{Leaves};
 
 // A refusal in one word.

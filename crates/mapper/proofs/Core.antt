@@ -22,7 +22,8 @@ use Rattle.mapper.specs.declared.Task.{Task}
 use Rattle.mapper.specs.declared.Task.the-variants.{Cover, Tradeoffs}
 use Rattle.mapper.specs.declared.Reply.{Reply}
 use Rattle.mapper.specs.declared.Reply.the-variants.{Refused}
-use Rattle.mapper.specs.Promises.{Put, kept, put, Asked, Curved, taskAnswer, replyTo, ofReply, Limited, Replied, Start}
+use Rattle.mapper.specs.Said.{ofReply, Limited}
+use Rattle.mapper.specs.Promises.{Put, kept, put, Asked, Curved, taskAnswer, replyTo, Replied, Start}
 
 -- A node is numbered below the tree's size.
 node-small : (most : ℕ) (l : Library) {t : Tree} {n : ℕ} → SoundTree t → overfullNode most l t ≡ some n → n < 2 ^ 20

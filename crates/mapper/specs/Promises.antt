@@ -1,5 +1,5 @@
--- What map and list are given once the curves are stored, and what they leave in the output.
-use Prim.Native.Nat.{ℕ, _≤_, _<_, _^_}
+-- What the functions of this crate are given, before the curves and after them, and what they leave in the output.
+use Prim.Native.Nat.{ℕ, _≤_}
 use mathlib.Core.Path.{_≡_}
 use mathlib.Core.List.{List}
 use mathlib.Core.Option.{Option, none, some}
@@ -11,7 +11,7 @@ use Rattle.sheets.specs.Layout.{padded}
 use Rattle.sheets.specs.Sound.{SoundTree}
 use Rattle.covers.specs.Tradeoff.{overfullNode}
 use Rattle.covers.specs.Answer.{Answer, mapAnswer, listAnswer}
-use Rattle.covers.specs.Outcome.{Outcome, Told, refusal, bytes, told, outputAfter, capacity}
+use Rattle.covers.specs.Outcome.{Outcome, told, outputAfter, capacity}
 use Rattle.curves.specs.Stored.{Stored}
 use Rattle.filling.specs.Promises.{FillStart}
 use Rattle.choosing.specs.Promises.{Decoded}
@@ -22,6 +22,7 @@ use Rattle.mapper.specs.declared.Task.{Task}
 use Rattle.mapper.specs.declared.Task.the-variants.{Cover, Tradeoffs}
 use Rattle.mapper.specs.declared.Reply.{Reply}
 use Rattle.mapper.specs.declared.Reply.the-variants.{Refused, Sheet}
+use Rattle.mapper.specs.Said.{ofReply, Limited}
 
 -- No sheet, and the output as it was; or the sheet at the front of the output, and its length.
 pub data Put (entry exit : List ℕ) : Option (List ℕ) → Chosen → Type 0 where
@@ -57,16 +58,6 @@ taskAnswer Tradeoffs = listAnswer
 unfoldable pub replyTo : Chosen → Reply
 replyTo NoCover = Refused 8 0
 replyTo (Bytes r) = Sheet r
-
--- What each case of the reply says.
-unfoldable pub ofReply : Reply → Told
-ofReply (Refused number place) = refusal number place
-ofReply (Sheet n) = bytes n
-
--- The limits that a reply keeps, so that a refusal fits in a word.
-unfoldable pub Limited : Reply → Type 0
-Limited (Refused number place) = (number ≤ 16) × (place < 2 ^ 20)
-Limited (Sheet n) = Unit {0}
 
 -- The reply says what the outcome tells, and the output is what the outcome leaves.
 pub record Replied (entry exit : List ℕ) (o : Outcome) (r : Reply) : Type 0 where

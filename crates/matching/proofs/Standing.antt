@@ -80,16 +80,3 @@ module _ (ss zs : List ℕ) where
       stands = stands-everywhere x m;
       ends = omega (arith, node-ends 0 root m);
     }
-
--- What `find_matches` is lent, from the decoded library and the decoded tree, at every node.
-pub ready-everywhere : (l : Library) (t : Tree) → SoundLibrary l → size (t .shape) ≤ 64 → (x : Node) → List·Memᴰ x (nodes 0 (t .shape)) →
-    Ready (libraryLaid l .rows) (libraryLaid l .total) (libraryLaid l .cells) (treeLaid t .symbols) (treeLaid t .sizes) (x .number) 8704 l (x .shape)
-unfolding libraryLaid treeLaid
-ready-everywhere l t h small x m = record {
-  sound = h;
-  rows-are = refl;
-  total-is = refl;
-  cells-are = refl;
-  subject = subject-everywhere (treeLaid t .symbols) (treeLaid t .sizes) (t .shape) small refl refl x m;
-  room-is = refl;
-}

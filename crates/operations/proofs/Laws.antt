@@ -1,5 +1,5 @@
 -- From the records that the readers hand over to what the core is given, and the work area after it.
-use mathlib.Core.Path.{_≡_, refl, sym, ap, subst, _∙_}
+use mathlib.Core.Path.{_≡_, refl, sym, ap, ap₂, subst, _∙_}
 use mathlib.Core.List.{List, _++_}
 use Prim.Native.Nat.{ℕ, _-_, _≤_, _<_, _^_}
 use native.Mathlib.Omega.{arith}
@@ -32,10 +32,12 @@ use Rattle.sheets.specs.Report as Report
 use Rattle.sheets.proofs.Sound.{library-limits, tree-limits}
 use Rattle.sheets.proofs.Whole.{library-refused-limited, tree-refused-limited}
 use Rattle.covers.specs.Answer.{Answer, overfullAt, noCover, success}
-use Rattle.covers.specs.Outcome.{Outcome, refused, told, outputAfter, cleared, workAfter, answering, withTree, withLibrary, lent, operation}
+use Rattle.covers.specs.Outcome.{Outcome, refused, told, outputAfter, observed, cleared, workAfter, answering, withTree, withLibrary, lent, operation}
+use Rattle.covers.proofs.Demands.{observed-is}
 use Rattle.mapper.specs.declared.Reply.{Reply}
 use Rattle.mapper.specs.declared.Reply.the-variants as Reply
-use Rattle.mapper.specs.Promises.{ofReply, Limited, Replied}
+use Rattle.mapper.specs.Said.{ofReply, Limited}
+use Rattle.mapper.specs.Promises.{Replied}
 use Rattle.operations.specs.Promises.{Laid, LibraryLaid, Operated}
 
 -- The first n words of a work area that begins with n zeros.
@@ -65,9 +67,6 @@ start-of {library = library} {tree} g work work′ found long e room len = recor
 pub time-of : {l : Library} {t : Tree} {library : LibraryRecord} {tree : TreeRecord} → Laid l t library tree → tree .required ≡ t .required
 unfolding treeLaid
 time-of g = ap (λ (r : TreeRecord). r .required) (g .tree-is)
-
-pub taken-length : (n : ℕ) (l : List ℕ) → n ≤ length l → length (take n l) ≡ n
-taken-length n l h = omega (arith, length-take n l, h)
 
 -- Cleared a second time, after the words in front were lent: those beyond are as they were.
 pub cleared-again : (n : ℕ) (work before part after : List ℕ) → before ≡ replicate n 0 ++ drop n work → length part ≡ length (midOf 0 (n - 0) before) → n ≤ length before → after ≡ replicate n 0 ++ drop n (putMid 0 (n - 0) before part) → after ≡ cleared n work
@@ -161,3 +160,7 @@ module _ (least : ℕ) (answer : Library → Tree → Answer (List ℕ)) (ls ts 
         subst (λ (o : Outcome). Operated o output output work work (Reply.Refused n p))
         (ap (λ (q : Scan). withLibrary answer (libraryOf ls start .0, q) (treeOf ts start)) (sym e ∙ h .scan-is) ∙ sym (enough least (length output) (length work) (withLibrary answer (libraryOf ls start) (treeOf ts start)) long room))
         (untouched output work (libraryNumber f) p n (k .0) (library-spared f p work) (omega (arith, k)) (library-refused-limited ls read h f p e))
+
+-- The caller sees the outcome, and so what is demanded of it.
+pub seen : {o : Outcome} {output output′ work work′ : List ℕ} {r : Reply} → Operated o output output′ work work′ r → observed (ofReply r) output′ ≡ o
+seen {o} {output} h = ap₂ observed (h .reply-is) (h .leaves .output-is) ∙ observed-is o output

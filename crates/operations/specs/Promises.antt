@@ -8,7 +8,7 @@ use Rattle.sheets.specs.Model.{Library, Tree}
 use Rattle.sheets.specs.Layout.{libraryLaid, treeLaid}
 use Rattle.covers.specs.Outcome.{Outcome, told, outputAfter, workAfter}
 use Rattle.mapper.specs.declared.Reply.{Reply}
-use Rattle.mapper.specs.Promises.{ofReply, Limited}
+use Rattle.mapper.specs.Said.{ofReply, Limited}
 use Rattle.sheets.specs.Sound.{SoundLibrary, SoundTree}
 
 -- A sound library and a sound tree in the records that the readers hand over.

@@ -13,8 +13,9 @@ ghost use lib.ListN.{length};
 ghost use Rattle.sheets.specs.Model.{Library, Tree};
 ghost use Rattle.sheets.specs.TreeSheet.{tree as treeOf};
 ghost use Rattle.sheets.specs.Report.{start};
-ghost use Rattle.covers.specs.Outcome.{capacity, answering, cleared, withTree, operation, mapOutcome, listOutcome};
+ghost use Rattle.covers.specs.Outcome.{capacity, answering, observed, cleared, withTree, operation, mapOutcome, listOutcome};
 ghost use Rattle.covers.specs.Demands.{MapDemands, ListDemands, WhereSound};
+ghost use Rattle.mapper.specs.Said.{ofReply};
 ghost use Rattle.mapper.specs.Promises.{leastOutput, taskAnswer, Replied};
 ghost use Rattle.operations.specs.Promises.{Laid, LibraryLaid, Operated};
 
@@ -108,7 +109,7 @@ fn operate(task: Task, library: &[u8], tree: &[u8], output: &mut [u8], work: &mu
 // The cover of a tree by a library's cells: the smallest that meets the required time, then the earliest.
 pub fn map(library: &[u8], tree: &[u8], output: &mut [u8], work: &mut [u64]) -> Reply
     ensures { λ r. ⌜ Operated (mapOutcome (now (library .entry)) (now (tree .entry)) (length (now (output .entry))) (length (now (work .entry)))) (now (output .entry)) (now (output .exit)) (now (work .entry)) (now (work .exit)) r ⌝ }
-    ensures { λ r. ⌜ WhereSound MapDemands 109 (now (library .entry)) (now (tree .entry)) (length (now (output .entry))) (length (now (work .entry))) (mapOutcome (now (library .entry)) (now (tree .entry)) (length (now (output .entry))) (length (now (work .entry)))) ⌝ }
+    ensures { λ r. ⌜ WhereSound MapDemands 109 (now (library .entry)) (now (tree .entry)) (length (now (output .entry))) (length (now (work .entry))) (observed (ofReply r) (now (output .exit))) ⌝ }
 {
     operate(Task::Cover, library, tree, output, work)
 }
@@ -116,7 +117,7 @@ pub fn map(library: &[u8], tree: &[u8], output: &mut [u8], work: &mut [u64]) -> 
 // Every trade-off of a tree's root, earliest first.
 pub fn list(library: &[u8], tree: &[u8], output: &mut [u8], work: &mut [u64]) -> Reply
     ensures { λ r. ⌜ Operated (listOutcome (now (library .entry)) (now (tree .entry)) (length (now (output .entry))) (length (now (work .entry)))) (now (output .entry)) (now (output .exit)) (now (work .entry)) (now (work .exit)) r ⌝ }
-    ensures { λ r. ⌜ WhereSound ListDemands 179 (now (library .entry)) (now (tree .entry)) (length (now (output .entry))) (length (now (work .entry))) (listOutcome (now (library .entry)) (now (tree .entry)) (length (now (output .entry))) (length (now (work .entry)))) ⌝ }
+    ensures { λ r. ⌜ WhereSound ListDemands 179 (now (library .entry)) (now (tree .entry)) (length (now (output .entry))) (length (now (work .entry))) (observed (ofReply r) (now (output .exit))) ⌝ }
 {
     operate(Task::Tradeoffs, library, tree, output, work)
 }

@@ -23,7 +23,7 @@ use Rattle.sheets.specs.Report.{start}
 use Rattle.writing.specs.Written.{Written}
 use Rattle.lines.specs.Text.{decimal, spaced, line, Appended}
 use Rattle.lines.proofs.Laws.{length-spaced, length-line, appended-both}
-use Rattle.printing.specs.Printed.{coverWord, refusedWord, coverLine, refusalLine, spoiledLine, mapText, statedLength, spoiled, printed, fitting}
+use Rattle.printing.specs.Printed.{coverWord, refusedWord, coverLine, refusalLine, spoiledLine, mapText, statedLength, spoiled, printed, printedWithin}
 use Rattle.printing.specs.Fields.{rowsOf, areaIn, arrivalIn, countIn, nodeIn, patternIn, fieldLine, fieldLines, sheetText}
 
 -- A field that the bytes have.
@@ -86,9 +86,9 @@ module _ (input : List ℕ) where
   unfolding spoiled
   spoiled-long g h = rw (le-ltb (length input) 2 g, lt-ltb 4096 (length input) h)
 
-  pub spoiled-torn : 2 ≤ length input → length input ≤ 4096 → spoiled input ≡ ltb (length input) (2 + statedLength input)
+  pub spoiled-truncated : 2 ≤ length input → length input ≤ 4096 → spoiled input ≡ ltb (length input) (2 + statedLength input)
   unfolding spoiled
-  spoiled-torn g h = rw (le-ltb (length input) 2 g, le-ltb 4096 (length input) h)
+  spoiled-truncated g h = rw (le-ltb (length input) 2 g, le-ltb 4096 (length input) h)
 
   pub whole : spoiled input ≡ false → (2 ≤ length input) × (2 + statedLength input ≤ length input)
   unfolding spoiled
@@ -102,18 +102,18 @@ module _ (input : List ℕ) where
   -- ---- what is put at the front of a text
 
   module _ (room : ℕ) where
-    pub fitting-none : room < 655 → fitting room input ≡ []
-    unfolding fitting
+    pub fitting-none : room < 655 → printedWithin room input ≡ []
+    unfolding printedWithin
     fitting-none h = rw (lt-leb 655 room h)
 
     module _ (h : 655 ≤ room) where
-      pub fitting-spoiled : spoiled input ≡ true → fitting room input ≡ spoiledLine
-      unfolding fitting printed
+      pub fitting-spoiled : spoiled input ≡ true → printedWithin room input ≡ spoiledLine
+      unfolding printedWithin printed
       fitting-spoiled e = rw (le-leb 655 room h, e)
 
       -- The library and the tree as the parts of the input that map is handed.
-      pub fitting-whole : spoiled input ≡ false → (n : ℕ) → n ≡ statedLength input → fitting room input ≡ mapText (take (2 + n - 2) (drop 2 input)) (take (length input - (2 + n)) (drop (2 + n) input))
-      unfolding fitting printed
+      pub fitting-whole : spoiled input ≡ false → (n : ℕ) → n ≡ statedLength input → printedWithin room input ≡ mapText (take (2 + n - 2) (drop 2 input)) (take (length input - (2 + n)) (drop (2 + n) input))
+      unfolding printedWithin printed
       fitting-whole e n f =
           let size : statedLength input ≡ 2 + n - 2 = omega arith in
           let rest = drop (2 + n) input in

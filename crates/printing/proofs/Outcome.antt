@@ -4,7 +4,6 @@ use mathlib.Core.Path.{_≡_, refl, sym, ap, subst, _∙_}
 use mathlib.Core.List.{List}
 use native.Mathlib.Omega.{arith}
 use lib.ListN.{length, take, drop, length-append}
-use lib.Seq.{take-at}
 use Rattle.shapes.specs.declared.Scan.{Scan}
 use Rattle.shapes.specs.declared.Scan.the-variants.{At, Refused}
 use Rattle.shapes.specs.Promises.{Live}
@@ -15,14 +14,15 @@ use Rattle.sheets.specs.Report.{start}
 use Rattle.sheets.proofs.Sound.{library-limits, tree-limits}
 use Rattle.covers.specs.Cover.{Cover}
 use Rattle.covers.specs.CoverSheet.{coverSheet}
-use Rattle.covers.specs.Promise.{RootCover, MapPromise, overfull, none-wanted, right}
+use Rattle.covers.specs.Promise.{RootCover}
 use Rattle.covers.specs.Answer.{Answer, overfullAt, noCover, success, mapped, onSheet, mapAnswer}
-use Rattle.covers.specs.Outcome.{Outcome, refused, sheet, told, outputAfter, answering, withTree, withLibrary, lent, operation, capacity, mapOutcome}
-use Rattle.covers.proofs.Promises.{map-promise}
+use Rattle.covers.specs.Outcome.{Outcome, refused, sheet, told, outputAfter, observed, answering, withTree, withLibrary, lent, operation, capacity, mapOutcome}
+use Rattle.covers.proofs.Promises.{MapPromise, too-many, none-wanted, right, map-promise}
 use Rattle.mapper.specs.declared.Reply.{Reply}
 use Rattle.mapper.specs.declared.Reply.the-variants as Reply
-use Rattle.mapper.specs.Promises.{ofReply}
+use Rattle.mapper.specs.Said.{ofReply}
 use Rattle.operations.specs.Promises.{Operated}
+use Rattle.operations.proofs.Laws.{seen}
 use Rattle.lines.specs.Text.{decimal}
 use Rattle.lines.proofs.Laws.{decimal-fits, length-last}
 use Rattle.printing.specs.Printed.{coverText, refusalLine, outcomeText, mapText}
@@ -32,27 +32,19 @@ use Rattle.printing.proofs.Reading.{cover-read, cover-ready}
 
 -- ---- what a reply says
 
--- The outcome that a reply tells, with the output that it leaves.
-abbrev outcomeOf : List ℕ → Reply → Outcome
-outcomeOf output (Reply.Refused number place) = refused number place
-outcomeOf output (Reply.Sheet bytes) = sheet (take bytes output)
-
+-- How many bytes of the output a reply points at: they are there.
 abbrev bytesOf : Reply → ℕ
 bytesOf (Reply.Refused number place) = 0
 bytesOf (Reply.Sheet bytes) = bytes
 
-replied : {o : Outcome} {output output′ work work′ : List ℕ} {r : Reply} → Operated o output output′ work work′ r → (o ≡ outcomeOf output′ r) × (bytesOf r ≤ length output′)
+bytes-there : {o : Outcome} {output output′ work work′ : List ℕ} {r : Reply} → Operated o output output′ work work′ r → bytesOf r ≤ length output′
 unfolding told outputAfter ofReply
-replied {o} {output} {output′} {r = r} h = go o r (h .reply-is) (h .leaves .output-is)
+bytes-there {o} {output} {output′} {r = r} h = go o r (h .reply-is) (h .leaves .output-is)
   where
-    go : (o : Outcome) (r : Reply) → ofReply r ≡ told o → output′ ≡ outputAfter o output → (o ≡ outcomeOf output′ r) × (bytesOf r ≤ length output′)
-    go (refused n p) (Reply.Refused m q) e f = (cc, omega arith)
+    go : (o : Outcome) (r : Reply) → ofReply r ≡ told o → output′ ≡ outputAfter o output → bytesOf r ≤ length output′
+    go o (Reply.Refused m q) e f = omega arith
     go (refused n p) (Reply.Sheet k) e f = let z : _≡_ {A = ℕ} 0 1 = cc in absurd (omega arith)
-    go (sheet s) (Reply.Refused m q) e f = let z : _≡_ {A = ℕ} 0 1 = cc in absurd (omega arith)
-    go (sheet s) (Reply.Sheet k) e f =
-        let same : k ≡ length s = cc in
-        let front : take k output′ ≡ s = ap (take k) f ∙ take-at s (drop (length s) output) k (sym same) in
-        (ap sheet (sym front), omega (arith, same, ap length f, length-append s (drop (length s) output)))
+    go (sheet s) (Reply.Sheet k) e f = let same : k ≡ length s = cc in omega (arith, same, ap length f, length-append s (drop (length s) output))
 
 -- ---- a refusal
 
@@ -108,7 +100,7 @@ sheets-chosen l t (At c) (Refused f k) bytes e = absurd (not-sheet e)
 sheets-chosen l t (Refused f k) w bytes e = absurd (not-sheet e)
 
 legal-of : {l : Library} {t : Tree} {a : Answer Cover} → MapPromise capacity l t a → (c : Cover) → a ≡ success c → RootCover l t c
-legal-of (overfull h) c e = let z : _≡_ {A = ℕ} 0 1 = cc in absurd (omega arith)
+legal-of (too-many h) c e = let z : _≡_ {A = ℕ} 0 1 = cc in absurd (omega arith)
 legal-of (none-wanted a b) c e = let z : _≡_ {A = ℕ} 0 1 = cc in absurd (omega arith)
 legal-of {l} {t} (right {a = d} a h) c e = let same : d ≡ c = cc in subst (RootCover l t) same (h .best .legal)
 
@@ -133,7 +125,9 @@ sheet-shown ls ts bytes e =
 
 module _ (ls ts : List ℕ) {output output′ work work′ : List ℕ} {r : Reply} (done : Operated (mapOutcome ls ts 109 8192) output output′ work work′ r) where
   pub refusal-put : (n p : ℕ) → r ≡ Reply.Refused n p → mapText ls ts ≡ refusalLine n p
-  refusal-put n p e = refusal-shown ls ts n p (replied done .0 ∙ ap (outcomeOf output′) e)
+  unfolding observed ofReply
+  refusal-put n p e = refusal-shown ls ts n p (sym (seen done) ∙ ap (λ (q : Reply). observed (ofReply q) output′) e)
 
   pub sheet-put : (n : ℕ) → r ≡ Reply.Sheet n → (n ≤ length output′) × Shown ls ts (take n output′)
-  sheet-put n e = (subst (λ (q : Reply). bytesOf q ≤ length output′) e (replied done .1), sheet-shown ls ts (take n output′) (replied done .0 ∙ ap (outcomeOf output′) e))
+  unfolding observed ofReply
+  sheet-put n e = (subst (λ (q : Reply). bytesOf q ≤ length output′) e (bytes-there done), sheet-shown ls ts (take n output′) (sym (seen done) ∙ ap (λ (q : Reply). observed (ofReply q) output′) e))

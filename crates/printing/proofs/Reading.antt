@@ -12,14 +12,14 @@ use Rattle.sheets.specs.Model.{Library, Pattern, patterns, Tree}
 use Rattle.sheets.specs.Layout.{row, patternRows, libraryLaid}
 use Rattle.sheets.specs.Sound.{SoundLibrary, SoundTree}
 use Rattle.covers.specs.Cover.{Placed, Cover}
-use Rattle.covers.specs.CoverSheet.{coverSheet}
+use Rattle.covers.specs.CoverSheet.{coverSheet, CoverReads}
 use Rattle.covers.specs.Promise.{RootCover}
 use Rattle.covers.proofs.Basics.{at-all}
 use Rattle.covers.proofs.Ascending.{ascending-range}
 use Rattle.covers.proofs.Matching.{gates-lt-size}
 use Rattle.covers.proofs.Listing.{cover-ascends, few-matches, known-patterns}
 use Rattle.covers.proofs.SheetLengths.{cover-sheet-length}
-use Rattle.covers.proofs.ReadBack.{CoverReads, cover-reads}
+use Rattle.covers.proofs.ReadBack.{cover-reads}
 use Rattle.covers.proofs.FromSheets.{root-bounds, cover-fits}
 use Rattle.matching.proofs.Lists.{at-mem, at-map}
 use Rattle.matching.proofs.Tables.{length-table, row-at}

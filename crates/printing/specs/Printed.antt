@@ -75,6 +75,6 @@ unfolding spoiled spoiledLine mapText statedLength
 printed input = cond (spoiled input) spoiledLine (mapText (take (statedLength input) (drop 2 input)) (drop (2 + statedLength input) input))
 
 -- What is put into a text that is lent `room` bytes: nothing if they are fewer than the longest text takes.
-unfoldable pub fitting : (room : ℕ) → List ℕ → List ℕ
+unfoldable pub printedWithin : (room : ℕ) → List ℕ → List ℕ
 unfolding printed
-fitting room input = cond (leb 655 room) (printed input) []
+printedWithin room input = cond (leb 655 room) (printed input) []

@@ -14,7 +14,7 @@ ghost use Rattle.sheets.specs.LibrarySheet.{library as libraryOf};
 ghost use Rattle.sheets.specs.Report.{start};
 ghost use Rattle.writing.specs.Written.{Written};
 ghost use Rattle.lines.specs.Text.{decimal, line, Appended};
-ghost use Rattle.printing.specs.Printed.{coverLine, refusalLine, spoiledLine, mapText, spoiled, fitting};
+ghost use Rattle.printing.specs.Printed.{coverLine, refusalLine, spoiledLine, mapText, spoiled, printedWithin};
 ghost use Rattle.printing.specs.Fields.{rowsOf, fieldLine, fieldLines, sheetText, Printable};
 
 // The bytes of the input's length, and the longest text: a cover of 63 matches.
@@ -188,7 +188,7 @@ fn is_spoiled(input: &[u8]) -> bool
 // Puts what is printed for an input at the front of the text, and answers how many bytes it takes. A text that may be too
 // short is left as it was.
 pub fn print_cover(input: &[u8], text: &mut [u8]) -> usize
-    ensures { λ r. ⌜ Written (fitting (length (now (text .entry))) (now (input .entry))) (now (text .entry)) (now (text .exit)) r ⌝ }
+    ensures { λ r. ⌜ Written (printedWithin (length (now (text .entry))) (now (input .entry))) (now (text .entry)) (now (text .exit)) r ⌝ }
     ensures { λ r. ⌜ Counts r (now (text .exit)) ⌝ }
 {
     if text.len() < Text::LONGEST {

@@ -1,7 +1,7 @@
 use borrow.Author.Needs.{needs}
 use mathlib.Core.Path.{sym, ap, subst, _∙_}
 use Rattle.covers.specs.Outcome.{word}
-use Rattle.mapper.specs.Promises.{ofReply, Limited}
+use Rattle.mapper.specs.Said.{ofReply, Limited}
 use Rattle.interface.proofs.reply_word.Statement.{statement}
 use Rattle.interface.proofs.reply_word.Tie as tie
 use Rattle.interface.proofs.reply_word.Reads as reads

@@ -1,8 +1,11 @@
 use borrow.Author.Needs.{needs}
+use mathlib.Core.Path.{sym, subst}
 use lib.ListN.{length}
 use Rattle.covers.specs.Outcome.{operation, mapOutcome}
+use Rattle.covers.specs.Demands.{MapDemands, WhereSound}
 use Rattle.covers.proofs.Demands.{map-demands}
 use Rattle.mapper.specs.Promises.{leastOutput, taskAnswer}
+use Rattle.operations.proofs.Laws.{seen}
 use Rattle.operations.proofs.map.Statement.{statement}
 use Rattle.operations.proofs.map.Tie as tie
 use Rattle.operations.proofs.map.Reads as reads
@@ -22,7 +25,8 @@ returns : tie.Need-returns
 unfolding mapOutcome leastOutput taskAnswer
 returns c =
     let a = c .before .before .before .before .before .before .before .before .before .before .before .args in
-    (c .before .before .before .before .operate .ensures, map-demands (a .library .now) (a .tree .now) (length (a .output .now)) (length (a .work .now)))
+    let done = c .before .before .before .before .operate .ensures in
+    (done, subst (WhereSound MapDemands 109 (a .library .now) (a .tree .now) (length (a .output .now)) (length (a .work .now))) (sym (seen done)) (map-demands (a .library .now) (a .tree .now) (length (a .output .now)) (length (a .work .now))))
 
 pub map-spec : {M : Type 1} → statement M
 map-spec = tie.close (tie.spec operate-requires same-length same-length-2 returns)

@@ -1,7 +1,8 @@
 use borrow.Author.Needs.{needs}
 use native.Mathlib.Omega.{arith}
 use mathlib.Core.Path.{refl}
-use Rattle.operations.proofs.Laws.{start-of, taken-length, time-of, cleared-again}
+use lib.Seq.{length-take-le}
+use Rattle.operations.proofs.Laws.{start-of, time-of, cleared-again}
 use Rattle.operations.proofs.with_records.Statement.{statement}
 use Rattle.operations.proofs.with_records.Tie as tie
 use Rattle.operations.proofs.with_records.Reads as reads
@@ -40,7 +41,7 @@ answer-task-requires : tie.Need-answer-task-requires
 answer-task-requires c κs =
     let first = c .before .before .before .before .before .before .before .before .before .before .before .before .before .before .before .before .before .before in
     let p = first .pre .2 in
-    (first .pre .0, (p .0, (p .1 .0, record { fill = start-of (p .1 .1) (first .args .work .now) _ _ (first .pre .1) (c .before .before .before .before .before .before .before .before .before .clear-work .ensures) refl (taken-length 8192 (c .before .before .before .before .before .before .before .before .before .clear-work .last .0) (omega (arith, c .before .before .before .before .before .before .before .before .before .clear-work .kept .0, first .pre .1))); time-is = time-of (p .1 .1) })))
+    (first .pre .0, (p .0, (p .1 .0, record { fill = start-of (p .1 .1) (first .args .work .now) _ _ (first .pre .1) (c .before .before .before .before .before .before .before .before .before .clear-work .ensures) refl (length-take-le 8192 (c .before .before .before .before .before .before .before .before .before .clear-work .last .0) (omega (arith, c .before .before .before .before .before .before .before .before .before .clear-work .kept .0, first .pre .1))); time-is = time-of (p .1 .1) })))
 
 clear-work-requires-2 : tie.Need-clear-work-requires-2
 clear-work-requires-2 c κs = search needs
@@ -57,7 +58,7 @@ returns c =
     let first = c .before .before .before .before .before .before .before .before .before .before .before .before .before .before .before .before .before .before .before .before .before .before .before .before .before .before .before .before in
     let call = c .before .before .before .before .before .before .before .before .before .answer-task in
     let before = c .before .before .before .before .before .before .before .before .before .before .before .before .before .before .before .before .before .before .before .clear-work in
-    (cleared-again 8192 (first .args .work .now) (before .last .0) (call .last .1 .1 .1 .1 .1 .1 .1 .1 .1 .1 .1 .1 .0) (c .before .before .clear-work2 .last .0) (before .ensures) (call .kept .1 .1 .1 .1 .1 .1 .1 .1 .1 .1 .1 .1 .0) (omega (arith, before .kept .0, first .pre .1)) e, λ l t laid. call .ensures l t (record { fill = start-of laid (first .args .work .now) (before .last .0) _ (first .pre .1) (before .ensures) refl (taken-length 8192 (before .last .0) (omega (arith, before .kept .0, first .pre .1))); time-is = time-of laid }))
+    (cleared-again 8192 (first .args .work .now) (before .last .0) (call .last .1 .1 .1 .1 .1 .1 .1 .1 .1 .1 .1 .1 .0) (c .before .before .clear-work2 .last .0) (before .ensures) (call .kept .1 .1 .1 .1 .1 .1 .1 .1 .1 .1 .1 .1 .0) (omega (arith, before .kept .0, first .pre .1)) e, λ l t laid. call .ensures l t (record { fill = start-of laid (first .args .work .now) (before .last .0) _ (first .pre .1) (before .ensures) refl (length-take-le 8192 (before .last .0) (omega (arith, before .kept .0, first .pre .1))); time-is = time-of laid }))
 
 pub with-records-spec : {M : Type 1} → statement M
 with-records-spec =

@@ -5,7 +5,7 @@ use mathlib.Core.Path.{sym, ap, _∙_}
 use lib.Dec.{ltb}
 use lib.ListN.{length}
 use Rattle.printing.specs.Printed.{statedLength}
-use Rattle.printing.proofs.Laws.{spoiled-short, spoiled-long, spoiled-torn}
+use Rattle.printing.proofs.Laws.{spoiled-short, spoiled-long, spoiled-truncated}
 use Rattle.printing.proofs.is_spoiled.Statement.{statement}
 use Rattle.printing.proofs.is_spoiled.Tie as tie
 
@@ -29,7 +29,7 @@ add-result c = search needs
 
 returns-3 : tie.Need-returns-3
 unfolding statedLength
-returns-3 c = let s = c .before .before .before .before .before .before .args .input .now in ap (λ (n : ℕ). ltb (length s) (2 + n)) (c .length-of .ensures .0) ∙ sym (spoiled-torn s (omega arith) (omega arith))
+returns-3 c = let s = c .before .before .before .before .before .before .args .input .now in ap (λ (n : ℕ). ltb (length s) (2 + n)) (c .length-of .ensures .0) ∙ sym (spoiled-truncated s (omega arith) (omega arith))
 
 pub is-spoiled-spec : {M : Type 1} → statement M
 is-spoiled-spec =
