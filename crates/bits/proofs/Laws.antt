@@ -9,7 +9,7 @@ use Prim.Native.Nat.{ℕ, zero, suc, _+_, _-_, _*_, _/_, _%_, _^_, _≤_, _<_}
 use native.Mathlib.Nat.{pow-suc, pow-succ', add-mul, mul-assoc, add-assoc, mod-lt, div-lt-iff-lt-mul, mul-left-comm, lt-of-lt-of-le, zero-mod}
 use native.Mathlib.Omega.{arith}
 use native.Mathlib.Numerals.{add-one}
-use lib.Pow.{pow-pos, pow-mono, pow-add, shr-shr, high, low, field, mod-mod-pow, mod-pow-add}
+use lib.Pow.{pow-pos, pow-mono, pow-add, shr-shr, low, field, mod-mod-pow, mod-pow-add}
 use lib.Arith.{digits-lt, digits-div, digits-mod}
 use lib.ListN.{length, getD, set, length-set}
 use lib.Seq.{getD-set-same, getD-set-other, set-out}

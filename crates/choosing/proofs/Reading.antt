@@ -3,7 +3,7 @@ use mathlib.Core.Path.{_≡_, sym, ap, ap₂, _∙_}
 use mathlib.Core.Logic.{_⊎_, inl, inr}
 use mathlib.Core.Option.{Option, some, Option·none-ne-some, Option·some-injective}
 use mathlib.Core.List.{List}
-use Prim.Native.Nat.{ℕ, suc, _+_, _-_, _*_, _≤_, _<_}
+use Prim.Native.Nat.{ℕ, _+_, _-_, _*_, _≤_, _<_}
 use native.Mathlib.Decide.{ℕ-discrete}
 use native.Mathlib.Omega.{arith}
 use native.Mathlib.Nat.{mul-le-mul}
@@ -12,8 +12,7 @@ use lib.Seq.{getD-set-same, getD-set-other}
 use Rattle.covers.specs.Match.{Match, delay}
 use Rattle.covers.specs.Cover.{Point, inputDelay}
 use Rattle.covers.proofs.Basics.{lt-or-le}
-use Rattle.matching.specs.Found.{inputWords, inputsWords, matchRow}
-use Rattle.matching.proofs.Written.{length-inputs}
+use Rattle.matching.specs.Found.{inputWords, matchRow}
 use Rattle.covers.specs.Curve.{pointOf, wordOf}
 use Rattle.curves.specs.Words.{absent}
 use Rattle.curves.specs.Promises.{Worth}

@@ -8,7 +8,7 @@ use mathlib.Core.Option.{Option, none, some}
 use native.Mathlib.Nat.{le-refl}
 use native.Mathlib.Omega.{arith}
 use lib.Dec.{ltb}
-use lib.ListN.{length, take, length-take, length-reverse}
+use lib.ListN.{take}
 use borrow.Author.Tests.{lt-ltb, le-ltb}
 use Rattle.covers.specs.Cover.{Point, Cover}
 use Rattle.covers.specs.Tradeoff.{IsTradeoff, Climbing, top, step, tradeoffsOf, points}

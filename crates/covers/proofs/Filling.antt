@@ -6,13 +6,12 @@ use mathlib.Core.Bool.{true}
 use mathlib.Core.List.{List, [], _∷_, List·Memᴰ, List·Memᴰ·head, List·Memᴰ·tail}
 use mathlib.Core.Option.{Option, some, Option·map}
 use native.Mathlib.Omega.{arith}
-use lib.ListN.{length, getD, take, length-reverse}
-use lib.Seq.{take-all}
+use lib.ListN.{length, getD, take}
 use Rattle.sheets.specs.Model.{Shape, leaf, inv, nand, size, Pin, Cell, Library}
 use Rattle.covers.specs.Match.{Input, Match, IsMatch, matches, pinAt, pinLoad}
 use Rattle.covers.specs.Cover.{Point, Cover, late, raised, leafPoint, leafCover, feeds, inputDelay}
 use Rattle.covers.specs.Enumeration.{matchCovers, gateCovers, under, coversStep, covers, allBelow}
-use Rattle.covers.specs.Tradeoff.{tradeoffs, Node, nodes}
+use Rattle.covers.specs.Tradeoff.{nodes}
 use Rattle.covers.specs.Choice.{lesser, before, least, reaches}
 use Rattle.covers.proofs.Basics.{lt-or-le, at-all}
 use Rattle.covers.specs.Curve.{both, byDeadline, curve, Filled, gates, lookup}

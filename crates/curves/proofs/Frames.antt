@@ -5,10 +5,8 @@ use mathlib.Core.Bool.{Bool, cond}
 use mathlib.Core.Option.{Option, none, some, Option·map}
 use mathlib.Core.Logic.{_⊎_, inl, inr, ⊎-elim}
 use borrow.Author.Tests.{eq-eqb, ne-eqb}
-use Prim.Native.Nat.{ℕ, zero, suc, _+_, _-_, _*_, _/_, _%_, _≤_, _<_}
+use Prim.Native.Nat.{ℕ, zero, suc, _+_, _-_, _*_, _%_, _≤_, _<_}
 use native.Mathlib.Decide.{ℕ-discrete}
-use native.Mathlib.Nat.{add-zero}
-use native.Mathlib.Numerals.{add-one}
 use native.Mathlib.Omega.{arith}
 use lib.ListN.{length, getD, take, drop, set, length-append, length-map, length-set}
 use lib.Dec.{leb, eqb}
@@ -20,7 +18,7 @@ use Rattle.covers.proofs.Basics.{lt-or-le}
 use Rattle.covers.specs.Curve.{base, both, byDeadline, chained, lookup, pointOf, wordOf}
 use Rattle.covers.proofs.Points.{point-path}
 use Rattle.matching.proofs.Lists.{before-sets}
-use Rattle.curves.specs.Words.{stored, tableOf, Small, AgreeFrom}
+use Rattle.curves.specs.Words.{stored, Small, AgreeFrom}
 use Rattle.curves.specs.Best.{inputBest, inputLate, rowDelay, inputsBest, rowBest, legalBest, rowsBest, Above}
 use Rattle.curves.specs.Promises.{bestBefore, CurveStored, Fit}
 use Rattle.curves.proofs.Laws.{word-point}

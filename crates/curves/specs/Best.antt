@@ -1,14 +1,14 @@
 -- The least point before an instant, read from the tables: of an input, of a match's row, and of all rows of a node.
 use Prim.Native.Nat.{ℕ, zero, suc, _+_, _-_, _*_, _≤_, _<_}
 use mathlib.Core.Bool.{cond}
-use mathlib.Core.List.{List, [], _∷_}
+use mathlib.Core.List.{List}
 use mathlib.Core.Option.{Option, none, Option·map}
 use mathlib.Core.Path.{_≡_}
 use lib.ListN.{length, getD, take, drop}
 use lib.Dec.{leb, ltb}
 use Rattle.covers.specs.Cover.{late, raised, Point}
 use Rattle.covers.specs.Choice.{lesser, before}
-use Rattle.covers.specs.Curve.{both, byDeadline, lookup}
+use Rattle.covers.specs.Curve.{both, lookup}
 use Rattle.curves.specs.Words.{tableOf, Small}
 
 module _ (symbols work : List ℕ) where

@@ -2,26 +2,25 @@
 use mathlib.Core.Path.{_≡_, refl, sym, ap, subst, _∙_}
 use mathlib.Core.List.{List, [], _∷_, map, List·Memᴰ, List·Memᴰ·head, List·Memᴰ·tail, List·Memᴰ·append-cases, List·Memᴰ·eq-of-singleton, List·Memᴰ·cases-cons, Memᴰ·append-left, Memᴰ·append-right}
 use mathlib.Core.Logic.{_⊎_, inl, inr, ⊎-elim}
-use Prim.Native.Nat.{ℕ, zero, suc, _+_, _*_, _≤_, _<_}
+use Prim.Native.Nat.{ℕ, zero, suc, _+_, _≤_, _<_}
 use native.Mathlib.Decide.{ℕ-discrete}
 use native.Mathlib.Omega.{arith}
-use lib.ListN.{length, getD, take, set, replicate, length-set}
+use lib.ListN.{length, getD, take, set, replicate}
 use lib.Seq.{sets, getD-set-same, getD-set-other, set-out, take-all}
 use Rattle.shapes.specs.Shape as Shapes
 use Rattle.sheets.specs.declared.CellRecord.{CellRecord}
-use Rattle.sheets.specs.Model.{Shape, leaf, inv, nand, leaves, Library, Tree, Pattern, Cell}
+use Rattle.sheets.specs.Model.{Shape, leaf, inv, nand, leaves, Library, Tree}
 use Rattle.sheets.specs.Layout.{padded, tableFrom}
 use Rattle.covers.specs.Match.{Match, fitting}
 use Rattle.covers.specs.Enumeration.{covers}
 use Rattle.covers.specs.Tradeoff.{Node, nodes}
 use Rattle.covers.proofs.Basics.{lt-or-le}
-use Rattle.covers.specs.Curve.{base, curve, gates}
+use Rattle.covers.specs.Curve.{curve, gates}
 use Rattle.covers.proofs.Matching.{size-pos}
 use Rattle.matching.specs.Found.{matchRow}
 use Rattle.matching.specs.Standing.{Stands}
 use Rattle.matching.proofs.Standing.{stands-everywhere}
 use Rattle.matching.proofs.Tables.{length-table}
-use Rattle.curves.specs.Words.{ZeroBelow}
 use Rattle.curves.specs.Best.{Matches, Above}
 use Rattle.curves.specs.Promises.{PointsFit}
 use Rattle.filling.specs.declared.Counts.{Counts}

@@ -1,22 +1,20 @@
 -- One gate of the subject tree: its found rows are safe to read, and the least points and the curve read from the tables are those of its covers.
-use mathlib.Core.Path.{_≡_, refl, sym, ap, ap₂, subst, fun-ext, _∙_}
-use mathlib.Core.List.{List, [], _∷_, _++_, map, List·Memᴰ, List·Memᴰ·head, List·Memᴰ·tail}
-use mathlib.Core.Bool.{Bool, true}
-use mathlib.Core.Option.{Option, none, some, Option·none-ne-some, Option·some-injective}
-use Prim.Native.Nat.{ℕ, zero, suc, _+_, _-_, _*_, _≤_, _<_}
+use mathlib.Core.Path.{_≡_, sym, ap, subst, fun-ext, _∙_}
+use mathlib.Core.List.{List, [], map, List·Memᴰ}
+use mathlib.Core.Option.{Option, some, Option·none-ne-some, Option·some-injective}
+use Prim.Native.Nat.{ℕ, suc, _+_, _-_, _*_, _≤_, _<_}
 use native.Mathlib.Omega.{arith}
-use native.Mathlib.Nat.{le-trans}
 use lib.ListN.{length, getD, take, drop}
 use lib.Seq.{getD-take, getD-drop}
-use Rattle.sheets.specs.Model.{Shape, leaf, inv, nand, size, Pin, Cell, Library, Pattern, patterns, Tree}
+use Rattle.sheets.specs.Model.{Shape, leaf, inv, nand, size, Cell, Library, Tree}
 use Rattle.sheets.specs.Sound.{SoundCell, SoundLibrary, SoundTree}
-use Rattle.covers.specs.Match.{Input, Match, fitting, matches, legal, pinAt}
+use Rattle.covers.specs.Match.{Input, Match, fitting, matches, pinAt}
 use Rattle.covers.specs.Cover.{Point, Cover, feeds, raised, topped, IsCover, bare, matching}
 use Rattle.covers.specs.Enumeration.{covers}
 use Rattle.covers.specs.Choice.{least}
-use Rattle.covers.specs.Tradeoff.{Node, nodes, tradeoffs}
+use Rattle.covers.specs.Tradeoff.{Node, nodes}
 use Rattle.covers.proofs.Basics.{at-all}
-use Rattle.covers.proofs.Least.{In, IsLeast, LeastOf, absent, found as reached, least-is}
+use Rattle.covers.proofs.Least.{In, LeastOf, absent, found as reached, least-is}
 use Rattle.covers.specs.Curve.{Filled, base, byDeadline, curve, gates}
 use Rattle.covers.proofs.Matching.{size-pos, fitting-are, fits-inside, spread-in}
 use Rattle.covers.proofs.Nodes.{nodeOf, fits-in, nodes-within, node-ends, leaves-within}
@@ -32,7 +30,7 @@ use Rattle.matching.proofs.Written.{length-row, row-input}
 use Rattle.matching.proofs.Patterns.{SoundMatch, fitting-sound, fitting-few, match-row-at}
 use Rattle.matching.proofs.Lists.{at-mem}
 use Rattle.curves.specs.Words.{tableOf, Small}
-use Rattle.curves.specs.Best.{InputSafe, RowSafe, Matches, Above, rowsBest}
+use Rattle.curves.specs.Best.{RowSafe, Matches, Above}
 use Rattle.curves.specs.Promises.{bestBefore, PointsFit, Fit}
 use Rattle.filling.proofs.Rows.{Heads, Holds, Headed, rows-are-best}
 

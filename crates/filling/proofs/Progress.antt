@@ -8,11 +8,10 @@ use Prim.Native.Nat.{ℕ, zero, suc, min, _+_, _*_, _≤_, _<_}
 use native.Mathlib.Omega.{arith}
 use native.Mathlib.Numerals.{add-one}
 use lib.Dec.{ltb}
-use lib.ListN.{length, getD, take, length-take, length-reverse, List·getD-eq-default}
+use lib.ListN.{length, getD, length-take, length-reverse, List·getD-eq-default}
 use borrow.Author.Tests.{lt-ltb, le-ltb}
 use Rattle.sheets.specs.declared.CellRecord.{CellRecord}
 use Rattle.sheets.specs.Model.{Shape, leaf, inv, nand, size, Library, Tree}
-use Rattle.sheets.specs.Sound.{SoundLibrary}
 use Rattle.covers.specs.Lists.{select}
 use Rattle.covers.specs.Cover.{Point, Cover, leafCover}
 use Rattle.covers.specs.Enumeration.{covers, coversStep}
@@ -23,12 +22,12 @@ use Rattle.covers.proofs.Matching.{size-pos}
 use Rattle.covers.proofs.Unroll.{covers-unroll}
 use Rattle.covers.proofs.Nodes.{root-in}
 use Rattle.covers.proofs.Ascending.{ascending-range, ascending-unique}
-use Rattle.covers.proofs.Overfull.{nodes-ascend, overfull-named, LastOf, nowhere, at, Highest, highest-unique}
+use Rattle.covers.proofs.Overfull.{nodes-ascend, overfull-named, LastOf, nowhere, at, highest-unique}
 use Rattle.covers.proofs.Filling.{filled-start, filled-next}
 use Rattle.matching.proofs.Lists.{at-mem}
 use Rattle.matching.proofs.Standing.{subject-everywhere}
 use Rattle.matching.proofs.Written.{in-padded}
-use Rattle.curves.specs.Words.{tableOf, Small, AgreeFrom, ZeroBelow}
+use Rattle.curves.specs.Words.{tableOf, Small, ZeroBelow}
 use Rattle.curves.specs.Stored.{Stored}
 use Rattle.curves.proofs.Frames.{stored-same}
 use Rattle.filling.specs.declared.Counts.{Counts}

@@ -1,19 +1,18 @@
 -- A found match's row says what the match says: the least point read from the tables is the least point of the match, and of all legal matches of the node.
-use mathlib.Core.Path.{_≡_, refl, sym, ap, ap₂, subst, _∙_}
-use mathlib.Core.List.{List, [], _∷_, _++_, map, List·Memᴰ, List·Memᴰ·head, List·Memᴰ·tail}
-use mathlib.Core.Bool.{Bool, true, false, cond, _&&_, not}
-use mathlib.Core.Option.{Option, none, some, Option·map}
+use mathlib.Core.Path.{_≡_, refl, sym, ap, ap₂, _∙_}
+use mathlib.Core.List.{List, [], _∷_, _++_, List·Memᴰ, List·Memᴰ·head, List·Memᴰ·tail}
+use mathlib.Core.Bool.{Bool, true, false, cond, _&&_}
+use mathlib.Core.Option.{Option, none, Option·map}
 use Prim.Native.Nat.{ℕ, zero, suc, _+_, _-_, _*_, _≤_, _<_}
 use native.Mathlib.Nat.{add-zero}
-use native.Mathlib.Numerals.{add-one}
 use native.Mathlib.Omega.{arith}
-use lib.ListN.{length, getD, take, drop, length-append}
+use lib.ListN.{length, getD, take, drop}
 use lib.Dec.{leb, ltb, leb·suc-suc, leb·suc-zero}
-use lib.Seq.{getD-take, getD-drop, take-suc, take-all}
+use lib.Seq.{take-suc, take-all}
 use borrow.Author.Tests.{le-leb, lt-leb}
 use Rattle.sheets.specs.Model.{Shape, leaf, inv, nand, Pin, Cell, Library}
 use Rattle.covers.specs.Lists.{select}
-use Rattle.covers.specs.Match.{Input, Match, usable, legal, fitting, matches, delay, pinLoad}
+use Rattle.covers.specs.Match.{Input, Match, usable, legal, delay, pinLoad}
 use Rattle.covers.specs.Cover.{Point, late, raised, feeds, inputDelay, leafPoint, leafArrival}
 use Rattle.covers.specs.Choice.{before, lesser}
 use Rattle.covers.specs.Curve.{both, lookup}

@@ -1,19 +1,19 @@
 -- One curve more of a node, from the last load down.
-use mathlib.Core.Path.{_≡_, refl, sym, ap, subst, fun-ext, _∙_}
-use mathlib.Core.List.{List, map, List·Memᴰ}
+use mathlib.Core.Path.{_≡_, ap, subst, fun-ext, _∙_}
+use mathlib.Core.List.{List, map}
 use mathlib.Core.Option.{Option}
 use mathlib.Core.Logic.{_⊎_, inl, inr}
-use Prim.Native.Nat.{ℕ, suc, _+_, _-_, _*_, _≤_, _<_}
+use Prim.Native.Nat.{ℕ, _+_, _-_, _*_, _≤_, _<_}
 use native.Mathlib.Nat.{eq-or-lt-of-le}
 use native.Mathlib.Omega.{arith}
 use lib.ListN.{length, getD, take, set, length-map, length-take, length-set}
-use lib.Seq.{sets, getD-set-same, getD-set-other, take-all, length-sets}
+use lib.Seq.{sets, getD-set-same, getD-set-other, take-all}
 use Rattle.covers.specs.Cover.{Point}
 use Rattle.covers.specs.Curve.{base, byDeadline, wordOf}
 use Rattle.matching.proofs.Lists.{before-sets}
 use Rattle.curves.specs.Words.{tableOf, slot, Small, AgreeFrom, ZeroBelow}
 use Rattle.curves.specs.Best.{Above, rowsBest}
-use Rattle.curves.specs.Promises.{bestBefore, PointsFit, CurveStored, Fit}
+use Rattle.curves.specs.Promises.{bestBefore, PointsFit, CurveStored}
 use Rattle.curves.proofs.Frames.{sets-above, stored-same, stored-laid, rows-same, deadline-all}
 use Rattle.filling.specs.Promises.{pointsUnder}
 

@@ -1,10 +1,10 @@
 -- The root's curve as the words at the front of the work area, and its trade-offs on their sheet.
-use Prim.Native.Nat.{ℕ, zero, suc, _+_, _-_, _/_, _%_, _≤_, _<_}
+use Prim.Native.Nat.{ℕ, zero, suc, _+_, _-_, _≤_, _<_}
 use mathlib.Core.Path.{_≡_, refl, sym, ap, subst, _∙_}
 use mathlib.Core.Logic.{⊎-elim}
 use mathlib.Core.Bool.{Bool, cond, false≢true}
 use mathlib.Core.List.{List, [], _∷_, _++_, map, map-append, append-assoc, append-nil, reverse, reverse-reverse, List·Memᴰ, List·Memᴰ·head}
-use mathlib.Core.Option.{Option, none, some, Option·map, Option·none-ne-some}
+use mathlib.Core.Option.{Option, none, Option·map, Option·none-ne-some}
 use native.Mathlib.Nat.{le-refl}
 use native.Mathlib.Omega.{arith}
 use borrow.Author.Tests.{eq-eqb, ne-eqb, le-leb}
@@ -13,7 +13,7 @@ use lib.Seq.{take-suc, length-take-le}
 use Rattle.sheets.specs.Model.{Shape, leaf, leaves, Library, Tree}
 use Rattle.covers.specs.Lists.{any, select}
 use Rattle.covers.specs.Cover.{Point, Cover, leafArrival, leafPoint, leafCover}
-use Rattle.covers.specs.Enumeration.{coversStep, covers}
+use Rattle.covers.specs.Enumeration.{coversStep}
 use Rattle.covers.specs.Tradeoff.{same, beats, beaten, insert, tradeoffsOf, points, tradeoffs, Node, nodes, considered, overfull}
 use Rattle.covers.specs.Answer.{nonempty}
 use Rattle.covers.specs.Outcome.{capacity}

@@ -1,8 +1,8 @@
 -- The root's cover and its sheet.
-use Prim.Native.Nat.{ℕ, zero, suc, _+_, _-_, _/_, _%_, _≤_, _<_}
+use Prim.Native.Nat.{ℕ, suc, _+_, _-_, _/_, _%_, _≤_, _<_}
 use mathlib.Core.Path.{_≡_, refl, sym, ap, ap₂, subst, _∙_}
 use mathlib.Core.Bool.{Bool, cond}
-use mathlib.Core.List.{List, [], _∷_, _++_, map}
+use mathlib.Core.List.{List, [], _∷_, map}
 use mathlib.Core.Option.{Option, none, some, Option·map, Option·none-ne-some, Option·some-injective}
 use native.Mathlib.Numerals.{add-one}
 use native.Mathlib.Nat.{zero-add}
@@ -28,7 +28,7 @@ use Rattle.covers.proofs.Unroll.{choice-unroll}
 use Rattle.matching.specs.Standing.{Stands}
 use Rattle.curves.specs.Words.{absent, tableOf}
 use Rattle.curves.specs.Promises.{Worth}
-use Rattle.choosing.specs.Promises.{Decoded, at-root, Driven, Chooses, Listed}
+use Rattle.choosing.specs.Promises.{at-root, Driven, Chooses, Listed}
 use Rattle.choosing.proofs.Gate.{chosen-there}
 use Rattle.matching.proofs.Standing.{stands-everywhere}
 use Rattle.writing.specs.Written.{placedOf, coverOf, Written}

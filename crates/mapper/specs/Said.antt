@@ -1,5 +1,5 @@
 -- What the reply of map and list says.
-use Prim.Native.Nat.{ℕ, _≤_, _<_, _^_}
+use Prim.Native.Nat.{_≤_, _<_, _^_}
 use Rattle.covers.specs.Outcome.{Told, refusal, bytes}
 use Rattle.mapper.specs.declared.Reply.{Reply}
 use Rattle.mapper.specs.declared.Reply.the-variants.{Refused, Sheet}

@@ -1,6 +1,6 @@
 -- A tree's arrays hold each of its subtrees.
 use Prim.Native.Nat.{ℕ, suc, _+_, _≤_, _<_}
-use mathlib.Core.Path.{_≡_, refl, sym, ap, subst, _∙_}
+use mathlib.Core.Path.{_≡_, sym, ap, subst, _∙_}
 use mathlib.Core.Logic.{⊎-elim}
 use mathlib.Core.List.{List, [], _∷_, _++_, List·Memᴰ, List·Memᴰ·head, List·Memᴰ·tail, List·Memᴰ·not-nil, List·Memᴰ·append-cases}
 use native.Mathlib.Nat.{add-zero, add-suc, suc-add, add-assoc}
@@ -9,13 +9,11 @@ use lib.ListN.{length, getD, replicate, length-append, length-replicate, List·g
 use lib.Seq.{length-sets, getD-append-add}
 use Rattle.shapes.specs.Shape.{symbols, sizes}
 use Rattle.shapes.proofs.Drawn.{length-symbols, length-sizes}
-use Rattle.sheets.specs.Model.{Shape, leaf, inv, nand, size, Library, Tree}
-use Rattle.sheets.specs.Layout.{padded, libraryLaid, treeLaid}
+use Rattle.sheets.specs.Model.{Shape, leaf, inv, nand, size}
+use Rattle.sheets.specs.Layout.{padded}
 use Rattle.covers.specs.Tradeoff.{Node, nodes}
 use Rattle.covers.proofs.Nodes.{node-ends}
 use Rattle.matching.specs.Standing.{Stands, Subject}
-use Rattle.sheets.specs.Sound.{SoundLibrary}
-use Rattle.matching.specs.Promises.{Ready}
 use Rattle.matching.proofs.Lists.{in-sets}
 
 -- A list stands in another from place i on.

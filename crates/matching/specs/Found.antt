@@ -1,9 +1,8 @@
 -- How the matches of a node are kept: a row of 68 words for each, in the order of pattern numbers.
-use Prim.Native.Nat.{ℕ, suc, _+_, _*_}
+use Prim.Native.Nat.{ℕ, suc, _+_}
 use mathlib.Core.Bool.{cond}
-use mathlib.Core.List.{List, [], _∷_, _++_, map}
+use mathlib.Core.List.{List, [], _∷_, _++_}
 use lib.ListN.{length}
-use lib.Seq.{sets}
 use Rattle.sheets.specs.Model.{Cell}
 use Rattle.covers.specs.Match.{Input, Match, usable}
 use Rattle.covers.specs.Cover.{feeds}

@@ -3,18 +3,15 @@ use mathlib.Core.Path.{_≡_, refl, sym, ap, ap₂, subst, _∙_}
 use mathlib.Core.List.{List, _++_}
 use Prim.Native.Nat.{ℕ, _-_, _≤_, _<_, _^_}
 use native.Mathlib.Omega.{arith}
-use lib.ListN.{length, getD, take, drop, replicate, length-append, length-replicate, length-take, List·getD-append}
+use lib.ListN.{length, getD, take, drop, replicate, length-replicate, List·getD-append}
 use lib.Seq.{getD-take, drop-append-seam}
 use borrow.Rule.Slice.PartMut.{midOf, putMid, mid-len, drop-put}
 use Rattle.sheets.specs.declared.LibraryRecord.{LibraryRecord}
 use Rattle.sheets.specs.declared.TreeRecord.{TreeRecord}
 use Rattle.sheets.specs.Model.{Library, Tree}
 use Rattle.sheets.specs.Layout.{libraryLaid, treeLaid}
-use Rattle.curves.specs.Words.{ZeroBelow}
 use Rattle.filling.specs.Promises.{FillStart}
 use Rattle.filling.proofs.At.{zeros-at}
-use mathlib.Core.Bool.{cond, _&&_, true, false}
-use lib.Dec.{leb}
 use borrow.Author.Tests.{le-leb, lt-leb}
 use Rattle.bits.specs.declared.Cursor.{Cursor}
 use Rattle.shapes.specs.declared.Fault.{Fault}

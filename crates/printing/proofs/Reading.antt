@@ -15,9 +15,7 @@ use Rattle.covers.specs.Cover.{Placed, Cover}
 use Rattle.covers.specs.CoverSheet.{coverSheet, CoverReads}
 use Rattle.covers.specs.Promise.{RootCover}
 use Rattle.covers.proofs.Basics.{at-all}
-use Rattle.covers.proofs.Ascending.{ascending-range}
-use Rattle.covers.proofs.Matching.{gates-lt-size}
-use Rattle.covers.proofs.Listing.{cover-ascends, few-matches, known-patterns}
+use Rattle.covers.proofs.Listing.{known-patterns}
 use Rattle.covers.proofs.SheetLengths.{cover-sheet-length}
 use Rattle.covers.proofs.ReadBack.{cover-reads}
 use Rattle.covers.proofs.FromSheets.{root-bounds, cover-fits}

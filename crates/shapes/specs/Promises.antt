@@ -1,7 +1,7 @@
 -- What the readers of this crate promise, each by the definitions of Reading and Drawing.
 use Prim.Native.Nat.{ℕ, suc, _+_, _-_, _*_, _≤_, _<_}
 use mathlib.Core.Path.{_≡_}
-use mathlib.Core.List.{List, [], _++_}
+use mathlib.Core.List.{List, _++_}
 use lib.ListN.{length, take}
 use lib.Seq.{sets}
 use Rattle.shapes.specs.declared.Got.{Got}

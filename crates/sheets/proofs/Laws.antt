@@ -8,7 +8,7 @@ use native.Mathlib.Nat.{zero-add, add-zero, add-suc, suc-add, eq-or-lt-of-le, le
 use native.Mathlib.Numerals.{add-one}
 use native.Mathlib.Omega.{arith}
 use lib.ListN.{length, take, drop, set, length-map, length-set}
-use lib.Seq.{sets, length-sets}
+use lib.Seq.{sets}
 use Rattle.shapes.specs.declared.Scan.{Scan}
 use Rattle.shapes.specs.Reading.{Reader, place, times, within, field}
 use Rattle.shapes.specs.declared.Verdict.the-variants.{Sound, Faulty}

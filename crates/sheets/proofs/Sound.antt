@@ -14,8 +14,8 @@ use Rattle.shapes.specs.Drawing.{codeVerdict, leafVerdict, leafNode, pair, bran
 use Rattle.shapes.specs.Promises.{Live}
 use Rattle.shapes.proofs.Laws.{live-sound, range-least, range-passes, code-room, length-times}
 use Rattle.shapes.proofs.Drawn.{leaf-passes, length-symbols, node-live}
-use Rattle.sheets.specs.Model.{Shape, leaf, inv, nand, size, leaves, Pin, Cell, Library, Tree, patternsFrom, patterns}
-use Rattle.sheets.specs.LibrarySheet.{Head, last, binLoad, head, pin, patternRules, hasAll, complete, pattern, countVerdict, drawings, cell, bins, cells, library}
+use Rattle.sheets.specs.Model.{Shape, size, leaves, Pin, Cell, patternsFrom, patterns}
+use Rattle.sheets.specs.LibrarySheet.{Head, last, binLoad, head, pin, patternRules, hasAll, pattern, countVerdict, drawings, cell, bins, cells, library}
 use Rattle.sheets.specs.TreeSheet.{tree, treeRules}
 use Rattle.sheets.specs.Promises.{cellAfter}
 use Rattle.sheets.specs.Report.{start}

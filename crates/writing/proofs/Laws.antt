@@ -10,7 +10,7 @@ use lib.ListN.{length, take, drop, getD, set, replicate, length-set, length-repl
 use lib.Seq.{set-append-left, slice, slice-cons, slice-empty, take-suc, length-take-le}
 use Rattle.bits.specs.Bits.{after, withDigit, withBit, withField, bytesTo}
 use Rattle.bits.proofs.Laws.{length-bit, length-field}
-use Rattle.covers.specs.Cover.{Point, Placed}
+use Rattle.covers.specs.Cover.{Point}
 use Rattle.covers.specs.CoverSheet.{Field, widths, written, packed, placedFields, coverFields, pointFields, listFields, coverSheet, listSheet}
 use Rattle.covers.proofs.SheetLengths.{length-packed, cover-sheet-length, list-sheet-length}
 use Rattle.covers.specs.Curve.{base, pointOf}

@@ -1,6 +1,5 @@
 use native.Mathlib.Omega.{arith}
 use Prim.Native.Nat.{_-_}
-use lib.ListN.{length}
 use Rattle.cases.proofs.words_are.Statement.{statement}
 use Rattle.cases.proofs.words_are.Tie as tie
 use Rattle.cases.proofs.words_are.Reads as reads

@@ -1,6 +1,5 @@
 use native.Mathlib.Omega.{arith}
 use Prim.Native.Nat.{_-_}
-use lib.ListN.{length}
 use Rattle.cases.proofs.write_bytes.Statement.{statement}
 use Rattle.cases.proofs.write_bytes.Tie as tie
 use Rattle.cases.proofs.write_bytes.Reads as reads

@@ -1,11 +1,9 @@
-use borrow.Author.Needs.{needs}
 use native.Mathlib.Omega.{arith}
 use Prim.Native.Nat.{ℕ, _+_, _-_, _*_, _/_, _≤_, _<_}
-use mathlib.Core.Path.{_≡_, refl, sym, ap, subst, _∙_}
+use mathlib.Core.Path.{_≡_, refl, sym, subst, _∙_}
 use mathlib.Core.List.{List}
 use mathlib.Core.Option.{some}
 use lib.ListN.{length, length-set}
-use Rattle.covers.specs.Cover.{Point}
 use Rattle.covers.specs.Curve.{base, pointOf}
 use Rattle.curves.specs.Words.{Small}
 use Rattle.curves.specs.Best.{rowsBest}

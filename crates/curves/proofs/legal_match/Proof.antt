@@ -1,5 +1,4 @@
 use borrow.Author.Needs.{needs}
-use native.Mathlib.Omega.{arith}
 use mathlib.Core.Path.{subst}
 use Rattle.curves.specs.Promises.{Worth}
 use Rattle.curves.proofs.Laws.{worth-none, legal-none, legal-some}

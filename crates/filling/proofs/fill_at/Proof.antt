@@ -1,6 +1,5 @@
 use borrow.Author.Needs.{needs}
 use native.Mathlib.Omega.{arith}
-use Prim.Native.Nat.{_≤_, _<_}
 use lib.ListN.{getD}
 use Rattle.filling.proofs.At.{node-within, leaf-here, gate-here, leaf-done, node-matches, node-above, node-fits, node-done}
 use Rattle.filling.proofs.fill_at.Statement.{statement}

@@ -1,5 +1,4 @@
 use borrow.Author.Needs.{needs}
-use native.Mathlib.Omega.{arith}
 use mathlib.Core.Path.{sym, ap}
 use Rattle.mapper.specs.Promises.{replyTo}
 use Rattle.mapper.proofs.answer.Statement.{statement}

@@ -1,7 +1,5 @@
 use borrow.Author.Needs.{needs}
 use native.Mathlib.Omega.{arith}
-use Prim.Native.Nat.{ℕ}
-use mathlib.Core.Path.{sym}
 use Rattle.mapper.proofs.Root.{root-room, leaf-put}
 use Rattle.mapper.proofs.write_chosen.Statement.{statement}
 use Rattle.mapper.proofs.write_chosen.Tie as tie

@@ -1,7 +1,6 @@
 use borrow.Author.Needs.{needs}
 use native.Mathlib.Omega.{arith}
 use mathlib.Core.Path.{_≡_, refl}
-use Prim.Native.Nat.{ℕ}
 use lib.ListN.{replicate}
 use Rattle.curves.specs.Words.{absent}
 use Rattle.mapper.proofs.Root.{gate-none, gate-chooses, gate-small, count-fits, gate-put}

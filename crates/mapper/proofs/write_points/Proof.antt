@@ -1,6 +1,5 @@
 use borrow.Author.Needs.{needs}
 use native.Mathlib.Omega.{arith}
-use Prim.Native.Nat.{ℕ}
 use mathlib.Core.Path.{refl}
 use Rattle.mapper.proofs.Points.{one-word, symbol-here, leaf-word, leaf-listed, gate-fits, gate-empty, gate-listed}
 use Rattle.mapper.proofs.write_points.Statement.{statement}

@@ -1,6 +1,5 @@
 -- The first load that is not legal.
 use borrow.Author.Needs.{needs}
-use native.Mathlib.Omega.{arith}
 use native.Mathlib.Numerals.{add-one}
 use Rattle.matching.proofs.first_illegal.Statement.{statement}
 use Rattle.matching.proofs.first_illegal.Tie as tie

@@ -1,6 +1,5 @@
 -- The row of a pattern, if it matched.
 use borrow.Author.Needs.{needs}
-use native.Mathlib.Omega.{arith}
 use Rattle.covers.specs.Match.{matched}
 use Rattle.matching.proofs.Patterns.{hit, missed, wrote-none, wrote-one}
 use borrow.Author.Tests.{not-true, not-false}

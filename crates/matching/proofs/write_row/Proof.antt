@@ -1,6 +1,5 @@
 -- A match's row.
 use borrow.Author.Needs.{needs}
-use native.Mathlib.Omega.{arith}
 use Rattle.matching.proofs.Written.{row-written}
 use Rattle.matching.proofs.write_row.Statement.{statement}
 use Rattle.matching.proofs.write_row.Tie as tie

@@ -1,7 +1,7 @@
 use borrow.Author.Needs.{needs}
 use mathlib.Core.Path.{sym, subst}
 use lib.ListN.{length}
-use Rattle.covers.specs.Outcome.{operation, listOutcome}
+use Rattle.covers.specs.Outcome.{listOutcome}
 use Rattle.covers.specs.Demands.{ListDemands, WhereSound}
 use Rattle.covers.proofs.Demands.{list-demands}
 use Rattle.mapper.specs.Promises.{leastOutput, taskAnswer}

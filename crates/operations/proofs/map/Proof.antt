@@ -1,7 +1,7 @@
 use borrow.Author.Needs.{needs}
 use mathlib.Core.Path.{sym, subst}
 use lib.ListN.{length}
-use Rattle.covers.specs.Outcome.{operation, mapOutcome}
+use Rattle.covers.specs.Outcome.{mapOutcome}
 use Rattle.covers.specs.Demands.{MapDemands, WhereSound}
 use Rattle.covers.proofs.Demands.{map-demands}
 use Rattle.mapper.specs.Promises.{leastOutput, taskAnswer}

@@ -1,7 +1,7 @@
 use native.Mathlib.Omega.{arith}
 use Prim.Native.Nat.{ℕ, _≤_, _+_, _-_, _*_}
 use mathlib.Core.Path.{_≡_, refl, sym, ap, _∙_}
-use mathlib.Core.List.{List, [], map, map-id}
+use mathlib.Core.List.{List, map, map-id}
 use Rattle.shapes.specs.declared.Scan.{Scan}
 use Rattle.shapes.specs.Reading.{place, times}
 use Rattle.shapes.proofs.Laws.{times-value, times-scan}

@@ -1,5 +1,4 @@
 use borrow.Author.Needs.{needs}
-use native.Mathlib.Omega.{arith}
 use Rattle.writing.proofs.Laws.{cover-written}
 use Rattle.writing.proofs.write_cover.Statement.{statement}
 use Rattle.writing.proofs.write_cover.Tie as tie
