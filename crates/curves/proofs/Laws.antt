@@ -8,7 +8,8 @@ use Prim.Native.Nat.{ℕ, zero, suc, _+_, _-_, _*_, _/_, _%_, _≤_, _<_, min, m
 use native.Mathlib.Nat.{div-add-mod', mul-le-mul, mod-eq-of-lt, div-eq-of-lt}
 use native.Mathlib.Numerals.{add-one}
 use native.Mathlib.Omega.{arith}
-use lib.ListN.{getD, take, drop}
+use lib.ListN.{getD, take, drop, length-drop}
+use lib.Seq.{length-take-le}
 use borrow.Author.Tests.{eq-eqb, ne-eqb, lt-ltb, le-ltb, le-leb, lt-leb}
 use Rattle.covers.specs.Cover.{Point, late, raised, beside}
 use Rattle.covers.specs.Choice.{before, lesser}
@@ -16,7 +17,7 @@ use Rattle.covers.specs.Curve.{base, both, lookup, pointOf, wordOf}
 use Rattle.covers.proofs.Points.{point-path, both-assoc, Leq, smaller, earlier, pick-left, pick-right, lesser-none}
 use Rattle.covers.proofs.Basics.{lt-or-le}
 use Rattle.curves.specs.Words.{absent, stored, tableOf}
-use Rattle.curves.specs.Best.{inputBest, inputLate, rowDelay, inputsBest, rowBest, legalBest, rowsBest}
+use Rattle.curves.specs.Best.{inputBest, inputLate, rowDelay, inputsBest, rowBest, legalBest, rowsBest, RowSafe, Tables, Matches}
 use Rattle.curves.specs.Promises.{Worth}
 
 -- ---- words
@@ -202,3 +203,14 @@ pub rows-turn : (symbols work found : List ℕ) (load end j v w : ℕ) → Worth
 unfolding rowsBest
 rows-turn symbols work found load end j v w a b =
     rw add-one (lesser-word 2251799813685248 end v w (rowsBest symbols work found load end j) (legalBest symbols work (take 68 (drop (68 * j) found)) load end) (omega arith) a b)
+
+-- The row of one of the matches, lent as a part of the table.
+pub row-tables : {found : List ℕ} {count : ℕ} {symbols work : List ℕ} → Matches found count symbols work → (j : ℕ) → j < count → (n : ℕ) → n ≡ 68 → Tables (take n (drop (68 * j) found)) symbols work
+row-tables {found} m j h n e = record {
+  safe = subst (λ (k : ℕ). RowSafe (take k (drop (68 * j) found))) (sym e) (m .rows j h);
+  row-length = length-take-le n (drop (68 * j) found) (omega (arith, length-drop (68 * j) found, m .found-length, m .few)) ∙ e;
+  symbols-length = m .symbols-length;
+  work-length = m .work-length;
+  symbols-small = m .symbols-small;
+  work-small = m .work-small;
+}

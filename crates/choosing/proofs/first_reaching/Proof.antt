@@ -1,15 +1,15 @@
 -- The loop over the found rows, left with the first that reaches: none before it does.
 use native.Mathlib.Omega.{arith}
 use Prim.Native.Nat.{ℕ, _+_, _-_, _*_, _%_, _≤_, _<_}
-use mathlib.Core.Path.{_≡_, sym, subst, _∙_}
+use mathlib.Core.Path.{_≡_, sym, subst}
 use mathlib.Core.Logic.{_⊎_, inl, inr}
 use mathlib.Core.List.{List}
-use lib.ListN.{take, drop, length-drop}
-use lib.Seq.{length-take-le}
+use lib.ListN.{take, drop}
 use Rattle.covers.proofs.Basics.{lt-or-le}
 use Rattle.covers.specs.Curve.{base}
-use Rattle.curves.specs.Best.{legalBest, RowSafe}
+use Rattle.curves.specs.Best.{legalBest}
 use Rattle.curves.specs.Promises.{Worth}
+use Rattle.curves.proofs.Laws.{row-tables}
 use Rattle.choosing.specs.Promises.{Reaches, rowOf}
 use Rattle.choosing.proofs.Reading.{reached, unreached}
 use Rattle.choosing.proofs.first_reaching.Statement.{statement}
@@ -48,20 +48,8 @@ add-legal-match-2 c = omega arith
 legal-match-requires : tie.Need-legal-match-requires Inv-loop μ-loop
 legal-match-requires c κs =
     let p = c .before .before .before .before .before .before .pre in
-    let a = c .before .before .before .before .before .before .args in
     let j = c .before .before .loop .j in
-    let m = p .0 in
-    let part : 68 * j + 68 - 68 * j ≡ 68 = omega arith in (
-      record {
-        safe = subst (λ (n : ℕ). RowSafe (take n (drop (68 * j) (a .found .now)))) (sym part) (m .rows j (omega arith));
-        row-length = length-take-le (68 * j + 68 - 68 * j) (drop (68 * j) (a .found .now)) (omega (arith, length-drop (68 * j) (a .found .now), m .found-length, m .few)) ∙ part;
-        symbols-length = m .symbols-length;
-        work-length = m .work-length;
-        symbols-small = m .symbols-small;
-        work-small = m .work-small;
-      },
-      (p .1 .0, omega arith),
-    )
+    (row-tables (p .0) j (omega arith) (68 * j + 68 - 68 * j) (omega arith), (p .1 .0, omega arith))
 
 add-j : tie.Need-add-j Inv-loop μ-loop
 add-j c = omega arith

@@ -1,12 +1,11 @@
 use native.Mathlib.Omega.{arith}
 use Prim.Native.Nat.{ℕ, _+_, _-_, _*_, _≤_}
-use mathlib.Core.Path.{_≡_, refl, sym, subst, _∙_}
+use mathlib.Core.Path.{_≡_, refl, sym, subst}
 use mathlib.Core.Option.{none}
-use lib.ListN.{take, drop, length-drop}
-use lib.Seq.{length-take-le}
-use Rattle.curves.specs.Best.{legalBest, rowsBest, RowSafe}
+use lib.ListN.{take, drop}
+use Rattle.curves.specs.Best.{legalBest, rowsBest}
 use Rattle.curves.specs.Promises.{Worth}
-use Rattle.curves.proofs.Laws.{worth-none, rows-turn}
+use Rattle.curves.proofs.Laws.{worth-none, rows-turn, row-tables}
 use Rattle.curves.proofs.best.Statement.{statement}
 use Rattle.curves.proofs.best.Tie as tie
 use Rattle.curves.proofs.best.Reads as reads
@@ -21,67 +20,43 @@ Inv-loop found count symbols work load end least₀ j₀ least j =
 abbrev μ-loop : tie.MeasureT-loop
 μ-loop found count symbols work load end least₀ j₀ least j = count - j
 
--- src/lib.rt:162:5
 loop-holds : tie.Need-loop-holds Inv-loop μ-loop
 unfolding rowsBest
 loop-holds c = (omega arith, worth-none 2251799813685248 (c .before .before .before .args .end) none refl)
 
--- src/lib.rt:163:21
 mul-first : tie.Need-mul-first Inv-loop μ-loop
 mul-first c = omega arith
 
--- src/lib.rt:164:43
 add-legal-match : tie.Need-add-legal-match Inv-loop μ-loop
 add-legal-match c = omega arith
 
--- src/lib.rt:164:29
 mul-legal-match : tie.Need-mul-legal-match Inv-loop μ-loop
 mul-legal-match c = omega arith
 
--- src/lib.rt:164:29
 sub-legal-match : tie.Need-sub-legal-match Inv-loop μ-loop
 sub-legal-match c = omega arith
 
--- src/lib.rt:164:29
 part-legal-match-start : tie.Need-part-legal-match-start Inv-loop μ-loop
 part-legal-match-start c = omega arith
 
--- src/lib.rt:164:29
 part-legal-match-end : tie.Need-part-legal-match-end Inv-loop μ-loop
 part-legal-match-end c = omega arith
 
--- src/lib.rt:164:13
 legal-match-requires : tie.Need-legal-match-requires Inv-loop μ-loop
 legal-match-requires c κs =
     let p = c .before .before .before .before .before .before .pre in
-    let a = c .before .before .before .before .before .before .args in
     let j = c .before .before .loop .j in
-    let m = p .0 in
-    let part : 68 * j + 68 - 68 * j ≡ 68 = omega arith in (
-      record {
-        safe = subst (λ (n : ℕ). RowSafe (take n (drop (68 * j) (a .found .now)))) (sym part) (m .rows j (omega arith));
-        row-length = length-take-le (68 * j + 68 - 68 * j) (drop (68 * j) (a .found .now)) (omega (arith, length-drop (68 * j) (a .found .now), m .found-length, m .few)) ∙ part;
-        symbols-length = m .symbols-length;
-        work-length = m .work-length;
-        symbols-small = m .symbols-small;
-        work-small = m .work-small;
-      },
-      p .1,
-    )
+    (row-tables (p .0) j (omega arith) (68 * j + 68 - 68 * j) (omega arith), p .1)
 
--- src/lib.rt:165:9
 lower-requires : tie.Need-lower-requires Inv-loop μ-loop
 lower-requires c κs = omega arith
 
--- src/lib.rt:166:9
 add-j : tie.Need-add-j Inv-loop μ-loop
 add-j c = omega arith
 
--- src/lib.rt:162:5
 loop-less : tie.Need-loop-less Inv-loop μ-loop
 loop-less c = omega arith
 
--- src/lib.rt:162:5
 loop-again : tie.Need-loop-again Inv-loop μ-loop
 loop-again c =
     let a = c .before .before .before .before .before .before .before .before .args in
@@ -94,7 +69,6 @@ loop-again c =
           (subst (λ (n : ℕ). Worth 2251799813685248 (a .end) (w .result) (legalBest (a .symbols .now) (a .work .now) (take n (drop (68 * i .j) (a .found .now))) (a .load) (a .end))) part (w .ensures))),
     )
 
--- src/lib.rt:155:1
 returns : tie.Need-returns Inv-loop μ-loop
 returns c =
     let a = c .before .before .before .before .before .args in

@@ -29,22 +29,18 @@ Inv-loop row symbols work load end count area₀ arrival₀ k₀ area arrival k 
 abbrev μ-loop : tie.MeasureT-loop
 μ-loop row symbols work load end count area₀ arrival₀ k₀ area arrival k = count - k
 
--- src/lib.rt:113:9
 returns : tie.Need-returns Inv-loop μ-loop
 returns c =
     let a = c .before .before .before .before .args in
     worth-none 2251799813685248 (a .end) _ (row-none (a .symbols .now) (a .work .now) (a .row .now) (a .load) (a .end) (getD (a .row .now) 3 0) refl
     (match-nothing (a .symbols .now) (a .work .now) (a .row .now) (a .load) (a .end) (getD (a .row .now) 3 0) (c .if1 .taken)))
 
--- src/lib.rt:115:17
 shared-slice-read-count : tie.Need-shared-slice-read-count Inv-loop μ-loop
 shared-slice-read-count c = omega arith
 
--- src/lib.rt:115:17
 cast-count : tie.Need-cast-count Inv-loop μ-loop
 cast-count c = omega (arith, c .before .before .before .before .before .pre .0 .safe .few)
 
--- src/lib.rt:119:5
 loop-holds : tie.Need-loop-holds Inv-loop μ-loop
 loop-holds c = (
   omega arith,
@@ -54,21 +50,17 @@ loop-holds c = (
   ap (inputsBest (c .before .before .before .before .before .args .symbols .now) (c .before .before .before .before .before .args .work .now) (c .before .before .before .before .before .args .row .now) (c .before .before .before .before .before .args .load) (c .before .before .before .before .before .args .end) 4) (sym (sub-zero (getD (c .before .before .before .before .before .args .row .now) 3 0))) ∙ sym (both-nothing _),
 )
 
--- src/lib.rt:120:63
 mul-input-word : tie.Need-mul-input-word Inv-loop μ-loop
 mul-input-word c = omega arith
 
--- src/lib.rt:120:59
 add-input-word : tie.Need-add-input-word Inv-loop μ-loop
 add-input-word c = omega arith
 
--- src/lib.rt:120:13
 input-word-requires : tie.Need-input-word-requires Inv-loop μ-loop
 input-word-requires c κs =
     let p = c .before .before .before .before .before .before .before .pre in
     (p .0, (p .0 .safe .inputs (c .before .loop .k) (omega (arith, c .before .loop .inv .1)), p .1))
 
--- src/lib.rt:122:13
 returns-2 : tie.Need-returns-2 Inv-loop μ-loop
 returns-2 c =
     let a = c .before .before .before .before .before .before .before .before .before .args in
@@ -78,23 +70,18 @@ returns-2 c =
     (i .inv .4 ∙ ap (λ (m : ℕ). both (some p) (inputsBest (a .symbols .now) (a .work .now) (a .row .now) (a .load) (a .end) (4 + 4 * i .k) m)) (one-less _ (i .k) (omega arith))
     ∙ match-stops (a .symbols .now) (a .work .now) (a .row .now) (a .load) (a .end) (4 + 4 * i .k) _ p (c .before .input-word .ensures .missing (c .if2 .taken))))
 
--- src/lib.rt:124:9
 add-area : tie.Need-add-area Inv-loop μ-loop
 add-area c = omega (arith, c .before .input-word .ensures .small (c .if2 .left), c .before .before .before .loop .inv .2, c .before .before .before .before .before .before .before .before .before .pre .0 .safe .few)
 
--- src/lib.rt:125:9
 later-requires : tie.Need-later-requires Inv-loop μ-loop
 later-requires c κs = omega arith
 
--- src/lib.rt:126:9
 add-k : tie.Need-add-k Inv-loop μ-loop
 add-k c = omega arith
 
--- src/lib.rt:119:5
 loop-less : tie.Need-loop-less Inv-loop μ-loop
 loop-less c = omega arith
 
--- src/lib.rt:119:5
 loop-again : tie.Need-loop-again Inv-loop μ-loop
 loop-again c =
     let a = c .before .before .before .before .before .before .before .before .before .before .args in
@@ -115,27 +102,21 @@ loop-again c =
           ∙ ap₂ (λ (t at : ℕ). both (some (record { area = i .area + w / base; arrival = t })) (best at (n - (i .k + 1)))) (sym (c .later .ensures)) four,
     )
 
--- src/lib.rt:128:11
 shared-slice-read-wide : tie.Need-shared-slice-read-wide Inv-loop μ-loop
 shared-slice-read-wide c = omega arith
 
--- src/lib.rt:128:6
 wide-requires : tie.Need-wide-requires Inv-loop μ-loop
 wide-requires c κs = omega arith
 
--- src/lib.rt:128:6
 add-result : tie.Need-add-result Inv-loop μ-loop
 add-result c = omega arith
 
--- src/lib.rt:128:5
 mul-result : tie.Need-mul-result Inv-loop μ-loop
 mul-result c = omega arith
 
--- src/lib.rt:128:5
 add-result-2 : tie.Need-add-result-2 Inv-loop μ-loop
 add-result-2 c = omega arith
 
--- src/lib.rt:107:1
 returns-3 : tie.Need-returns-3 Inv-loop μ-loop
 returns-3 c =
     let a = c .before .before .before .before .before .before .before .before .before .args in

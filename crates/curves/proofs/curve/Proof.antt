@@ -35,25 +35,20 @@ fits : (symbols work found : List ℕ) (load count : ℕ) → PointsFit symbols 
 unfolding pointOf
 fits symbols work found load count h e w q = h e (pointOf w) q .area
 
--- src/lib.rt:180:14
 mul-at : tie.Need-mul-at Inv-loop μ-loop
 mul-at c = omega arith
 
--- src/lib.rt:180:35
 mul-at-2 : tie.Need-mul-at-2 Inv-loop μ-loop
 mul-at-2 c = omega arith
 
--- src/lib.rt:180:14
 add-at : tie.Need-add-at Inv-loop μ-loop
 add-at c = omega arith
 
--- src/lib.rt:183:5
 loop-holds : tie.Need-loop-holds Inv-loop μ-loop
 loop-holds c =
     let a = c .before .before .before .args in
     (omega arith, refl, omega arith, c .before .before .before .pre .0 .work-small, growing-start (a .symbols .now) (a .work .now) (a .found .now) (a .load) (a .count) (128 * a .node + 32 * a .bin))
 
--- src/lib.rt:184:13
 best-requires : tie.Need-best-requires Inv-loop μ-loop
 best-requires c κs =
     let i = c .before .before .loop in
@@ -70,22 +65,18 @@ best-requires c κs =
       (omega arith, i .inv .2),
     )
 
--- src/lib.rt:186:13
 same-length : tie.Need-same-length Inv-loop μ-loop
 same-length c = c .before .before .before .before .loop .inv .1
 
--- src/lib.rt:186:13
 returns : tie.Need-returns Inv-loop μ-loop
 returns c =
     let a = c .before .before .before .before .before .before .before .before .args in
     let i = c .before .before .before .before .loop in
     growing-done (a .symbols .now) (a .work .now) (a .found .now) (a .load) (a .count) (128 * a .node + 32 * a .bin) (i .k) (i .end) (i .work) (i .inv .0) (i .inv .3) (i .inv .4) (sym (seen (c .before)) ∙ c .before .best .ensures .missing (c .if1 .taken))
 
--- src/lib.rt:189:13
 same-length-2 : tie.Need-same-length-2 Inv-loop μ-loop
 same-length-2 c = c .before .before .before .before .before .loop .inv .1
 
--- src/lib.rt:189:13
 returns-2 : tie.Need-returns-2 Inv-loop μ-loop
 returns-2 c =
     let a = c .before .before .before .before .before .before .before .before .before .args in
@@ -94,27 +85,21 @@ returns-2 c =
     (subst (λ (k : ℕ). Growing (a .symbols .now) (a .work .now) (a .found .now) (a .load) (a .count) (128 * a .node + 32 * a .bin) k (i .end) (i .work)) (c .if2 .taken) (i .inv .4))
     (sym (seen (c .before .before)) ∙ c .before .before .best .ensures .point (c .before .if1 .left))
 
--- src/lib.rt:191:14
 add-work : tie.Need-add-work Inv-loop μ-loop
 add-work c = omega arith
 
--- src/lib.rt:191:9
 mul-work : tie.Need-mul-work Inv-loop μ-loop
 mul-work c = omega arith
 
--- src/lib.rt:191:9
 slice-write-work : tie.Need-slice-write-work Inv-loop μ-loop
 slice-write-work c = omega (arith, c .before .before .before .before .before .loop .inv .1, c .before .before .before .before .before .before .before .before .before .pre .0 .work-length, c .before .before .before .before .before .before .before .before .before .pre .1 .0)
 
--- src/lib.rt:193:9
 add-k : tie.Need-add-k Inv-loop μ-loop
 add-k c = omega arith
 
--- src/lib.rt:183:5
 loop-less : tie.Need-loop-less Inv-loop μ-loop
 loop-less c = omega arith
 
--- src/lib.rt:183:5
 loop-again : tie.Need-loop-again Inv-loop μ-loop
 loop-again c =
     let a = c .before .before .before .before .before .before .before .before .before .args in
@@ -130,11 +115,9 @@ loop-again c =
       growing-next (a .symbols .now) (a .work .now) (a .found .now) (a .load) (a .count) (128 * a .node + 32 * a .bin) (i .k) (i .end) (i .work) w (omega arith) (i .inv .4) found,
     )
 
--- src/lib.rt:173:1
 same-length-3 : tie.Need-same-length-3 Inv-loop μ-loop
 same-length-3 c = c .before .loop .inv .1
 
--- src/lib.rt:173:1
 returns-3 : tie.Need-returns-3 Inv-loop μ-loop
 returns-3 c = absurd (omega arith)
 

@@ -12,27 +12,21 @@ use Rattle.curves.proofs.wide.Reads as wide-reads
 product : (c : tie.After-wide3) → c .before .wide2 .result * c .wide3 .result ≤ 65025
 product c = drive-bound (c .before .wide2 .result) (c .wide3 .result) (omega (arith, c .before .wide2 .ensures)) (omega (arith, c .wide3 .ensures))
 
--- src/lib.rt:68:5
 wide-requires : tie.Need-wide-requires
 wide-requires c κs = search needs
 
--- src/lib.rt:68:23
 wide-requires-2 : tie.Need-wide-requires-2
 wide-requires-2 c κs = search needs
 
--- src/lib.rt:68:37
 wide-requires-3 : tie.Need-wide-requires-3
 wide-requires-3 c κs = search needs
 
--- src/lib.rt:68:23
 mul-result : tie.Need-mul-result
 mul-result c = record { fits = omega (arith, product c) }
 
--- src/lib.rt:68:5
 add-result : tie.Need-add-result
 add-result c = record { fits = omega (arith, product c) }
 
--- src/lib.rt:64:1
 returns : tie.Need-returns
 returns c = (ap₂ _+_ (c .before .before .wide .ensures) (ap₂ _*_ (c .before .wide2 .ensures) (c .wide3 .ensures)), omega (arith, product c))
 

@@ -17,30 +17,24 @@ Inv-loop work at end k₀ k = (k ≤ 32) × (lookup end (stored work at 32) ≡ 
 abbrev μ-loop : tie.MeasureT-loop
 μ-loop work at end k₀ k = 32 - k
 
--- src/lib.rt:28:5
 loop-holds : tie.Need-loop-holds Inv-loop μ-loop
 loop-holds c = (omega arith, ap (λ (i : ℕ). lookup (c .args .end) (stored (c .args .work .now) i 32)) (sym (add-zero (c .args .at))))
 
--- src/lib.rt:29:22
 add-w : tie.Need-add-w Inv-loop μ-loop
 add-w c = omega arith
 
--- src/lib.rt:29:17
 mul-w : tie.Need-mul-w Inv-loop μ-loop
 mul-w c = omega arith
 
--- src/lib.rt:29:17
 shared-slice-read-w : tie.Need-shared-slice-read-w Inv-loop μ-loop
 shared-slice-read-w c = omega arith
 
--- src/lib.rt:31:13
 returns : tie.Need-returns Inv-loop μ-loop
 returns c =
     let a = c .before .before .before .before .args in
     let i = c .before .before .before .loop in
     worth-none 70368744177664 (a .end) _ (i .inv .1 ∙ ap (λ (n : ℕ). lookup (a .end) (stored (a .work .now) (a .at + i .k) n)) (one-less 32 (i .k) (omega arith)) ∙ found-end (a .work .now) (a .end) (a .at + i .k) (32 - (i .k + 1)) (c .if1 .taken))
 
--- src/lib.rt:34:13
 returns-2 : tie.Need-returns-2 Inv-loop μ-loop
 returns-2 c =
     let a = c .before .before .before .before .before .args in
@@ -49,15 +43,12 @@ returns-2 c =
     (i .inv .1 ∙ ap (λ (n : ℕ). lookup (a .end) (stored (a .work .now) (a .at + i .k) n)) (one-less 32 (i .k) (omega arith))
     ∙ found-here (a .work .now) (a .end) (a .at + i .k) (32 - (i .k + 1)) (c .before .if1 .left) (c .if2 .taken))
 
--- src/lib.rt:36:9
 add-k : tie.Need-add-k Inv-loop μ-loop
 add-k c = omega arith
 
--- src/lib.rt:28:5
 loop-less : tie.Need-loop-less Inv-loop μ-loop
 loop-less c = omega arith
 
--- src/lib.rt:28:5
 loop-again : tie.Need-loop-again Inv-loop μ-loop
 loop-again c =
     let a = c .before .before .before .before .before .args in
@@ -69,7 +60,6 @@ loop-again c =
           ∙ ap (λ (q : ℕ). lookup (a .end) (stored (a .work .now) q (32 - (i .k + 1)))) on,
     )
 
--- src/lib.rt:23:1
 returns-3 : tie.Need-returns-3 Inv-loop μ-loop
 unfolding stored lookup
 returns-3 c =

@@ -9,47 +9,37 @@ use Rattle.curves.proofs.input_best.Reads as reads
 use Rattle.curves.proofs.input_best.Lts as lts
 use Rattle.curves.proofs.find.Reads as find-reads
 
--- src/lib.rt:46:18
 mul-symbol : tie.Need-mul-symbol
 mul-symbol c = search needs
 
--- src/lib.rt:46:18
 shared-slice-read-symbol : tie.Need-shared-slice-read-symbol
 shared-slice-read-symbol c = search needs
 
--- src/lib.rt:48:23
 cast-arrival : tie.Need-cast-arrival
 cast-arrival c = search needs
 
--- src/lib.rt:50:13
 returns : tie.Need-returns
 returns c =
     let a = c .before .before .before .before .before .args in
     leaf-timely (a .symbols .now) (a .work .now) (a .node) (a .bin) (a .end) (c .before .if1 .taken) (omega arith) (c .if2 .taken)
 
--- src/lib.rt:52:9
 returns-2 : tie.Need-returns-2
 returns-2 c =
     let a = c .before .before .before .before .before .args in
     worth-none 70368744177664 (a .end) _ (leaf-late (a .symbols .now) (a .work .now) (a .node) (a .bin) (a .end) (c .before .if1 .taken) (c .if2 .left))
 
--- src/lib.rt:54:16
 mul-find : tie.Need-mul-find
 mul-find c = search needs
 
--- src/lib.rt:54:37
 mul-find-2 : tie.Need-mul-find-2
 mul-find-2 c = search needs
 
--- src/lib.rt:54:16
 add-find : tie.Need-add-find
 add-find c = search needs
 
--- src/lib.rt:54:5
 find-requires : tie.Need-find-requires
 find-requires c κs = search needs
 
--- src/lib.rt:42:1
 returns-3 : tie.Need-returns-3
 returns-3 c =
     let a = c .before .before .before .before .before .args in

@@ -26,67 +26,51 @@ read c =
     subst (λ (k : ℕ). Worth 70368744177664 k (c .input-best .result) (inputBest (a .symbols .now) (a .work .now) (getD (a .row .now) (a .at) 0) (getD (a .row .now) (a .at + 1) 0) k))
     (c .before .less .ensures) (c .input-best .ensures)
 
--- src/lib.rt:98:23
 add-delay : tie.Need-add-delay
 add-delay c = search needs
 
--- src/lib.rt:98:19
 mul-delay : tie.Need-mul-delay
 mul-delay c = search needs
 
--- src/lib.rt:98:19
 shared-slice-read-delay : tie.Need-shared-slice-read-delay
 shared-slice-read-delay c = search needs
 
--- src/lib.rt:98:36
 add-delay-2 : tie.Need-add-delay-2
 add-delay-2 c = search needs
 
--- src/lib.rt:98:32
 mul-delay-2 : tie.Need-mul-delay-2
 mul-delay-2 c = search needs
 
--- src/lib.rt:98:32
 shared-slice-read-delay-2 : tie.Need-shared-slice-read-delay-2
 shared-slice-read-delay-2 c = search needs
 
--- src/lib.rt:98:9
 delay-requires : tie.Need-delay-requires
 delay-requires c κs = search needs
 
--- src/lib.rt:99:39
 mul-input-best : tie.Need-mul-input-best
 mul-input-best c = search needs
 
--- src/lib.rt:99:39
 shared-slice-read-input-best : tie.Need-shared-slice-read-input-best
 shared-slice-read-input-best c = search needs
 
--- src/lib.rt:99:39
 cast-input-best : tie.Need-cast-input-best
 cast-input-best c = search needs
 
--- src/lib.rt:99:61
 add-input-best : tie.Need-add-input-best
 add-input-best c = search needs
 
--- src/lib.rt:99:57
 mul-input-best-2 : tie.Need-mul-input-best-2
 mul-input-best-2 c = search needs
 
--- src/lib.rt:99:57
 shared-slice-read-input-best-2 : tie.Need-shared-slice-read-input-best-2
 shared-slice-read-input-best-2 c = search needs
 
--- src/lib.rt:99:57
 cast-input-best-2 : tie.Need-cast-input-best-2
 cast-input-best-2 c = search needs
 
--- src/lib.rt:99:79
 less-requires : tie.Need-less-requires
 less-requires c κs = search needs
 
--- src/lib.rt:99:9
 input-best-requires : tie.Need-input-best-requires
 input-best-requires c κs =
     let a = c .before .before .before .before .before .before .before .before .before .args in
@@ -94,18 +78,15 @@ input-best-requires c κs =
     let i = c .before .before .before .before .before .before .before .before .before .pre .1 .0 in
     (omega (arith, i .node, t .symbols-length), omega (arith, i .node, i .bin, t .work-length), t .symbols-small (getD (a .row .now) (a .at) 0), t .work-small)
 
--- src/lib.rt:101:9
 returns : tie.Need-returns
 returns c =
     let a = c .before .before .before .before .before .before .before .before .before .before .before .args in
     worth-none 70368744177664 (a .end) _
     (input-missing (a .symbols .now) (a .work .now) (a .row .now) (a .load) (a .end) (a .at) (c .before .before .before .before .before .delay .result) (c .before .input-best .result) (is-delay (c .before)) (read (c .before)) (c .if1 .taken))
 
--- src/lib.rt:103:5
 add-result : tie.Need-add-result
 add-result c = omega (arith, c .before .input-best .ensures .small (c .if1 .left), c .before .before .before .before .before .delay .ensures .1)
 
--- src/lib.rt:92:1
 returns-2 : tie.Need-returns-2
 returns-2 c =
     let a = c .before .before .before .before .before .before .before .before .before .before .before .args in

@@ -8,21 +8,17 @@ use Rattle.curves.proofs.legal_match.Reads as reads
 use Rattle.curves.proofs.legal_match.Lts as lts
 use Rattle.curves.proofs.best_match.Reads as best-match-reads
 
--- src/lib.rt:138:8
 shared-slice-read-if1 : tie.Need-shared-slice-read-if1
 shared-slice-read-if1 c = search needs
 
--- src/lib.rt:139:9
 returns : tie.Need-returns
 returns c =
     let a = c .before .before .before .before .before .args in
     worth-none 2251799813685248 (a .end) _ (legal-none (a .symbols .now) (a .work .now) (a .row .now) (a .load) (a .end) (c .if1 .taken))
 
--- src/lib.rt:141:5
 best-match-requires : tie.Need-best-match-requires
 best-match-requires c κs = search needs
 
--- src/lib.rt:133:1
 returns-2 : tie.Need-returns-2
 returns-2 c =
     let a = c .before .before .before .before .before .before .args in

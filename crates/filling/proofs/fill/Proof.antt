@@ -21,15 +21,12 @@ Inv-loop rows total cells loads bins symbols sizes count load found₀ work₀ n
 abbrev μ-loop : tie.MeasureT-loop
 μ-loop rows total cells loads bins symbols sizes count load found₀ work₀ node₀ found work node = node
 
--- src/lib.rt:92:5
 loop-holds : tie.Need-loop-holds Inv-loop μ-loop
 loop-holds c = ((some-node (c .before .before .before .before .before .pre .1 .1), le-refl _), refl, refl, λ l t g. begun g)
 
--- src/lib.rt:93:9
 sub-node : tie.Need-sub-node Inv-loop μ-loop
 sub-node c = omega arith
 
--- src/lib.rt:94:13
 fill-at-requires : tie.Need-fill-at-requires Inv-loop μ-loop
 fill-at-requires c κs =
     let p = c .before .before .before .before .before .before .before .before .before .pre in
@@ -41,19 +38,15 @@ fill-at-requires c κs =
     let x = ready g (i .found) (i .work) n (a .bins) (i .inv .1 ∙ g .room) (i .inv .2 ∙ g .work-length) (omega arith) (bins-few g) (subst (λ (k : ℕ). Progress (p .0) (p .1 .0) k (i .work)) e (i .inv .3 (p .0) (p .1 .0) g)) in
     ((p .0, (p .1 .0, (x .0, x .1))), light g)
 
--- src/lib.rt:95:12
 too-many-requires : tie.Need-too-many-requires Inv-loop μ-loop
 too-many-requires c κs = bins-few (c .before .before .before .before .before .before .before .before .before .before .before .before .before .before .pre .1 .1)
 
--- src/lib.rt:96:13
 same-length : tie.Need-same-length Inv-loop μ-loop
 same-length c = search needs
 
--- src/lib.rt:96:13
 same-length-2 : tie.Need-same-length-2 Inv-loop μ-loop
 same-length-2 c = search needs
 
--- src/lib.rt:96:13
 returns : tie.Need-returns Inv-loop μ-loop
 returns c = λ l t g.
     let i = c .before .before .before .before .before .before .before .before .before .before .loop in
@@ -62,11 +55,9 @@ returns c = λ l t g.
     turn g (i .found) (i .work) (call .last .1 .1 .1 .1 .1 .1 .1 .0) (call .result) (i .inv .1) (i .inv .2) (i .node - 1) (omega arith) (omega arith) (subst (λ (k : ℕ). Progress l t k (i .work)) e (i .inv .3 l t g)) (call .ensures l t) .0
     (subst (λ q. Exceeds q (c .before .before .before .before .before .before .before .before .before .before .before .before .before .before .before .before .args .bins) (call .result)) (c .if1 .taken) (c .before .too-many .ensures))
 
--- src/lib.rt:92:5
 loop-less : tie.Need-loop-less Inv-loop μ-loop
 loop-less c = omega arith
 
--- src/lib.rt:92:5
 loop-again : tie.Need-loop-again Inv-loop μ-loop
 loop-again c =
     let i = c .before .before .before .before .before .before .before .before .before .before .loop in
@@ -80,7 +71,6 @@ loop-again c =
           (subst (λ q. Exceeds q (c .before .before .before .before .before .before .before .before .before .before .before .before .before .before .before .before .args .bins) (call .result)) (c .if1 .left) (c .before .too-many .ensures)),
     )
 
--- src/lib.rt:99:9
 fill-at-requires-2 : tie.Need-fill-at-requires-2 Inv-loop μ-loop
 fill-at-requires-2 c κs =
     let p = c .before .before .before .before .before .before .before .before .before .pre in
@@ -89,19 +79,15 @@ fill-at-requires-2 c κs =
     let x = ready g (i .found) (i .work) 0 1 (i .inv .1 ∙ g .room) (i .inv .2 ∙ g .work-length) (some-node g) (omega arith) (let e : i .node ≡ 1 = omega arith in subst (λ (k : ℕ). Progress (p .0) (p .1 .0) k (i .work)) e (i .inv .3 (p .0) (p .1 .0) g)) in
     ((p .0, (p .1 .0, (x .0, x .1))), light-root g)
 
--- src/lib.rt:100:8
 too-many-requires-2 : tie.Need-too-many-requires-2 Inv-loop μ-loop
 too-many-requires-2 c κs = omega arith
 
--- src/lib.rt:101:9
 same-length-3 : tie.Need-same-length-3 Inv-loop μ-loop
 same-length-3 c = search needs
 
--- src/lib.rt:101:9
 same-length-4 : tie.Need-same-length-4 Inv-loop μ-loop
 same-length-4 c = search needs
 
--- src/lib.rt:101:9
 returns-2 : tie.Need-returns-2 Inv-loop μ-loop
 returns-2 c = λ l t g.
     let i = c .before .before .before .before .before .before .before .before .before .before .loop in
@@ -109,15 +95,12 @@ returns-2 c = λ l t g.
     root-turn g (i .found) (i .work) (call .last .1 .1 .1 .1 .1 .1 .1 .0) (call .result) (i .inv .1) (i .inv .2) (let e : i .node ≡ 1 = omega arith in subst (λ (k : ℕ). Progress l t k (i .work)) e (i .inv .3 l t g)) (call .ensures l t) .0
     (subst (λ q. Exceeds q 1 (call .result)) (c .if2 .taken) (c .before .too-many2 .ensures))
 
--- src/lib.rt:74:1
 same-length-5 : tie.Need-same-length-5 Inv-loop μ-loop
 same-length-5 c = search needs
 
--- src/lib.rt:74:1
 same-length-6 : tie.Need-same-length-6 Inv-loop μ-loop
 same-length-6 c = search needs
 
--- src/lib.rt:74:1
 returns-3 : tie.Need-returns-3 Inv-loop μ-loop
 returns-3 c = λ l t g.
     let i = c .before .before .before .before .before .before .before .before .before .before .loop in

@@ -9,27 +9,22 @@ use Rattle.filling.proofs.fill_at.Lts as lts
 use Rattle.filling.proofs.fill_node.Reads as fill-node-reads
 use Rattle.matching.proofs.find_matches.Reads as find-matches-reads
 
--- src/lib.rt:42:13
 mul-if1 : tie.Need-mul-if1
 mul-if1 c = search needs
 
--- src/lib.rt:42:13
 shared-slice-read-if1 : tie.Need-shared-slice-read-if1
 shared-slice-read-if1 c =
     let g = c .before .before .before .before .before .before .pre .0 .1 .1 .1 in
     omega (arith, node-within g, g .matches .subject .symbols-long)
 
--- src/lib.rt:43:9
 returns : tie.Need-returns
 returns c l t s g = leaf-done g (c .before .before .before .before .before .before .before .args .loads) (leaf-here g (omega arith))
 
--- src/lib.rt:45:9
 find-matches-requires : tie.Need-find-matches-requires
 find-matches-requires c κs =
     let p = c .before .before .before .before .before .before .before .before .pre .0 in
     (p .0, (p .1 .1 .0, p .1 .1 .1 .matches))
 
--- src/lib.rt:46:5
 fill-node-requires : tie.Need-fill-node-requires
 fill-node-requires c κs =
     let first = c .before .before .before .before .before .before .before .before .before .before .before .before .before in
@@ -50,15 +45,12 @@ fill-node-requires c κs =
       ),
     )
 
--- src/lib.rt:37:1
 same-length : tie.Need-same-length
 same-length c = search needs
 
--- src/lib.rt:37:1
 same-length-2 : tie.Need-same-length-2
 same-length-2 c = search needs
 
--- src/lib.rt:37:1
 returns-2 : tie.Need-returns-2
 returns-2 c l t s g =
     let first = c .before .before .before .before .before .before .before .before .before .before .before .before .before .before .before .before in

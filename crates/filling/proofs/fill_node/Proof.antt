@@ -21,7 +21,6 @@ Inv-loop node found count symbols work₀ bins loads points₀ b₀ work points 
 abbrev μ-loop : tie.MeasureT-loop
 μ-loop node found count symbols work₀ bins loads points₀ b₀ work points b = b
 
--- src/lib.rt:26:5
 loop-holds : tie.Need-loop-holds Inv-loop μ-loop
 loop-holds c = (
   omega arith,
@@ -36,19 +35,15 @@ loop-holds c = (
   },
 )
 
--- src/lib.rt:27:9
 sub-b : tie.Need-sub-b Inv-loop μ-loop
 sub-b c = omega arith
 
--- src/lib.rt:28:20
 array-read-load : tie.Need-array-read-load Inv-loop μ-loop
 array-read-load c = omega arith
 
--- src/lib.rt:28:20
 cast-load : tie.Need-cast-load Inv-loop μ-loop
 cast-load c = search needs
 
--- src/lib.rt:29:21
 curve-requires : tie.Need-curve-requires Inv-loop μ-loop
 curve-requires c κs =
     let p = c .before .before .before .before .before .before .pre in
@@ -76,19 +71,15 @@ curve-requires c κs =
       ),
     )
 
--- src/lib.rt:29:21
 cast-points : tie.Need-cast-points Inv-loop μ-loop
 cast-points c = omega (arith, c .before .before .curve .ensures .counted, deadline-few 32 (bestBefore (c .before .before .before .before .before .before .before .before .before .args .symbols .now) (c .before .before .before .before .before .loop .work) (c .before .before .before .before .before .before .before .before .before .args .found .now) (getD (c .before .before .before .before .before .before .before .before .before .args .t6) (c .before .before .before .before .before .loop .b - 1) 0) (c .before .before .before .before .before .before .before .before .before .args .count)) base)
 
--- src/lib.rt:29:9
 array-write-points : tie.Need-array-write-points Inv-loop μ-loop
 array-write-points c = omega arith
 
--- src/lib.rt:26:5
 loop-less : tie.Need-loop-less Inv-loop μ-loop
 loop-less c = omega arith
 
--- src/lib.rt:26:5
 loop-again : tie.Need-loop-again Inv-loop μ-loop
 loop-again c =
     let p = c .before .before .before .before .before .before .before .before .before .pre in
@@ -104,11 +95,9 @@ loop-again c =
           (subst (λ (k : ℕ). Done (a .symbols .now) (a .work .now) (a .found .now) (a .count) (a .t6) (a .node) (a .bins) k (i .work) (i .points)) up d) (r .kept .1 .1 .1 .1 .0) (r .ensures),
     )
 
--- src/lib.rt:16:1
 same-length : tie.Need-same-length Inv-loop μ-loop
 same-length c = c .before .loop .inv .1 .length-kept
 
--- src/lib.rt:16:1
 returns : tie.Need-returns Inv-loop μ-loop
 returns c =
     let i = c .before .loop in

@@ -16,38 +16,30 @@ Inv-loop bins points b₀ b = (b ≤ bins) × ((k : ℕ) → k < b → getD poin
 abbrev μ-loop : tie.MeasureT-loop
 μ-loop bins points b₀ b = bins - b
 
--- src/lib.rt:64:5
 loop-holds : tie.Need-loop-holds Inv-loop μ-loop
 loop-holds c = (omega arith, λ k l. absurd (omega arith))
 
--- src/lib.rt:65:28
 array-read-if1 : tie.Need-array-read-if1 Inv-loop μ-loop
 array-read-if1 c = omega arith
 
--- src/lib.rt:65:28
 cast-if1 : tie.Need-cast-if1 Inv-loop μ-loop
 cast-if1 c = search needs
 
--- src/lib.rt:66:13
 returns : tie.Need-returns Inv-loop μ-loop
 returns c = (c .before .before .loop .b, omega arith, omega arith)
 
--- src/lib.rt:68:9
 add-b : tie.Need-add-b Inv-loop μ-loop
 add-b c = search needs
 
--- src/lib.rt:64:5
 loop-less : tie.Need-loop-less Inv-loop μ-loop
 loop-less c = omega arith
 
--- src/lib.rt:64:5
 loop-again : tie.Need-loop-again Inv-loop μ-loop
 loop-again c =
     let i = c .before .before .loop in
     let points = c .before .before .before .before .args .counts .points in
     (omega arith, λ k l. ⊎-elim (i .inv .1 k) (λ m. let e : k ≡ i .b = omega arith in subst (λ (j : ℕ). getD points j 0 ≤ 31) (sym e) (omega arith)) (lt-or-le k (i .b)))
 
--- src/lib.rt:58:1
 returns-2 : tie.Need-returns-2 Inv-loop μ-loop
 returns-2 c = λ b l. c .before .loop .inv .1 b (omega arith)
 

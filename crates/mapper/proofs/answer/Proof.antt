@@ -6,20 +6,16 @@ use Rattle.mapper.proofs.answer.Tie as tie
 use Rattle.mapper.proofs.answer.Reads as reads
 use Rattle.mapper.proofs.answer.Lts as lts
 
--- src/lib.rt:147:28
 enum-told : tie.Need-enum-told
 enum-told c = search needs
 
--- src/lib.rt:148:23
 enum-known-chosen : tie.Need-enum-known-chosen
 enum-known-chosen c = search needs
 
--- src/lib.rt:143:1
 returns : tie.Need-returns
 unfolding replyTo
 returns c = sym (ap replyTo (c .enum-told .given .1))
 
--- src/lib.rt:143:1
 returns-2 : tie.Need-returns-2
 unfolding replyTo
 returns-2 c = sym (ap replyTo (c .before .chosen .given .1))

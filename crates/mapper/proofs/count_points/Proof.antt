@@ -14,27 +14,21 @@ Inv-loop work k₀ k = (k ≤ 32) × Counted work k
 abbrev μ-loop : tie.MeasureT-loop
 μ-loop work k₀ k = 32 - k
 
--- src/lib.rt:96:5
 loop-holds : tie.Need-loop-holds Inv-loop μ-loop
 loop-holds c = (omega arith, refl)
 
--- src/lib.rt:97:12
 mul-if1 : tie.Need-mul-if1 Inv-loop μ-loop
 mul-if1 c = search needs
 
--- src/lib.rt:97:12
 shared-slice-read-if1 : tie.Need-shared-slice-read-if1 Inv-loop μ-loop
 shared-slice-read-if1 c = omega arith
 
--- src/lib.rt:100:9
 add-k : tie.Need-add-k Inv-loop μ-loop
 add-k c = search needs
 
--- src/lib.rt:96:5
 loop-less : tie.Need-loop-less Inv-loop μ-loop
 loop-less c = omega arith
 
--- src/lib.rt:96:5
 loop-again : tie.Need-loop-again Inv-loop μ-loop
 loop-again c =
     let i = c .before .before .before .loop in
@@ -42,13 +36,11 @@ loop-again c =
     let e = c .if1 in
     (omega arith, counted-more (a .work .now) (i .k) (omega arith) (c .before .before .before .before .pre) (λ z. omega (arith, e, z)) (i .inv .1))
 
--- src/lib.rt:91:1
 returns : tie.Need-returns Inv-loop μ-loop
 returns c =
     let i = c .before .loop in
     (i .inv .0, counted-all (c .before .before .args .work .now) (i .k) (omega arith) (i .inv .1))
 
--- src/lib.rt:91:1
 returns-2 : tie.Need-returns-2 Inv-loop μ-loop
 returns-2 c =
     let i = c .before .before .before .loop in

@@ -8,38 +8,30 @@ use Rattle.mapper.proofs.write_chosen.Lts as lts
 use Rattle.mapper.proofs.write_gate.Reads as write-gate-reads
 use Rattle.mapper.proofs.write_leaf.Reads as write-leaf-reads
 
--- src/lib.rt:79:18
 shared-slice-read-symbol : tie.Need-shared-slice-read-symbol
 shared-slice-read-symbol c = omega (arith, root-room (c .before .before .before .before .before .before .before .pre .1 .1 .1))
 
--- src/lib.rt:81:9
 write-leaf-requires : tie.Need-write-leaf-requires
 write-leaf-requires c κs = search needs
 
--- src/lib.rt:81:9
 same-length : tie.Need-same-length
 same-length c = search needs
 
--- src/lib.rt:81:9
 returns : tie.Need-returns
 returns c l t asked =
     let a = c .before .before .before .before .before .before .before .before .before .before .before .before .args in
     let w = c .before .before .write-leaf in
     leaf-put asked (let e = c .before .before .before .before .if1 in omega (arith, e)) (a .output .now) (w .last .1 .1 .0) (w .result) (w .ensures l (t .load))
 
--- src/lib.rt:83:5
 write-gate-requires : tie.Need-write-gate-requires
 write-gate-requires c κs = search needs
 
--- src/lib.rt:62:1
 same-length-2 : tie.Need-same-length-2
 same-length-2 c = search needs
 
--- src/lib.rt:62:1
 same-length-3 : tie.Need-same-length-3
 same-length-3 c = search needs
 
--- src/lib.rt:62:1
 returns-2 : tie.Need-returns-2
 returns-2 c = search needs
 

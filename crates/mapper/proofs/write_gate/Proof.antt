@@ -12,34 +12,27 @@ use Rattle.choosing.proofs.choose.Reads as choose-reads
 use Rattle.curves.proofs.find.Reads as find-reads
 use Rattle.writing.proofs.write_cover.Reads as write-cover-reads
 
--- src/lib.rt:49:36
 add-find : tie.Need-add-find
 add-find c = search needs
 
--- src/lib.rt:49:35
 cast-find : tie.Need-cast-find
 cast-find c = search needs
 
--- src/lib.rt:49:9
 find-requires : tie.Need-find-requires
 find-requires c κs = search needs
 
--- src/lib.rt:51:9
 returns : tie.Need-returns
 returns c l t asked =
     let a = c .before .before .before .before .before .before .before .before .args in
     let f = c .before .find in
     gate-none asked (c .before .before .before .before .before .before .before .before .pre .1) (f .result) (f .ensures) (a .output .now) (a .output .now) (let e = c .if1 in omega (arith, e)) refl
 
--- src/lib.rt:55:108
 slice-aggregate-choose : tie.Need-slice-aggregate-choose
 slice-aggregate-choose c = search needs
 
--- src/lib.rt:55:120
 slice-aggregate-choose-2 : tie.Need-slice-aggregate-choose-2
 slice-aggregate-choose-2 c = search needs
 
--- src/lib.rt:55:9
 choose-requires : tie.Need-choose-requires
 choose-requires c κs =
     let p = c .before .before .before .before .before .before .before .before .before .before .before .pre in
@@ -47,7 +40,6 @@ choose-requires c κs =
     let e = c .before .before .before .if1 in
     (refl, (p .2 .0, (p .2 .1 .0, (p .2 .1 .0 .shape, gate-chooses (p .2 .1 .1) (p .1) (f .result) (f .ensures) (λ z. omega (arith, e, z)) 64 refl))))
 
--- src/lib.rt:56:16
 cast-area : tie.Need-cast-area
 cast-area c =
     let p = c .before .before .before .before .before .before .before .before .before .before .before .before .before .before .before .before .pre in
@@ -55,19 +47,15 @@ cast-area c =
     let e = c .before .before .before .before .before .before .before .before .if1 in
     omega (arith, gate-small (p .2 .1 .1) (p .1) (f .result) (f .ensures) (λ z. omega (arith, e, z)))
 
--- src/lib.rt:57:19
 cast-arrival : tie.Need-cast-arrival
 cast-arrival c = search needs
 
--- src/lib.rt:58:63
 slice-aggregate-write-cover : tie.Need-slice-aggregate-write-cover
 slice-aggregate-write-cover c = search needs
 
--- src/lib.rt:58:71
 slice-aggregate-write-cover-2 : tie.Need-slice-aggregate-write-cover-2
 slice-aggregate-write-cover-2 c = search needs
 
--- src/lib.rt:58:19
 write-cover-requires : tie.Need-write-cover-requires
 write-cover-requires c κs =
     let first = c .before .before .before .before .before .before .before .before .before .before .before .before .before .before .before .before .before .before .before in
@@ -81,15 +69,12 @@ write-cover-requires c κs =
     let q = count-fits asked (p .1) (f .result) (f .ensures) there (replicate 64 0) (replicate 64 0) (call .last .1 .1 .1 .1 .1 .1 .1 .1 .1 .1 .1 .1 .0) (call .last .1 .1 .1 .1 .1 .1 .1 .1 .1 .1 .1 .1 .1 .0) (call .result) refl refl (call .ensures (p .2 .0) (p .2 .1 .0) (p .2 .1 .0 .shape) all) in
     (q .0, q .1, q .2, p .0)
 
--- src/lib.rt:32:1
 same-length : tie.Need-same-length
 same-length c = search needs
 
--- src/lib.rt:32:1
 same-length-2 : tie.Need-same-length-2
 same-length-2 c = search needs
 
--- src/lib.rt:32:1
 returns-2 : tie.Need-returns-2
 returns-2 c l t asked =
     let first = c .before .before .before .before .before .before .before .before .before .before .before .before .before .before .before .before .before .before .before .before .before .before in

@@ -8,29 +8,23 @@ use Rattle.mapper.proofs.write_leaf.Reads as reads
 use Rattle.mapper.proofs.write_leaf.Lts as lts
 use Rattle.writing.proofs.write_cover.Reads as write-cover-reads
 
--- src/lib.rt:25:9
 returns : tie.Need-returns
 returns c l load =
     let a = c .before .before .args in
     leaf-late l load (a .arrival) (a .time) (a .output .now) (a .output .now) (omega arith) refl
 
--- src/lib.rt:28:60
 slice-aggregate-write-cover : tie.Need-slice-aggregate-write-cover
 slice-aggregate-write-cover c = search needs
 
--- src/lib.rt:28:67
 slice-aggregate-write-cover-2 : tie.Need-slice-aggregate-write-cover-2
 slice-aggregate-write-cover-2 c = search needs
 
--- src/lib.rt:28:19
 write-cover-requires : tie.Need-write-cover-requires
 write-cover-requires c κs = search needs
 
--- src/lib.rt:20:1
 same-length : tie.Need-same-length
 same-length c = search needs
 
--- src/lib.rt:20:1
 returns-2 : tie.Need-returns-2
 returns-2 c l load =
     let a = c .before .before .before .before .before .before .before .before .args in

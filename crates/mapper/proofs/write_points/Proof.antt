@@ -9,30 +9,24 @@ use Rattle.mapper.proofs.write_points.Lts as lts
 use Rattle.mapper.proofs.count_points.Reads as count-points-reads
 use Rattle.writing.proofs.write_list.Reads as write-list-reads
 
--- src/lib.rt:111:18
 shared-slice-read-symbol : tie.Need-shared-slice-read-symbol
 shared-slice-read-symbol c = omega (arith, symbol-here (c .before .before .before .before .pre .1 .1 .1))
 
--- src/lib.rt:113:22
 cast-t11 : tie.Need-cast-t11
 cast-t11 c = let e = c .if1 in omega (arith, leaf-word (c .before .before .before .before .before .pre .1 .1 .1) (omega (arith, e)))
 
--- src/lib.rt:114:58
 slice-aggregate-write-list : tie.Need-slice-aggregate-write-list
 slice-aggregate-write-list c = search needs
 
--- src/lib.rt:114:30
 write-list-requires : tie.Need-write-list-requires
 write-list-requires c κs =
     let p = c .before .before .before .before .before .before .before .pre in
     let e = c .before .before .if1 in
     (omega arith, omega arith, p .0, one-word _ (leaf-word (p .1 .1 .1) (omega (arith, e))))
 
--- src/lib.rt:114:9
 same-length : tie.Need-same-length
 same-length c = search needs
 
--- src/lib.rt:114:9
 returns : tie.Need-returns
 returns c l t given =
     let a = c .before .before .before .before .before .before .before .before .before .before .args in
@@ -40,11 +34,9 @@ returns c l t given =
     let e = c .before .before .before .before .before .if1 in
     leaf-listed given (omega (arith, e)) (a .output .now) (w .last .0) (w .result) (w .ensures)
 
--- src/lib.rt:116:9
 count-points-requires : tie.Need-count-points-requires
 count-points-requires c κs = omega (arith, c .before .before .before .before .before .pre .1 .1 .1 .work-long)
 
--- src/lib.rt:118:9
 returns-2 : tie.Need-returns-2
 returns-2 c l t given =
     let a = c .before .before .before .before .before .before .before .args in
@@ -53,7 +45,6 @@ returns-2 c l t given =
     let z = c .if2 in
     gate-empty given (omega (arith, e)) (k .result) (k .ensures .1) (k .ensures .0) (a .output .now) (a .output .now) (omega (arith, z)) refl
 
--- src/lib.rt:120:19
 write-list-requires-2 : tie.Need-write-list-requires-2
 write-list-requires-2 c κs =
     let p = c .before .before .before .before .before .before .before .before .pre in
@@ -62,11 +53,9 @@ write-list-requires-2 c κs =
     let q = gate-fits (p .1 .1 .1) (omega (arith, e)) (k .result) (k .ensures .1) (k .ensures .0) in
     (q, omega (arith, q, p .1 .1 .1 .work-long), p .0, λ j h. p .1 .1 .1 .curves .small j)
 
--- src/lib.rt:106:1
 same-length-2 : tie.Need-same-length-2
 same-length-2 c = search needs
 
--- src/lib.rt:106:1
 returns-3 : tie.Need-returns-3
 returns-3 c l t given =
     let a = c .before .before .before .before .before .before .before .before .before .before .before .args in
