@@ -16,12 +16,12 @@ use Rattle.covers.specs.Match.{Input, Match, IsMatch, matches, pinAt, pinLoad}
 use Rattle.covers.specs.Cover.{Point, Placed, Cover, nothing, together, delayed, topped, feeds, inputDelay}
 use Rattle.covers.specs.Enumeration.{under, covers}
 use Rattle.covers.specs.Tradeoff.{nodes as nodesFrom}
-use Rattle.covers.specs.Choice.{least, bothChosen, chosenInputs, firstReaching, choice}
+use Rattle.covers.specs.Choice.{least, chosenInputs, firstReaching, choice}
 use Rattle.covers.proofs.Basics.{at-all, FirstOf, nowhere, somewhere, first-of}
 use Rattle.covers.proofs.Least.{least-is, least-some}
 use Rattle.covers.specs.Curve.{gates}
 use Rattle.covers.proofs.Matching.{Spread, last, next, matches-are, match-inside, spread-in, input-smaller}
-use Rattle.covers.proofs.Handed.{choice-point, choice-handed}
+use Rattle.covers.proofs.Handed.{chosen-some, choice-point, choice-handed}
 use Rattle.covers.proofs.Listing.{few-matches}
 use Rattle.covers.proofs.Nodes.{input-in, nodes-within}
 use Rattle.covers.proofs.Bounds.{match-cell}
@@ -46,29 +46,23 @@ module _ (l : Library) (cell : Cell) (load t : ℕ) where
   inputsPlaced [] = []
   inputsPlaced (i ∷ is) = placedOf (inputChoice i) ++ inputsPlaced is
 
-  both-there : (a b : Option Cover) {e : Cover} → bothChosen a b ≡ some e → (c : Cover) × (d : Cover) × (a ≡ some c) × (b ≡ some d) × (e ≡ together c d)
-  unfolding bothChosen
-  both-there none b h = absurd (Option·none-ne-some _ h)
-  both-there (some c) none h = absurd (Option·none-ne-some _ h)
-  both-there (some c) (some d) h = (c, d, refl, refl, sym (Option·some-injective _ _ h))
-
   -- Each input is chosen, and the whole lists what they list.
   pub each-chosen : (is : List Input) {d : Cover} → chosenInputs (under l (choice l)) cell load t is ≡ some d → (i : Input) → List·Memᴰ i is → (c : Cover) × (inputChoice i ≡ some c)
   unfolding chosenInputs under
   each-chosen [] e i m = absurd (List·Memᴰ·not-nil m)
   each-chosen (j ∷ is) e i (List·Memᴰ·head q) =
-      let r = both-there (Option·map (delayed (inputDelay cell load j)) (inputChoice j)) (chosenInputs (under l (choice l)) cell load t is) e in
+      let r = chosen-some (Option·map (delayed (inputDelay cell load j)) (inputChoice j)) (chosenInputs (under l (choice l)) cell load t is) e in
       let k = map-eq-some-iff (delayed (inputDelay cell load j)) (inputChoice j) .0 (r .2) in
       (k .0, ap inputChoice q ∙ k .1)
   each-chosen (j ∷ is) e i (List·Memᴰ·tail k) =
-      let r = both-there (Option·map (delayed (inputDelay cell load j)) (inputChoice j)) (chosenInputs (under l (choice l)) cell load t is) e in
+      let r = chosen-some (Option·map (delayed (inputDelay cell load j)) (inputChoice j)) (chosenInputs (under l (choice l)) cell load t is) e in
       each-chosen is (r .3) i k
 
   pub all-placed : (is : List Input) {d : Cover} → chosenInputs (under l (choice l)) cell load t is ≡ some d → d .placed ≡ inputsPlaced is
   unfolding chosenInputs under inputsPlaced placedOf nothing together delayed
   all-placed [] e = ap (λ (c : Cover). c .placed) (sym (Option·some-injective _ _ e))
   all-placed (j ∷ is) {d} e =
-      let r = both-there (Option·map (delayed (inputDelay cell load j)) (inputChoice j)) (chosenInputs (under l (choice l)) cell load t is) e in
+      let r = chosen-some (Option·map (delayed (inputDelay cell load j)) (inputChoice j)) (chosenInputs (under l (choice l)) cell load t is) e in
       let k = map-eq-some-iff (delayed (inputDelay cell load j)) (inputChoice j) .0 (r .2) in
       ap (λ (c : Cover). c .placed) (r .4)
       ∙ ap₂ (λ (xs ys : List Placed). xs ++ ys) (ap (λ (c : Cover). c .placed) (sym (k .2)) ∙ sym (ap placedOf (k .1))) (all-placed is (r .3))

@@ -51,7 +51,7 @@ both-some none b e = absurd (Option·none-ne-some _ e)
 both-some (some p) none e = absurd (Option·none-ne-some _ e)
 both-some (some p) (some q) e = (p, q, refl, refl)
 
-chosen-some : (a b : Option Cover) {e : Cover} → bothChosen a b ≡ some e → (c : Cover) × (d : Cover) × (a ≡ some c) × (b ≡ some d) × (e ≡ together c d)
+pub chosen-some : (a b : Option Cover) {e : Cover} → bothChosen a b ≡ some e → (c : Cover) × (d : Cover) × (a ≡ some c) × (b ≡ some d) × (e ≡ together c d)
 unfolding bothChosen
 chosen-some none b h = absurd (Option·none-ne-some _ h)
 chosen-some (some c) none h = absurd (Option·none-ne-some _ h)
