@@ -51,9 +51,9 @@ fn a_cut_is_found_at_its_field() {
         let number = if kind == Kind::Library { 2 } else { 12 };
         let places: Vec<usize> = (0..=form.fields.len()).map(|field| form.place(field)).collect();
         for length in 0..bytes.len() {
-            let torn = (0..form.fields.len()).find(|&field| places[field + 1] > length * 8).unwrap();
+            let truncated = (0..form.fields.len()).find(|&field| places[field + 1] > length * 8).unwrap();
             let verdict = Verdict::of(kind, &bytes[..length]);
-            assert_eq!(verdict.line(), format!("refused {number} {}", places[torn]));
+            assert_eq!(verdict.line(), format!("refused {number} {}", places[truncated]));
         }
     }
 }

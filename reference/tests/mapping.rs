@@ -74,11 +74,11 @@ fn the_longest_sheets_have_the_stated_lengths() {
     assert_eq!(list_sheet(&[Pair { arrival: 9_225_280, area: 4_128_705 }; 31]).len(), 179);
 }
 
-/// Problems of every result: covers, crowding, none in time.
+/// Problems of every result: covers, overfull nodes, none in time.
 #[test]
 fn merging_agrees_with_listing_every_cover() {
     let mut rng = Rng::new(3);
-    let (mut compared, mut crowded, mut uncovered, mut large) = (0, 0, 0, 0);
+    let (mut compared, mut overfull, mut uncovered, mut large) = (0, 0, 0, 0);
     while compared < 20_000 {
         let style = small_style(&mut rng);
         let problem = problem(&mut rng, style);
@@ -88,12 +88,12 @@ fn merging_agrees_with_listing_every_cover() {
         assert_eq!(map, listing.map(), "{problem:?}");
         assert_eq!(merging::list(library, tree), listing.list(), "{problem:?}");
         compared += 1;
-        crowded += matches!(&map, Err(refusal) if refusal.number == 7) as usize;
+        overfull += matches!(&map, Err(refusal) if refusal.number == 7) as usize;
         uncovered += matches!(&map, Err(refusal) if refusal.number == 8) as usize;
         large += matches!(&map, Ok(cover) if cover.matches.len() > 2) as usize;
     }
-    println!("{compared} compared, {crowded} crowded, {uncovered} without cover, {large} of three matches and more");
-    assert!(crowded > 200 && uncovered > 2_000 && large > 2_000);
+    println!("{compared} compared, {overfull} overfull, {uncovered} without cover, {large} of three matches and more");
+    assert!(overfull > 200 && uncovered > 2_000 && large > 2_000);
 }
 
 #[test]

@@ -4,17 +4,16 @@
 //   2 map, 3 list: the lengths of library, tree, output in bytes and work area in words, the library, the tree.
 //   4 treecover: the input's length, the input.
 use libc::STDOUT_FILENO;
+use mapper::Numbers;
 use mapper::Reply;
 use sheets::LibraryJudged;
+use sheets::Limits;
 use sheets::TreeJudged;
-ghost use mathlib.Core.Path.{_≡_};
-ghost use Prim.Native.Nat.{_+_, _*_, _<_, _≤_};
+ghost use Prim.Native.Nat.{_+_, _<_, _≤_};
 ghost use lib.ListN.{length};
 
 // What a case may be lent, and what stands in it before.
-struct Lent {
-    none: u8,
-}
+struct Lent {}
 
 impl Lent {
     const OUTPUT: usize = 1000;
@@ -26,15 +25,14 @@ impl Lent {
     const WORD: u64 = 11936128518282651045;
 }
 
-// The input is not what its lengths say.
+// The input is not what its lengths say, or a case's kind is none of the five.
 fn write_spoiled() {
     io::write_all(STDOUT_FILENO, b"spoiled\n");
 }
 
-fn wide(x: u8) -> usize
-    ensures { λ r. ⌜ (r ≡ x) × (r < 256) ⌝ }
-{
-    x as usize
+// What was handed over or lent is not as it should be.
+fn write_changed() {
+    io::write_all(STDOUT_FILENO, b"changed\n");
 }
 
 // A length of two bytes, high byte first.
@@ -42,7 +40,7 @@ fn length_at(s: &[u8], at: usize) -> usize
     requires { ⌜ at + 2 ≤ length (now s) ⌝ }
     ensures { λ r. ⌜ r < 65536 ⌝ }
 {
-    256 * wide(s[at]) + wide(s[at + 1])
+    printing::length_of(s[at], s[at + 1])
 }
 
 // A space and a number.
@@ -90,10 +88,39 @@ fn run_tree(sheet: &[u8]) {
     }
 }
 
-// The text that treecover prints.
+// Whether a text opens with a word.
+fn opens_with(text: &[u8], word: &[u8]) -> bool {
+    let mut k = 0;
+    while k < word.len() {
+        if text.len() <= k {
+            return false;
+        }
+        if text[k] != word[k] {
+            return false;
+        }
+        k += 1;
+    }
+    true
+}
+
+// Whether a text opens with one of the words that treecover's texts open with.
+fn opens_fixed(text: &[u8]) -> bool {
+    if opens_with(text, b"cover ") {
+        return true;
+    }
+    if opens_with(text, b"refused ") {
+        return true;
+    }
+    opens_with(text, b"spoiled\n")
+}
+
+// The text that treecover prints; before it a line "changed" if it does not open as it should.
 fn run_text(input: &[u8]) {
     let mut text = [0u8; printing::Text::LONGEST];
     let length = printing::print_cover(input, &mut text);
+    if !opens_fixed(&text[..length]) {
+        write_changed();
+    }
     io::write_all(STDOUT_FILENO, &text[..length]);
 }
 
@@ -152,7 +179,7 @@ fn words_are(s: &[u64], from: usize, to: usize, w: u64) -> bool {
 
 // Whether output and work area are, after a sheet of so many bytes or a refusal, as document 01 has them.
 fn lent_kept(output: &[u8], work: &[u64], bytes: usize, clears: bool) -> bool {
-    let cleared = if clears { 8192 } else { 0 };
+    let cleared = if clears { Limits::WORK } else { 0 };
     if !bytes_kept(output, bytes) {
         return false;
     }
@@ -185,14 +212,15 @@ fn write_bytes(s: &[u8], count: usize) {
 fn write_reply(reply: Reply, word: &[u8], output: &[u8], work: &[u64]) {
     match reply {
         Reply::Refused(number, place) => {
-            if !lent_kept(output, work, 0, number == 7 || number == 8) {
-                io::write_all(STDOUT_FILENO, b"changed\n");
+            let clears = number == Numbers::OVERFULL || number == Numbers::NO_COVER;
+            if !lent_kept(output, work, 0, clears) {
+                write_changed();
             }
             write_refusal(number, place);
         }
         Reply::Sheet(bytes) => {
             if !lent_kept(output, work, bytes, true) {
-                io::write_all(STDOUT_FILENO, b"changed\n");
+                write_changed();
             }
             io::write_all(STDOUT_FILENO, word);
             write_bytes(output, bytes);
@@ -279,10 +307,14 @@ fn run_case(s: &[u8], at: usize) -> usize
     if kind < 2 {
         return run_single(s, kind, at + 1);
     }
+    if kind < 4 {
+        return run_problem(s, kind, at + 1);
+    }
     if kind == 4 {
         return run_single(s, kind, at + 1);
     }
-    run_problem(s, kind, at + 1)
+    write_spoiled();
+    s.len()
 }
 
 // Every case.

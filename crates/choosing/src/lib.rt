@@ -1,18 +1,19 @@
 // The choice of a cover under a required time, from the curves in the work area.
 use curves::Words;
+use matching::Row;
 use sheets::CellRecord;
 use sheets::Limits;
 ghost use mathlib.Core.Path.{_≡_};
 ghost use mathlib.Core.Option.{some};
-ghost use Prim.Native.Nat.{ℕ, suc, _+_, _-_, _*_, _<_, _≤_};
+ghost use Prim.Native.Nat.{suc, _+_, _-_, _*_, _<_, _≤_};
 ghost use lib.ListN.{length, getD};
 ghost use Rattle.sheets.specs.Model.{Shape, Library, Tree};
 ghost use Rattle.covers.specs.Match.{Match};
 ghost use Rattle.covers.specs.Cover.{Point, Cover};
 ghost use Rattle.covers.specs.Enumeration.{covers};
 ghost use Rattle.covers.specs.Choice.{least, firstReaching, choice};
-ghost use Rattle.curves.specs.Best.{Tables, Matches, RowSafe};
-ghost use Rattle.choosing.specs.Promises.{Reaches, FirstRow, RowHolds, InputsAre, Decoded, Driven, Chooses, Listed};
+ghost use Rattle.curves.specs.Best.{Matches, RowSafe};
+ghost use Rattle.choosing.specs.Promises.{FirstRow, RowHolds, InputsAre, Decoded, Driven, Chooses, Listed};
 
 // The pattern of a match and its inputs in drawn order: their nodes, the load bins of their pins and the times that are left to them.
 pub struct Inputs {
@@ -38,9 +39,9 @@ fn first_reaching(
 {
     let mut j: usize = 0;
     while j < count {
-        let first = Words::ROW * j;
+        let first = Row::WORDS * j;
         let reached = curves::legal_match(
-            &found[first..first + Words::ROW],
+            &found[first..first + Row::WORDS],
             symbols,
             work,
             load,
@@ -74,17 +75,17 @@ fn read_inputs(row: &[u32], load: u32, time: u32) -> Inputs
     let mut nodes = [0u8; 16];
     let mut bins = [0u8; 16];
     let mut times = [0u32; 16];
-    let count = row[3] as usize;
+    let count = row[Row::COUNT] as usize;
     let mut k: usize = 0;
     while k < count {
-        let at = 4 + 4 * k;
+        let at = Row::INPUTS + Row::INPUT * k;
         nodes[k] = row[at] as u8;
-        bins[k] = row[at + 1] as u8;
-        times[k] = time_left(time, row[at + 2], row[at + 3], load);
+        bins[k] = row[at + Row::BIN] as u8;
+        times[k] = time_left(time, row[at + Row::INTRINSIC], row[at + Row::DRIVE], load);
         k += 1;
     }
     Inputs {
-        pattern: row[0] as u8,
+        pattern: row[Row::PATTERN] as u8,
         count,
         nodes,
         bins,
@@ -116,9 +117,9 @@ fn choose_match<'a>(
         (time + 1) as u64,
     );
     let count = matching::find_matches(rows, total, cells, symbols, sizes, n, found);
-    let first = Words::ROW * first_reaching(found, count, symbols, work, load, w);
+    let first = Row::WORDS * first_reaching(found, count, symbols, work, load, w);
     read_inputs(
-        &found[first..first + Words::ROW],
+        &found[first..first + Row::WORDS],
         load,
         (w % Limits::TIMES) as u32,
     )

@@ -1,17 +1,16 @@
 // Curves by deadline: the least point of a node before an instant, and the curve of a node under a load.
+use matching::Row;
 use sheets::Limits;
 ghost use mathlib.Core.Path.{_≡_};
-ghost use Prim.Native.Nat.{ℕ, _+_, _-_, _*_, _<_, _≤_, _^_, min, max};
+ghost use Prim.Native.Nat.{_+_, _-_, _*_, _<_, _≤_, min, max};
 ghost use lib.ListN.{length, getD};
 ghost use Rattle.covers.specs.Curve.{lookup};
-ghost use Rattle.curves.specs.Words.{stored, word, slot, Small};
+ghost use Rattle.curves.specs.Words.{stored, slot, Small};
 ghost use Rattle.curves.specs.Best.{inputBest, inputLate, rowBest, legalBest, rowsBest, Tables, InputSafe, Matches, Above};
 ghost use Rattle.curves.specs.Promises.{Worth, PointsFit, CurveStored};
 
 // How points and curves stand in the work area.
-pub struct Words {
-    pub none: u8,
-}
+pub struct Words {}
 
 impl Words {
     pub const ABSENT: u64 = 9223372036854775808;
@@ -19,8 +18,6 @@ impl Words {
     pub const STRIDE: usize = 32;
 
     pub const NODE: usize = 128;
-
-    pub const ROW: usize = 68;
 }
 
 // The first point of a stored curve that arrives before `end`.
@@ -99,12 +96,12 @@ fn input_word(row: &[u32], symbols: &[u32], work: &[u64], load: u32, end: u64, a
     requires { ⌜ (load ≤ 255) × (end ≤ 16777216) ⌝ }
     ensures { λ r. ⌜ Worth 70368744177664 end r (inputLate (now (symbols .entry)) (now (work .entry)) (now (row .entry)) load end at) ⌝ }
 {
-    let d = delay(row[at + 2], row[at + 3], load);
+    let d = delay(row[at + Row::INTRINSIC], row[at + Row::DRIVE], load);
     let w = input_best(
         symbols,
         work,
         row[at] as usize,
-        row[at + 1] as usize,
+        row[at + Row::BIN] as usize,
         less(end, d),
     );
     if w == Words::ABSENT {
@@ -122,12 +119,12 @@ fn best_match(row: &[u32], symbols: &[u32], work: &[u64], load: u32, end: u64) -
     if end == 0 {
         return Words::ABSENT;
     }
-    let count = row[3] as usize;
+    let count = row[Row::COUNT] as usize;
     let mut area: u64 = 0;
     let mut arrival: u64 = 0;
     let mut k = 0;
     while k < count {
-        let w = input_word(row, symbols, work, load, end, 4 + 4 * k);
+        let w = input_word(row, symbols, work, load, end, Row::INPUTS + Row::INPUT * k);
         if w == Words::ABSENT {
             return Words::ABSENT;
         }
@@ -135,7 +132,7 @@ fn best_match(row: &[u32], symbols: &[u32], work: &[u64], load: u32, end: u64) -
         arrival = later(arrival, w % Limits::TIMES);
         k += 1;
     }
-    (wide(row[1]) + area) * Limits::TIMES + arrival
+    (wide(row[Row::AREA]) + area) * Limits::TIMES + arrival
 }
 
 // The lesser of two words.
@@ -154,7 +151,7 @@ pub fn legal_match(row: &[u32], symbols: &[u32], work: &[u64], load: u32, end: u
     requires { ⌜ (load ≤ 255) × (end ≤ 16777216) ⌝ }
     ensures { λ r. ⌜ Worth 2251799813685248 end r (legalBest (now (symbols .entry)) (now (work .entry)) (now (row .entry)) load end) ⌝ }
 {
-    if row[2] <= load {
+    if row[Row::FIRST_ILLEGAL] <= load {
         return Words::ABSENT;
     }
     best_match(row, symbols, work, load, end)
@@ -169,8 +166,8 @@ fn best(found: &[u32], count: usize, symbols: &[u32], work: &[u64], load: u32, e
     let mut least = Words::ABSENT;
     let mut j = 0;
     while j < count {
-        let first = Words::ROW * j;
-        let w = legal_match(&found[first..first + Words::ROW], symbols, work, load, end);
+        let first = Row::WORDS * j;
+        let w = legal_match(&found[first..first + Row::WORDS], symbols, work, load, end);
         least = lower(least, w);
         j += 1;
     }

@@ -5,28 +5,10 @@ use bits::Cursor;
 use bits::Field;
 use libc::STDOUT_FILENO;
 use mapper::Reply;
-ghost use mathlib.Core.Path.{_≡_};
-ghost use Prim.Native.Nat.{_+_, _*_, _<_, _≤_, _^_};
-ghost use lib.ListN.{length};
-
-// The list sheet's widths, and the lengths lent.
-struct Sheet {
-    none: u8,
-}
-
-impl Sheet {
-    const COUNT: usize = 5;
-
-    const ARRIVAL: usize = 24;
-
-    const AREA: usize = 22;
-
-    const MOST: usize = 31;
-
-    const OUTPUT: usize = 179;
-
-    const WORK: usize = 8192;
-}
+use printing::Text;
+use sheets::Limits;
+use writing::Sheet;
+ghost use Prim.Native.Nat.{_<_, _≤_, _^_};
 
 fn write_word(word: &[u8]) {
     io::write_all(STDOUT_FILENO, word);
@@ -61,18 +43,18 @@ fn write_point(sheet: &[u8], at: usize)
 // The first `count` trade-offs of a list sheet.
 fn write_points(sheet: &[u8], count: u32) {
     let mut k: usize = 0;
-    while k < Sheet::MOST {
+    while k < Limits::POINTS {
         if count as usize <= k {
             return;
         }
-        write_point(sheet, Sheet::COUNT + (Sheet::ARRIVAL + Sheet::AREA) * k);
+        write_point(sheet, Sheet::POINTS_AT + Sheet::POINT * k);
         k += 1;
     }
 }
 
 // A list sheet: its count, and every trade-off.
 fn write_list(sheet: &[u8]) {
-    let count = number_at(sheet, 0, Sheet::COUNT);
+    let count = number_at(sheet, 0, Sheet::POINT_COUNT);
     write_word(b"list ");
     write_number(count as u64);
     write_word(b"\n");
@@ -93,29 +75,24 @@ fn write_reply(reply: Reply, output: &[u8]) {
     }
 }
 
-fn wide(x: u8) -> usize
-    ensures { λ r. ⌜ (r ≡ x) × (r < 256) ⌝ }
-{
-    x as usize
-}
-
 // Splits the input and lists the trade-offs.
 fn run(s: &[u8]) {
-    if s.len() < 2 {
+    if s.len() < Text::HEAD {
         return;
     }
-    let end = 2 + 256 * wide(s[0]) + wide(s[1]);
+    let end = Text::HEAD + printing::length_of(s[0], s[1]);
     if s.len() < end {
         return;
     }
-    let mut output = [0u8; Sheet::OUTPUT];
-    let mut work = [0u64; Sheet::WORK];
-    let reply = operations::list(&s[2..end], &s[end..], &mut output, &mut work);
+    let mut output = [0u8; Limits::OUTPUT_LIST];
+    let mut work = [0u64; Limits::WORK];
+    let reply = operations::list(&s[Text::HEAD..end], &s[end..], &mut output, &mut work);
     write_reply(reply, &output);
 }
 
 fn main() {
-    let mut space = [0u8; 4097];
+    // One byte more than the longest input, as treecover has it.
+    let mut space = [0u8; Limits::INPUT + 1];
     let n = io::read_full(libc::STDIN_FILENO, &mut space);
     run(&space[..n]);
 }

@@ -1,9 +1,8 @@
 // Every node's curves, filled from the highest number down.
 use sheets::CellRecord;
 use sheets::Limits;
-ghost use mathlib.Core.Path.{_≡_};
 ghost use Prim.Native.Nat.{ℕ, _+_, _*_, _<_, _≤_};
-ghost use lib.ListN.{length, getD};
+ghost use lib.ListN.{getD};
 ghost use Rattle.sheets.specs.Model.{Shape, Library, Tree};
 ghost use Rattle.curves.specs.Words.{ZeroBelow};
 ghost use Rattle.curves.specs.Best.{Matches, Above};

@@ -2,7 +2,7 @@
 ghost use mathlib.Core.List.{[], _∷_};
 ghost use Prim.Native.Nat.{_+_, _≤_};
 ghost use lib.ListN.{length};
-ghost use Rattle.lines.specs.Text.{decimal, space, newline, spaced, Appended};
+ghost use Rattle.lines.specs.Text.{decimal, space, spaced, Appended};
 
 // Puts a word, and answers the place after it.
 pub fn put_word(text: &mut [u8], at: usize, word: &[u8]) -> usize

@@ -1,4 +1,4 @@
-// The sheets that map and list write, once every curve is in the work area.
+// What map and list answer for a sound library and a sound tree: every curve is filled, then the sheet is written from them.
 use curves::Words;
 use filling::Filling;
 use sheets::CellRecord;
@@ -8,7 +8,7 @@ ghost use mathlib.Core.List.{map};
 ghost use mathlib.Core.Option.{Option·map};
 ghost use Prim.Native.Nat.{ℕ, _<_, _≤_};
 ghost use lib.ListN.{length, getD, take};
-ghost use Rattle.sheets.specs.Model.{Shape, leaf, Library, Tree};
+ghost use Rattle.sheets.specs.Model.{leaf, Library, Tree};
 ghost use Rattle.covers.specs.Choice.{choice};
 ghost use Rattle.covers.specs.Tradeoff.{tradeoffs};
 ghost use Rattle.covers.specs.Answer.{nonempty};
@@ -37,9 +37,7 @@ pub enum Reply {
 }
 
 // Document 01's numbers of refusals that no sheet causes: too little lent, an overfull node, no cover.
-pub struct Numbers {
-    pub none: u8,
-}
+pub struct Numbers {}
 
 impl Numbers {
     pub const SHORT: u32 = 1;

@@ -1,10 +1,11 @@
 // Which patterns match at a node of the subject tree. They are found once for a node, and serve every load and every deadline.
 use sheets::CellRecord;
 use sheets::Limits;
+use sheets::PatternRow;
 ghost use mathlib.Core.Path.{_≡_};
 ghost use mathlib.Core.Bool.{cond, not};
 ghost use mathlib.Core.List.{[], _∷_, map};
-ghost use Prim.Native.Nat.{ℕ, suc, _+_, _*_, _<_, _≤_};
+ghost use Prim.Native.Nat.{ℕ, suc, _+_, _<_, _≤_};
 ghost use lib.ListN.{length};
 ghost use lib.Seq.{sets};
 ghost use Rattle.sheets.specs.Model.{Shape, Library, Pattern};
@@ -13,15 +14,29 @@ ghost use Rattle.matching.specs.Found.{inputsWords, matchRow};
 ghost use Rattle.sheets.specs.Layout.{tableFrom};
 ghost use Rattle.matching.specs.Promises.{Walkable, WalkedIs, Writable, Tried, Ready};
 
-// A match's row: its pattern, its cell's area, the first load that is not legal and how many inputs it has, then four words for each input.
-pub struct Row {
-    pub none: u8,
-}
+// A match's row: its pattern, its cell's area, the first load that is not legal and how many inputs it has, then four words for each input:
+// its node, and the load bin, the intrinsic delay and the drive of its pin.
+pub struct Row {}
 
 impl Row {
+    pub const PATTERN: usize = 0;
+
+    pub const AREA: usize = 1;
+
+    pub const FIRST_ILLEGAL: usize = 2;
+
+    pub const COUNT: usize = 3;
+
     pub const INPUTS: usize = 4;
 
     pub const INPUT: usize = 4;
+
+    // Within an input's words, after its node.
+    pub const BIN: usize = 1;
+
+    pub const INTRINSIC: usize = 2;
+
+    pub const DRIVE: usize = 3;
 
     pub const WORDS: usize = 68;
 
@@ -46,10 +61,10 @@ fn walk<'a>(row: &'a [u32], symbols: &'a [u32], sizes: &'a [u8], n: usize) -> Wa
     let mut nodes = [0u8; 16];
     let mut count: usize = 0;
     let mut at = n;
-    let size = row[1] as usize;
+    let size = row[PatternRow::SIZE] as usize;
     let mut k: usize = 0;
     while k < size {
-        let symbol = row[2 + k];
+        let symbol = row[PatternRow::SYMBOLS + k];
         if symbol < 2 {
             if symbols[at] != symbol {
                 return Walked {
@@ -126,7 +141,7 @@ fn write_row(table: &mut [u32], walked: Walked, cell: CellRecord, pattern: usize
     let illegal = first_illegal(cell.held, cell.highest);
     write_words(
         table,
-        0,
+        Row::PATTERN,
         pattern as u32,
         cell.area as u32,
         illegal,

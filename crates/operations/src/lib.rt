@@ -8,7 +8,7 @@ use sheets::LibraryRecord;
 use sheets::Limits;
 use sheets::TreeRecord;
 ghost use mathlib.Core.Path.{_≡_};
-ghost use Prim.Native.Nat.{ℕ, _≤_};
+ghost use Prim.Native.Nat.{_≤_};
 ghost use lib.ListN.{length};
 ghost use Rattle.sheets.specs.Model.{Library, Tree};
 ghost use Rattle.sheets.specs.TreeSheet.{tree as treeOf};

@@ -3,6 +3,7 @@ use bits::Cursor;
 use bits::Field;
 use mapper::Reply;
 use sheets::Limits;
+use writing::Sheet;
 ghost use mathlib.Core.List.{[], _∷_};
 ghost use mathlib.Core.Path.{_≡_};
 ghost use Prim.Native.Nat.{_+_, _*_, _<_, _≤_, _^_};
@@ -17,34 +18,13 @@ ghost use Rattle.lines.specs.Text.{decimal, line, Appended};
 ghost use Rattle.printing.specs.Printed.{coverLine, refusalLine, spoiledLine, mapText, spoiled, printedWithin};
 ghost use Rattle.printing.specs.Fields.{rowsOf, fieldLine, fieldLines, sheetText, Printable};
 
-// The bytes of the input's length, and the longest text: a cover of 63 matches.
+// The bytes of the library's length, and the longest text: a cover of 63 matches.
 pub struct Text {}
 
 impl Text {
     pub const HEAD: usize = 2;
 
     pub const LONGEST: usize = 655;
-}
-
-// How wide the fields of a cover sheet are, and where the match count and the matches start.
-pub struct Sheet {}
-
-impl Sheet {
-    pub const AREA: usize = 22;
-
-    pub const ARRIVAL: usize = 24;
-
-    pub const COUNT: usize = 6;
-
-    pub const COUNT_AT: usize = 46;
-
-    pub const MATCHES_AT: usize = 52;
-
-    pub const MATCH: usize = 13;
-
-    pub const NODE: usize = 6;
-
-    pub const PATTERN: usize = 7;
 }
 
 fn wide(x: u8) -> usize
@@ -54,7 +34,7 @@ fn wide(x: u8) -> usize
 }
 
 // A length of two bytes, high byte first.
-fn length_of(high: u8, low: u8) -> usize
+pub fn length_of(high: u8, low: u8) -> usize
     ensures { λ r. ⌜ (r ≡ 256 * high + low) × (r < 65536) ⌝ }
 {
     256 * wide(high) + wide(low)
@@ -82,7 +62,7 @@ fn put_refusal(text: &mut [u8], number: u32, place: usize) -> usize
     lines::put_last(text, at, number as u64, place as u64)
 }
 
-// The line of an input that is not what its lengths say.
+// The line of an input that is not what its length says.
 fn put_spoiled(text: &mut [u8]) -> usize
     requires { ⌜ length spoiledLine ≤ length (now text) ⌝ }
     ensures { λ r. ⌜ Appended spoiledLine (now (text .entry)) 0 (now (text .exit)) r ⌝ }
@@ -142,7 +122,7 @@ fn put_sheet(text: &mut [u8], sheet: &[u8], rows: &[u32]) -> usize
 {
     let area = read_field(sheet, 0, Sheet::AREA);
     let arrival = read_field(sheet, Sheet::AREA, Sheet::ARRIVAL);
-    let count = read_field(sheet, Sheet::COUNT_AT, Sheet::COUNT);
+    let count = read_field(sheet, Sheet::MATCH_COUNT_AT, Sheet::MATCH_COUNT);
     let at = put_head(text, area, arrival, count);
     put_matches(text, at, sheet, rows, count as usize)
 }
@@ -172,7 +152,7 @@ fn put_map(text: &mut [u8], library: &[u8], tree: &[u8]) -> usize
     }
 }
 
-// Whether the input is under 2 bytes, over 4,096, or shorter than its length says.
+// Whether the input is under 2 bytes, over 4,096, or too short for the library's length.
 fn is_spoiled(input: &[u8]) -> bool
     ensures { λ r. ⌜ r ≡ spoiled (now (input .entry)) ⌝ }
 {

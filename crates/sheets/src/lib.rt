@@ -5,7 +5,7 @@ use shapes::Rules;
 use shapes::Scan;
 use shapes::Verdict;
 ghost use mathlib.Core.Path.{_≡_};
-ghost use Prim.Native.Nat.{_+_, _-_, _*_, _<_, _≤_, _^_};
+ghost use Prim.Native.Nat.{_+_, _-_, _<_, _≤_, _^_};
 ghost use lib.ListN.{length, take};
 ghost use Rattle.shapes.specs.Reading.{place};
 ghost use Rattle.sheets.specs.LibrarySheet.{hasAll, complete, countVerdict};
@@ -26,6 +26,10 @@ impl Limits {
     pub const AREA: u32 = 65535;
 
     pub const PINS: u32 = 6;
+
+    pub const INTRINSIC: u32 = 65535;
+
+    pub const DRIVE: u32 = 255;
 
     pub const DRAWINGS: u32 = 7;
 
@@ -55,6 +59,17 @@ impl Limits {
     pub const WORK: usize = 8192;
 
     pub const INPUT: usize = 4096;
+}
+
+// Where the words of a pattern's row stand: its cell, its size and its symbols.
+pub struct PatternRow {}
+
+impl PatternRow {
+    pub const CELL: usize = 0;
+
+    pub const SIZE: usize = 1;
+
+    pub const SYMBOLS: usize = 2;
 }
 
 // A cell as decoded. Its pins are the first `pins` places of the three arrays: load bins, intrinsic delays and drives.
@@ -188,9 +203,9 @@ fn read_pin(scan: Scan, s: &[u8], bins: u32) -> PinRead
 {
     let load = shapes::ranged(scan, s, 2, 0, last_of(bins));
     let at = load.scan;
-    let intrinsic = shapes::ranged(at, s, 16, 0, 65535);
+    let intrinsic = shapes::ranged(at, s, 16, 0, Limits::INTRINSIC);
     let at = intrinsic.scan;
-    let drive = shapes::ranged(at, s, 8, 0, 255);
+    let drive = shapes::ranged(at, s, 8, 0, Limits::DRIVE);
     let at = drive.scan;
     PinRead {
         scan: at,
@@ -307,9 +322,9 @@ fn read_row(scan: Scan, s: &[u8], pins: u32, cell: u32, row: &mut [u32]) -> Scan
     requires { ⌜ (pins ≤ 6) × (length (now row) ≡ 18) × (place scan < 2 ^ 19) ⌝ }
     ensures { λ r. ⌜ RowIs (now (s .entry)) pins cell scan (now (row .entry)) (now (row .exit)) r ⌝ }
 {
-    row[0] = cell;
-    let read = read_pattern(scan, s, pins, &mut row[2..]);
-    row[1] = read.size;
+    row[PatternRow::CELL] = cell;
+    let read = read_pattern(scan, s, pins, &mut row[PatternRow::SYMBOLS..]);
+    row[PatternRow::SIZE] = read.size;
     read.scan
 }
 

@@ -18,14 +18,11 @@ loop-holds c = tt
 returns : tie.Need-returns Inv-loop μ-loop
 returns c = tt
 
-add-write-point : tie.Need-add-write-point Inv-loop μ-loop
-add-write-point c = omega arith
-
 mul-write-point : tie.Need-mul-write-point Inv-loop μ-loop
 mul-write-point c = omega arith
 
-add-write-point-2 : tie.Need-add-write-point-2 Inv-loop μ-loop
-add-write-point-2 c = omega arith
+add-write-point : tie.Need-add-write-point Inv-loop μ-loop
+add-write-point c = omega arith
 
 write-point-requires : tie.Need-write-point-requires Inv-loop μ-loop
 write-point-requires c κs = omega arith
@@ -50,9 +47,8 @@ write-points-spec =
     μ-loop
     loop-holds
     returns
-    add-write-point
     mul-write-point
-    add-write-point-2
+    add-write-point
     write-point-requires
     add-k
     loop-less

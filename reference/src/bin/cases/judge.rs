@@ -93,7 +93,7 @@ fn with_inverters(form: &Form, code: usize, count: usize) -> Form {
     grown
 }
 
-/// Each kind of field torn, five times.
+/// Each kind of field truncated, five times.
 fn truncated_fields(stored: &mut Stored) {
     let mut rng = Rng::new(2);
     let of_library = Role::OF_LIBRARY.map(|role| (Kind::Library, role));
@@ -102,7 +102,7 @@ fn truncated_fields(stored: &mut Stored) {
         for _ in 0..5 {
             let cut = std::iter::repeat_with(|| cut_in(&any_form(&mut rng, kind), role));
             let mut short = cut.flatten().filter(|sheet| sheet.len() < 200);
-            add(stored, kind, &short.next().expect("a sheet torn there"));
+            add(stored, kind, &short.next().expect("a sheet truncated there"));
         }
     }
 }
@@ -110,8 +110,8 @@ fn truncated_fields(stored: &mut Stored) {
 /// The sheet cut after some byte so that the first field not whole is of this role.
 fn cut_in(form: &Form, role: Role) -> Option<Vec<u8>> {
     let length = |field: usize| (form.place(field + 1) - 1) / 8;
-    let torn = |&field: &usize| length(field) * 8 >= form.place(field);
-    let field = form.find(role).into_iter().rev().find(torn)?;
+    let truncated = |&field: &usize| length(field) * 8 >= form.place(field);
+    let field = form.find(role).into_iter().rev().find(truncated)?;
     Some(form.bytes()[..length(field)].to_vec())
 }
 

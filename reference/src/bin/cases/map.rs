@@ -98,8 +98,8 @@ fn lent_lengths(stored: &mut Stored) {
 
 /// Inputs at fault in several ways, of which the first in order is said.
 fn order_of_refusals(stored: &mut Stored) {
-    let is_crowded = |chosen: &chosen::Chosen| chosen.name == "overfull under a root without cover";
-    let overfull = chosen::all().into_iter().find(is_crowded).expect("that problem").problem;
+    let is_overfull = |chosen: &chosen::Chosen| chosen.name == "overfull under a root without cover";
+    let overfull = chosen::all().into_iter().find(is_overfull).expect("that problem").problem;
     let (library, tree) = (overfull.library_sheet(), overfull.tree_sheet());
     for lent in [Lent::ENOUGH, Lent { output: 108, work: LEAST_WORK }, Lent { output: 200, work: LEAST_WORK - 1 }] {
         for library in [&library[..], &library[1..], &[]] {

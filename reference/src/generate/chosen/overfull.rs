@@ -79,7 +79,7 @@ fn steep_pin(bin: u32, grade: u32) -> Pin {
     pin(bin, 3 * grade, 200 - 3 * grade)
 }
 
-/// Crowded under load 2 only: under load 1 just the smallest counts, and higher loads shut out.
+/// Overfull under load 2 only: under load 1 just the smallest counts, and higher loads shut out.
 fn at_load_two(table: &mut Table, crowd: u32, used: u32) {
     let mut cells: Vec<Cell> = (0..crowd).map(|grade| cell(grade + 1, 2, steep_pin(used, grade), INVERTER)).collect();
     cells.push(cell(crowd + 1, 255, steep_pin(used, 0), INVERTER));
