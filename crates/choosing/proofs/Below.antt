@@ -187,7 +187,7 @@ module _ {l : Library} {t : Tree} {rows : List ℕ} {total : ℕ} {cells : List 
       let mem = at-mem (m .inputs) k noInput here in
       let deep = spread-in (match-inside f .spread) mem in
       let known : bin < length (l .bins) = subst (λ (b : ℕ). b < length (l .bins)) (sym (q .bin-is)) (pin-bin f i) in
-      let few = all .decoded .library .few-bins in
+      let few = all .prepared .decoded .library .few-bins in
       let drives-is : getD loads bin 0 ≡ getD (l .bins) bin 0 = ap (λ (x : List ℕ). getD x bin 0) (all .loads-are) ∙ in-padded 4 0 0 (l .bins) bin few known in
       let load-is : getD loads bin 0 ≡ pinLoad l (feeds cell i) = drives-is ∙ pin-load bin (feeds cell i .bin) (feeds cell i) (q .bin-is) refl in
       let c₀ = each-chosen l cell load t₀ (m .inputs) (g .made .chosen) i mem in
@@ -208,12 +208,12 @@ module _ {l : Library} {t : Tree} {rows : List ℕ} {total : ℕ} {cells : List 
         shape = i .shape;
         bin-small = omega arith;
         chooses = record {
-          decoded = all .decoded;
+          prepared = all .prepared;
           driven = driven;
           loads-are = all .loads-are;
           fits = omega (arith, room-left, match-inside f .fewer, g .listed .next, all .fits);
         };
-        smaller = omega (arith, size-here (all .decoded) driven, size-here (all .decoded) (all .driven), input-smaller f mem);
+        smaller = omega (arith, size-here (all .prepared) driven, size-here (all .prepared) (all .driven), input-smaller f mem);
         cover = c₀ .0;
         chosen = chosen;
         after = λ nodes′ patterns′ next′ y. record {
@@ -227,7 +227,7 @@ module _ {l : Library} {t : Tree} {rows : List ℕ} {total : ℕ} {cells : List 
     where
       pin-bin : {m : Match} → IsMatch l load n s m → (i : Input) → feeds (m .pattern .cell) i .bin < length (l .bins)
       pin-bin {m} f i = unfold feeds pinAt in
-          let b = binned (all .decoded .library) in
+          let b = binned (all .prepared .decoded .library) in
           at-all (λ p. p .bin < length (l .bins)) (m .pattern .cell .pins) (i .pin) (record { bin = 0; intrinsic = 0; drive = 0 }) (b .some-bin) (b .pins (m .pattern .cell) (match-cell f))
 
       pin-load : (a b : ℕ) (p : Pin) → a ≡ b → p .bin ≡ b → getD (l .bins) a 0 ≡ pinLoad l p
@@ -245,4 +245,4 @@ leaf-listed {l} {n = n} {load} {time = time} {count = count} {s = s} all h c e n
   where
     go : (xs : List Placed) → length xs ≤ gates s → Listed xs count nodes patterns nodes patterns count
     go [] k = listed-none count nodes patterns
-    go (x ∷ xs) k = absurd (omega (arith, leaf-here (all .decoded) (all .driven) h))
+    go (x ∷ xs) k = absurd (omega (arith, leaf-here (all .prepared) (all .driven) h))

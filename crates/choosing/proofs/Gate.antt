@@ -45,12 +45,12 @@ use Rattle.curves.specs.Words.{absent, tableOf}
 use Rattle.curves.specs.Best.{legalBest, RowSafe, Matches}
 use Rattle.curves.specs.Promises.{Worth}
 use Rattle.choosing.specs.declared.Inputs.{Inputs}
-use Rattle.choosing.specs.Promises.{rowOf, FirstRow, RowHolds, InputsAre, Decoded, Drives, at-root, below, Driven}
+use Rattle.choosing.specs.Promises.{rowOf, FirstRow, RowHolds, InputsAre, Prepared, Drives, at-root, below, Driven}
 use Rattle.filling.proofs.Rows.{legal-is, row-is-match}
 use Rattle.filling.proofs.Node.{headed, row-holds, rows-ready}
 use Rattle.choosing.proofs.Reading.{pattern-at}
 use Rattle.filling.proofs.At.{symbols-small}
-use Rattle.matching.proofs.Standing.{stands-everywhere}
+use Rattle.matching.proofs.Standing.{stands-everywhere, ready-everywhere}
 
 -- ---- the first that passes
 
@@ -112,43 +112,36 @@ pub record Limits (n load bin : ℕ) (ss zs : List ℕ) : Type 0 where
   pub symbols-long : length ss ≡ 64
   pub sizes-long : length zs ≡ 64
 
-module _ {l : Library} {t : Tree} {rows : List ℕ} {total : ℕ} {cells : List CellRecord} {ss zs work : List ℕ} {room : ℕ} (dec : Decoded l t rows total cells ss zs work room)
+module _ {l : Library} {t : Tree} {rows : List ℕ} {total : ℕ} {cells : List CellRecord} {ss zs work : List ℕ} {room : ℕ} (dec : Prepared l t rows total cells ss zs work room)
     {n load bin time : ℕ} {s : Shape} (drv : Driven l t n load bin time s) where
   pub stand : (x : Node) → List·Memᴰ x (nodes 0 (t .shape)) → Stands ss zs (x .number) (x .shape)
-  stand = stands-everywhere ss zs (t .shape) (dec .tree .size) (dec .symbols-are) (dec .sizes-are)
+  stand = stands-everywhere ss zs (t .shape) (dec .decoded .tree .size) (dec .decoded .symbols-are) (dec .decoded .sizes-are)
 
   stands-here : Stands ss zs n s
   stands-here = stand (record { number = n; shape = s }) (drv .node)
 
   ends : n + size s ≤ 64
-  ends = omega (arith, node-ends 0 (t .shape) (drv .node), dec .tree .size)
+  ends = omega (arith, node-ends 0 (t .shape) (drv .node), dec .decoded .tree .size)
 
   pub limits : Limits n load bin ss zs
   limits = record {
     node-small = omega (arith, ends, size-pos s);
     load-small = light (drv .drives);
     bin-small = low (drv .drives);
-    symbols-long = ap length (dec .symbols-are) ∙ length-sets (replicate 64 0) 0 (symbols (t .shape)) ∙ length-replicate {A = ℕ} 64 0;
-    sizes-long = ap length (dec .sizes-are) ∙ length-sets (replicate 64 0) 0 (sizes (t .shape)) ∙ length-replicate {A = ℕ} 64 0;
+    symbols-long = ap length (dec .decoded .symbols-are) ∙ length-sets (replicate 64 0) 0 (symbols (t .shape)) ∙ length-replicate {A = ℕ} 64 0;
+    sizes-long = ap length (dec .decoded .sizes-are) ∙ length-sets (replicate 64 0) 0 (sizes (t .shape)) ∙ length-replicate {A = ℕ} 64 0;
   }
     where
       light : Drives l t n load bin → load ≤ 255
-      light (at-root a b c) = omega (arith, dec .tree .load)
-      light (below a b c) = omega (arith, at-all (λ x. x ≤ 255) (l .bins) bin 0 (omega arith) (dec .library .loads))
+      light (at-root a b c) = omega (arith, dec .decoded .tree .load)
+      light (below a b c) = omega (arith, at-all (λ x. x ≤ 255) (l .bins) bin 0 (omega arith) (dec .decoded .library .loads))
 
       low : Drives l t n load bin → bin < 4
       low (at-root a b c) = omega arith
-      low (below a b c) = omega (arith, dec .library .few-bins)
+      low (below a b c) = omega (arith, dec .decoded .library .few-bins)
 
   pub ready : Ready rows total cells ss zs n room l s
-  ready = record {
-    sound = dec .library;
-    rows-are = dec .rows-are;
-    total-is = dec .total-is;
-    cells-are = dec .cells-are;
-    subject = record { symbols-long = limits .symbols-long; sizes-long = limits .sizes-long; stands = stands-here; ends = ends };
-    room-is = dec .room-is;
-  }
+  ready = ready-everywhere (dec .decoded) (dec .room-is) (record { number = n; shape = s }) (drv .node)
 
   pub size-here : getD zs n 0 ≡ size s
   size-here = stands-size ss zs n s stands-here
@@ -196,18 +189,18 @@ module _ {l : Library} {t : Tree} {rows : List ℕ} {total : ℕ} {cells : List 
     found-long = ap length are ∙ length-table 68 found₀ 0 (map matchRow (fitting l n s)) ∙ long ∙ dec .room-is
 
     pub rows-safe : Matches found count ss work
-    rows-safe = rw many (rows-ready l t (dec .library) (dec .tree) n s (drv .node) ss zs stand found₀ found (long ∙ dec .room-is) are noMatch work found-long (limits .symbols-long) (dec .work-long)
-        (symbols-small ss (t .shape) (dec .symbols-are) (dec .tree .leaves)) (dec .curves .small))
+    rows-safe = rw many (rows-ready l t (dec .decoded .library) (dec .decoded .tree) n s (drv .node) ss zs stand found₀ found (long ∙ dec .room-is) are noMatch work found-long (limits .symbols-long) (dec .work-long)
+        (symbols-small ss (t .shape) (dec .decoded .symbols-are) (dec .decoded .tree .leaves)) (dec .curves .small))
 
     pub row-held : (j : ℕ) → j < count → RowHolds (rowOf found j) (getD (fitting l n s) j noMatch)
     row-held j h = record {
       long = length-take-le 68 (drop (68 * j) found) (omega (arith, length-drop (68 * j) found, found-long, rows-safe .few));
-      few = fitting-sound n s l (dec .library) (at-mem (fitting l n s) j noMatch (omega arith)) .few;
-      words = row-holds l t (dec .library) (dec .tree) n s (drv .node) ss zs stand found₀ found (long ∙ dec .room-is) are noMatch work j (omega arith);
+      few = fitting-sound n s l (dec .decoded .library) (at-mem (fitting l n s) j noMatch (omega arith)) .few;
+      words = row-holds l t (dec .decoded .library) (dec .decoded .tree) n s (drv .node) ss zs stand found₀ found (long ∙ dec .room-is) are noMatch work j (omega arith);
     }
 
     pub number-small : (j : ℕ) → j < count → getD (fitting l n s) j noMatch .number < 128
-    number-small j h = omega (arith, at-below (patterns l) (getD (fitting l n s) j noMatch .number) (fitting-are l n s (at-mem (fitting l n s) j noMatch (omega arith)) .0), dec .library .few-patterns)
+    number-small j h = omega (arith, at-below (patterns l) (getD (fitting l n s) j noMatch .number) (fitting-are l n s (at-mem (fitting l n s) j noMatch (omega arith)) .0), dec .decoded .library .few-patterns)
 
     module _ (w : ℕ) (g : 0 < gates s) (e : least (suc time) (covers l load n s) ≡ some (pointOf w)) where
       abbrev passes : Match → Bool
@@ -233,7 +226,7 @@ module _ {l : Library} {t : Tree} {rows : List ℕ} {total : ℕ} {cells : List 
           let inside = at-mem (fitting l n s) j noMatch (omega arith) in
           ap₂ (λ (b : Bool) (o : Option Point). cond b o none)
           (ap (ltb load) (held 2 (omega arith)) ∙ legal-is (m .pattern .cell) load)
-          (row-is-match l ss work (rowOf found j) m load (w % base + 1) held (headed l t (dec .library) (dec .tree) n s (drv .node) ss zs stand work inside)
+          (row-is-match l ss work (rowOf found j) m load (w % base + 1) held (headed l t (dec .decoded .library) (dec .decoded .tree) n s (drv .node) ss zs stand work inside)
           ∙ ap (λ (k : ℕ). bestMatch (fromTable l (tableOf work)) load k m) arrival-is)
 
       -- A row reaches the word exactly when its match is legal and reaches the point.
@@ -243,7 +236,7 @@ module _ {l : Library} {t : Tree} {rows : List ℕ} {total : ℕ} {cells : List 
           go : (m : Match) → List·Memᴰ m (fitting l n s) → (b : Bool) → legal (m .pattern .cell) load ≡ b →
               (cond b (bestMatch (fromTable l (tableOf work)) load (suc (pointOf w .arrival)) m) none ≡ some (pointOf w)) ↔ (b && reaches (pointOf w) (matchCovers (allBelow l) load n m) ≡ true)
           go m i true f = unfold matches in
-              let r = reaches-from-table l (binned (dec .library)) (t .shape) (tableOf work) n s filled (drv .node) load is-least (in-select (λ m. legal (m .pattern .cell) load) (fitting l n s) i f) in
+              let r = reaches-from-table l (binned (dec .decoded .library)) (t .shape) (tableOf work) n s filled (drv .node) load is-least (in-select (λ m. legal (m .pattern .cell) load) (fitting l n s) i f) in
               (r .1, r .0)
           go m i false f = ((λ q. absurd (Option·none-ne-some _ q)), (λ q. absurd (false≢true q)))
 
@@ -278,7 +271,7 @@ pub record Picked (l : Library) (load n : ℕ) (s : Shape) (time : ℕ) (found :
   pub word : least (suc time) (covers l load n s) ≡ some (pointOf w)
   pub first : firstReaching l load n s (pointOf w) ≡ some match
 
-pub picked : {l : Library} {t : Tree} {rows : List ℕ} {total : ℕ} {cells : List CellRecord} {ss zs work : List ℕ} {room : ℕ} → Decoded l t rows total cells ss zs work room →
+pub picked : {l : Library} {t : Tree} {rows : List ℕ} {total : ℕ} {cells : List CellRecord} {ss zs work : List ℕ} {room : ℕ} → Prepared l t rows total cells ss zs work room →
     {n load bin time : ℕ} {s : Shape} → Driven l t n load bin time s → getD ss n 0 < 2 → (found₀ found : List ℕ) (count w r : ℕ) → length found₀ ≡ room →
     (count ≡ length (fitting l n s)) × (found ≡ tableFrom 68 found₀ 0 (map matchRow (fitting l n s))) →
     Worth 70368744177664 (time + 1) w (lookup (time + 1) (tableOf work n bin)) → FirstRow ss work found load w count r → Picked l load n s time found w r

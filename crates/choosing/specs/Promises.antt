@@ -3,13 +3,13 @@ use Prim.Native.Nat.{ℕ, suc, _+_, _-_, _*_, _%_, _≤_, _<_}
 use mathlib.Core.Path.{_≡_}
 use mathlib.Core.List.{List, map, List·Memᴰ}
 use mathlib.Core.Option.{some}
-use lib.ListN.{length, getD, take, drop, replicate}
+use lib.ListN.{length, getD, take, drop}
 use lib.Seq.{sets}
-use Rattle.shapes.specs.Shape.{symbols, sizes}
+use Rattle.shapes.specs.Shape.{symbols}
 use Rattle.sheets.specs.declared.CellRecord.{CellRecord}
-use Rattle.sheets.specs.Model.{Shape, leaf, Library, Tree, patterns}
-use Rattle.sheets.specs.Layout.{padded, blankCell, cellLaid, tableFrom, patternRows}
-use Rattle.sheets.specs.Sound.{SoundLibrary, SoundTree}
+use Rattle.sheets.specs.Model.{Shape, leaf, Library, Tree}
+use Rattle.sheets.specs.Layout.{padded}
+use Rattle.matching.specs.Promises.{Decoded}
 use Rattle.covers.specs.Match.{Input, Match}
 use Rattle.covers.specs.Cover.{Point, Placed, feeds, inputDelay}
 use Rattle.covers.specs.Enumeration.{covers}
@@ -57,15 +57,9 @@ pub record InputsAre (m : Match) (load t : ℕ) (r : Inputs) : Type 0 where
   pub few : length (m .inputs) ≤ 16
   pub each : (k : ℕ) → k < length (m .inputs) → InputIs m load t k (getD (r .nodes) k 0) (getD (r .bins) k 0) (getD (r .times) k 0)
 
--- The library l and the tree t as decoded, and the curves of the tree's nodes in the work area.
-pub record Decoded (l : Library) (t : Tree) (rows : List ℕ) (total : ℕ) (cells : List CellRecord) (ss zs work : List ℕ) (room : ℕ) : Type 0 where
-  pub library : SoundLibrary l
-  pub tree : SoundTree t
-  pub rows-are : rows ≡ tableFrom 18 (replicate 2304 0) 0 (patternRows (patterns l))
-  pub total-is : total ≡ length (patterns l)
-  pub cells-are : cells ≡ padded 64 blankCell (map cellLaid (l .cells))
-  pub symbols-are : ss ≡ padded 64 0 (symbols (t .shape))
-  pub sizes-are : zs ≡ padded 64 0 (sizes (t .shape))
+-- The library l and the tree t as decoded, room for the matches of a node, and the curves of the tree's nodes in the work area.
+pub record Prepared (l : Library) (t : Tree) (rows : List ℕ) (total : ℕ) (cells : List CellRecord) (ss zs work : List ℕ) (room : ℕ) : Type 0 where
+  pub decoded : Decoded l t rows total cells ss zs
   pub room-is : room ≡ 8704
   pub work-long : 8192 ≤ length work
   pub curves : Stored l t work
@@ -84,7 +78,7 @@ pub record Driven (l : Library) (t : Tree) (n load bin time : ℕ) (s : Shape) :
 
 -- What the choice at a node is lent.
 pub record Chooses (l : Library) (t : Tree) (rows : List ℕ) (total : ℕ) (cells : List CellRecord) (loads ss zs : List ℕ) (room : ℕ) (work : List ℕ) (n load bin time places count : ℕ) (s : Shape) : Type 0 where
-  pub decoded : Decoded l t rows total cells ss zs work room
+  pub prepared : Prepared l t rows total cells ss zs work room
   pub driven : Driven l t n load bin time s
   pub loads-are : loads ≡ padded 4 0 (l .bins)
   pub fits : count + gates s ≤ places

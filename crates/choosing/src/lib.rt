@@ -13,7 +13,7 @@ ghost use Rattle.covers.specs.Cover.{Point, Cover};
 ghost use Rattle.covers.specs.Enumeration.{covers};
 ghost use Rattle.covers.specs.Choice.{least, firstReaching, choice};
 ghost use Rattle.curves.specs.Best.{Matches, RowSafe};
-ghost use Rattle.choosing.specs.Promises.{FirstRow, RowHolds, InputsAre, Decoded, Driven, Chooses, Listed};
+ghost use Rattle.choosing.specs.Promises.{FirstRow, RowHolds, InputsAre, Prepared, Driven, Chooses, Listed};
 
 // The pattern of a match and its inputs in drawn order: their nodes, the load bins of their pins and the times that are left to them.
 pub struct Inputs {
@@ -107,8 +107,8 @@ fn choose_match<'a>(
     bin: usize,
     time: u32,
 ) -> Inputs
-    requires { ⌜ ((l : Library) × ((t : Tree) × ((s : Shape) × (Decoded l t (now rows) total cells (now symbols) (now sizes) (now work) (length (now found)) × Driven l t n load bin time s × (getD (now symbols) n 0 < 2))))) ⌝ }
-    ensures { λ r. ⌜ ((l : Library) (t : Tree) (s : Shape) → Decoded l t (now (rows .entry)) total cells (now (symbols .entry)) (now (sizes .entry)) (now (work .entry)) (length (now (found .entry))) → Driven l t n load bin time s →
+    requires { ⌜ ((l : Library) × ((t : Tree) × ((s : Shape) × (Prepared l t (now rows) total cells (now symbols) (now sizes) (now work) (length (now found)) × Driven l t n load bin time s × (getD (now symbols) n 0 < 2))))) ⌝ }
+    ensures { λ r. ⌜ ((l : Library) (t : Tree) (s : Shape) → Prepared l t (now (rows .entry)) total cells (now (symbols .entry)) (now (sizes .entry)) (now (work .entry)) (length (now (found .entry))) → Driven l t n load bin time s →
         (p : Point) → least (suc time) (covers l load n s) ≡ some p → (m : Match) → firstReaching l load n s p ≡ some m → InputsAre m load (p .arrival) r) ⌝ }
 {
     let w = curves::find(

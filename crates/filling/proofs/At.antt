@@ -64,7 +64,7 @@ module _ {rows : List ℕ} {total : ℕ} {cells : List CellRecord} {symbols size
   node-within = omega (arith, g .matches .subject .ends, size-pos s)
 
   stands : (x : Node) → List·Memᴰ x (nodes 0 (t .shape)) → Stands symbols sizes (x .number) (x .shape)
-  stands = stands-everywhere symbols sizes (t .shape) (g .tree .size) (g .symbols-are) (g .sizes-are)
+  stands = stands-everywhere symbols sizes (t .shape) (g .decoded .tree .size) (g .decoded .symbols-are) (g .decoded .sizes-are)
 
   -- What stands at the node.
   leaf-or-gate : ((gates s ≡ 0) × (2 ≤ getD symbols n 0)) ⊎ ((0 < gates s) × (getD symbols n 0 < 2))
@@ -100,14 +100,14 @@ module _ {rows : List ℕ} {total : ℕ} {cells : List CellRecord} {symbols size
     pub node-matches : Matches found′ count symbols work
     node-matches =
         subst (λ (k : ℕ). Matches found′ k symbols work) (sym ec)
-        (rows-ready l t (g .sound) (g .tree) n s (g .here) symbols sizes stands found found′ long ef noMatch work
-        (ap length ef ∙ length-table 68 found 0 (map matchRow (fitting l n s)) ∙ long) (g .matches .subject .symbols-long) (g .work-length) (symbols-small symbols (t .shape) (g .symbols-are) (g .tree .leaves)) (g .small))
+        (rows-ready l t (g .decoded .library) (g .decoded .tree) n s (g .here) symbols sizes stands found found′ long ef noMatch work
+        (ap length ef ∙ length-table 68 found 0 (map matchRow (fitting l n s)) ∙ long) (g .matches .subject .symbols-long) (g .work-length) (symbols-small symbols (t .shape) (g .decoded .symbols-are) (g .decoded .tree .leaves)) (g .small))
 
     pub node-above : Above n found′ count
-    node-above = subst (Above n found′) (sym ec) (rows-above l t (g .sound) (g .tree) n s (g .here) symbols sizes stands found found′ long ef noMatch)
+    node-above = subst (Above n found′) (sym ec) (rows-above l t (g .decoded .library) (g .decoded .tree) n s (g .here) symbols sizes stands found found′ long ef noMatch)
 
     pub node-fits : (load : ℕ) → load ≤ 255 → PointsFit symbols work found′ load count
-    node-fits load h = subst (PointsFit symbols work found′ load) (sym ec) (points-fit l t (g .sound) (g .tree) n s (g .here) symbols sizes stands found found′ long ef noMatch work (g .filled) gate load h)
+    node-fits load h = subst (PointsFit symbols work found′ load) (sym ec) (points-fit l t (g .decoded .library) (g .decoded .tree) n s (g .here) symbols sizes stands found found′ long ef noMatch work (g .filled) gate load h)
 
     pub node-done : (loads : List ℕ) (work′ : List ℕ) (r : Counts) → ((b : ℕ) → b < bins → getD loads b 0 ≤ 255) → NodeFilled symbols work found′ count loads n bins work′ r → NodeDone l n s loads bins work work′ r
     node-done loads work′ r light h =
@@ -124,4 +124,4 @@ module _ {rows : List ℕ} {total : ℕ} {cells : List CellRecord} {symbols size
         points : (b : ℕ) → b < bins → pointsUnder symbols work found′ count loads b ≡ take 32 (curve (covers l (getD loads b 0) n s))
         points b k =
             subst (λ (m : ℕ). pointsUnder symbols work found′ m loads b ≡ take 32 (curve (covers l (getD loads b 0) n s))) (sym ec)
-            (curve-is-found l t (g .sound) (g .tree) n s (g .here) symbols sizes stands found found′ long ef noMatch work (g .filled) gate (getD loads b 0) (light b k))
+            (curve-is-found l t (g .decoded .library) (g .decoded .tree) n s (g .here) symbols sizes stands found found′ long ef noMatch work (g .filled) gate (getD loads b 0) (light b k))

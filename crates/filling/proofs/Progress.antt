@@ -25,7 +25,7 @@ use Rattle.covers.proofs.Ascending.{ascending-range, ascending-unique}
 use Rattle.covers.proofs.Overfull.{nodes-ascend, overfull-named, LastOf, nowhere, at, highest-unique}
 use Rattle.covers.proofs.Filling.{filled-start, filled-next}
 use Rattle.matching.proofs.Lists.{at-mem}
-use Rattle.matching.proofs.Standing.{subject-everywhere}
+use Rattle.matching.proofs.Standing.{ready-everywhere}
 use Rattle.matching.proofs.Written.{in-padded}
 use Rattle.curves.specs.Words.{tableOf, Small, ZeroBelow}
 use Rattle.curves.specs.Stored.{Stored}
@@ -110,13 +110,13 @@ module _ {rows : List ℕ} {total : ℕ} {cells : List CellRecord} {loads : List
   pub begun : Progress l t count work
   begun = rw (g .count-is) record {
     filled = filled-start l (t .shape) (tableOf work);
-    zero = λ k h. g .zero k (omega (arith, g .tree .size));
+    zero = λ k h. g .zero k (omega (arith, g .decoded .tree .size));
     small = λ k. ⊎-elim (λ h. omega (arith, g .zero k h)) (λ h. omega (arith, List·getD-eq-default work 0 {n = k} (omega (arith, g .work-length)))) (lt-or-le k 8192);
     fewer = λ x m h. absurd (omega (arith, ascending-range (nodes-ascend 0 (t .shape)) m .1));
   }
 
   pub bins-few : bins ≤ 4
-  bins-few = omega (arith, g .bins-is, g .sound .few-bins)
+  bins-few = omega (arith, g .bins-is, g .decoded .library .few-bins)
 
   pub some-node : 0 < count
   some-node = omega (arith, g .count-is, size-pos (t .shape))
@@ -127,19 +127,9 @@ module _ {rows : List ℕ} {total : ℕ} {cells : List CellRecord} {loads : List
       let x = node-at 0 (t .shape) n (omega arith) (omega (arith, g .count-is)) in (
         x .0,
         record {
-          sound = g .sound;
-          tree = g .tree;
+          decoded = g .decoded;
           here = x .1;
-          matches = record {
-            sound = g .sound;
-            rows-are = g .rows-are;
-            total-is = g .total-is;
-            cells-are = g .cells-are;
-            room-is = ef;
-            subject = subject-everywhere symbols sizes (t .shape) (g .tree .size) (g .symbols-are) (g .sizes-are) (record { number = n; shape = x .0 }) (x .1);
-          };
-          symbols-are = g .symbols-are;
-          sizes-are = g .sizes-are;
+          matches = ready-everywhere (g .decoded) ef (record { number = n; shape = x .0 }) (x .1);
           few-bins = few;
           filled = subst (Filled l (t .shape) (tableOf work′)) (add-one n) (p .filled);
           zero = p .zero;
@@ -150,13 +140,13 @@ module _ {rows : List ℕ} {total : ℕ} {cells : List CellRecord} {loads : List
 
   -- The loads considered below the root, and at it.
   bins-at : (b : ℕ) → b < bins → getD loads b 0 ≡ getD (l .bins) b 0
-  bins-at b h = ap (λ (q : List ℕ). getD q b 0) (g .loads-are) ∙ in-padded 4 0 0 (l .bins) b (g .sound .few-bins) (omega (arith, g .bins-is))
+  bins-at b h = ap (λ (q : List ℕ). getD q b 0) (g .loads-are) ∙ in-padded 4 0 0 (l .bins) b (g .decoded .library .few-bins) (omega (arith, g .bins-is))
 
   pub light : (b : ℕ) → b < bins → getD loads b 0 ≤ 255
-  light b h = rw (bins-at b h) (at-all (λ x. x ≤ 255) (l .bins) b 0 (omega arith) (g .sound .loads))
+  light b h = rw (bins-at b h) (at-all (λ x. x ≤ 255) (l .bins) b 0 (omega arith) (g .decoded .library .loads))
 
   pub light-root : (b : ℕ) → b < 1 → getD (load ∷ 0 ∷ 0 ∷ 0 ∷ []) b 0 ≤ 255
-  light-root b h = let e : b ≡ 0 = omega arith in rw e (omega (arith, g .load-is, g .tree .load))
+  light-root b h = let e : b ≡ 0 = omega arith in rw e (omega (arith, g .load-is, g .decoded .tree .load))
 
   bins-loads : {n : ℕ} {s : Shape} → considered l t n s ≡ l .bins → (gates s ≡ 0 → ⊥) → Loads l t n s loads bins
   bins-loads e gate = record {

@@ -2,18 +2,17 @@
 use Prim.Native.Nat.{ℕ, suc, _+_, _*_, _≤_, _<_}
 use mathlib.Core.Path.{_≡_}
 use mathlib.Core.Bool.{Bool, true, false}
-use mathlib.Core.List.{List, map, List·Memᴰ}
+use mathlib.Core.List.{List, List·Memᴰ}
 use mathlib.Core.Option.{none, some}
-use lib.ListN.{length, getD, take, replicate}
+use lib.ListN.{length, getD, take}
 use Rattle.shapes.specs.Shape as Shapes
 use Rattle.sheets.specs.declared.CellRecord.{CellRecord}
-use Rattle.sheets.specs.Model.{Shape, size, Library, Tree, patterns}
-use Rattle.sheets.specs.Layout.{padded, blankCell, cellLaid, tableFrom, patternRows}
-use Rattle.sheets.specs.Sound.{SoundLibrary, SoundTree}
+use Rattle.sheets.specs.Model.{Shape, size, Library, Tree}
+use Rattle.sheets.specs.Layout.{padded}
 use Rattle.covers.specs.Enumeration.{covers}
 use Rattle.covers.specs.Tradeoff.{nodes, overfullNode}
 use Rattle.covers.specs.Curve.{Filled, base, byDeadline, curve, gates}
-use Rattle.matching.specs.Promises.{Ready}
+use Rattle.matching.specs.Promises.{Ready, Decoded}
 use Rattle.covers.specs.Cover.{Point}
 use Rattle.curves.specs.Words.{tableOf, Small, AgreeFrom, ZeroBelow}
 use Rattle.curves.specs.Promises.{bestBefore}
@@ -37,12 +36,9 @@ module _ (symbols work found : List ℕ) (count : ℕ) (loads : List ℕ) where
 
 -- The library and the tree as decoded, with all later nodes' curves in the work area, at the node (n, s).
 pub record FillReady (rows : List ℕ) (total : ℕ) (cells : List CellRecord) (symbols sizes : List ℕ) (n : ℕ) (found work : List ℕ) (bins : ℕ) (l : Library) (t : Tree) (s : Shape) : Type 0 where
-  pub sound : SoundLibrary l
-  pub tree : SoundTree t
+  pub decoded : Decoded l t rows total cells symbols sizes
   pub here : List·Memᴰ (record { number = n; shape = s }) (nodes 0 (t .shape))
   pub matches : Ready rows total cells symbols sizes n (length found) l s
-  pub symbols-are : symbols ≡ padded 64 0 (Shapes.symbols (t .shape))
-  pub sizes-are : sizes ≡ padded 64 0 (Shapes.sizes (t .shape))
   pub few-bins : bins ≤ 4
   pub filled : Filled l (t .shape) (tableOf work) (suc n)
   pub zero : ZeroBelow (128 * (n + 1)) work
@@ -65,15 +61,9 @@ Exceeds false bins r = (b : ℕ) → b < bins → getD (r .points) b 0 ≤ 31
 
 -- The library l and the tree t as decoded, room for the matches of a node, and a work area of zeros.
 pub record FillStart (rows : List ℕ) (total : ℕ) (cells : List CellRecord) (loads : List ℕ) (bins : ℕ) (symbols sizes : List ℕ) (count load : ℕ) (found work : List ℕ) (l : Library) (t : Tree) : Type 0 where
-  pub sound : SoundLibrary l
-  pub tree : SoundTree t
-  pub rows-are : rows ≡ tableFrom 18 (replicate 2304 0) 0 (patternRows (patterns l))
-  pub total-is : total ≡ length (patterns l)
-  pub cells-are : cells ≡ padded 64 blankCell (map cellLaid (l .cells))
+  pub decoded : Decoded l t rows total cells symbols sizes
   pub loads-are : loads ≡ padded 4 0 (l .bins)
   pub bins-is : bins ≡ length (l .bins)
-  pub symbols-are : symbols ≡ padded 64 0 (Shapes.symbols (t .shape))
-  pub sizes-are : sizes ≡ padded 64 0 (Shapes.sizes (t .shape))
   pub count-is : count ≡ size (t .shape)
   pub load-is : load ≡ t .load
   pub room : length found ≡ 8704

@@ -49,14 +49,8 @@ module _ {rows : List ℕ} {total : ℕ} {cells : List CellRecord} {loads : List
   pub core-asked : {time : ℕ} → Start rows total cells loads bins ss zs count load time found work l t → (found′ work′ : List ℕ) → length found′ ≡ length found → length work′ ≡ length work → FillingIs l t work′ Whole →
       Asked l t rows total cells loads ss zs load time work′ (length found′)
   core-asked s found′ work′ hf hw w = record {
-    decoded = record {
-      library = s .fill .sound;
-      tree = s .fill .tree;
-      rows-are = s .fill .rows-are;
-      total-is = s .fill .total-is;
-      cells-are = s .fill .cells-are;
-      symbols-are = s .fill .symbols-are;
-      sizes-are = s .fill .sizes-are;
+    prepared = record {
+      decoded = s .fill .decoded;
       room-is = hf ∙ s .fill .room;
       work-long = omega (arith, hw, s .fill .work-length);
       curves = w .1;
@@ -68,8 +62,8 @@ module _ {rows : List ℕ} {total : ℕ} {cells : List CellRecord} {loads : List
 
   pub core-curved : FillStart rows total cells loads bins ss zs count load found work l t → (work′ : List ℕ) → length work′ ≡ length work → FillingIs l t work′ Whole → Curved l t ss work′
   core-curved s work′ hw w = record {
-    tree = s .tree;
-    symbols-are = s .symbols-are;
+    tree = s .decoded .tree;
+    symbols-are = s .decoded .symbols-are;
     work-long = omega (arith, hw, s .work-length);
     curves = w .1;
     not-overfull = w .0;

@@ -102,7 +102,7 @@ module _ (s : Shape) (ss : List ℕ) where
 
 module _ {l : Library} {t : Tree} {rows : List ℕ} {total : ℕ} {cells : List CellRecord} {loads ss zs : List ℕ} {load time : ℕ} {work : List ℕ} {room : ℕ} (asked : Asked l t rows total cells loads ss zs load time work room) where
   pub root-room : 0 < length ss
-  root-room = symbols-room (t .shape) ss (asked .decoded .symbols-are)
+  root-room = symbols-room (t .shape) ss (asked .prepared .decoded .symbols-are)
 
   abbrev asks : Option Cover
   asks = choice l (t .load) 0 (t .shape) (t .required)
@@ -112,12 +112,12 @@ module _ {l : Library} {t : Tree} {rows : List ℕ} {total : ℕ} {cells : List 
 
   -- The cover of a root that is a leaf.
   pub leaf-put : 2 ≤ getD ss 0 0 → (entry exit : List ℕ) (r : Chosen) → Put entry exit (Option·map coverSheet (choice l (t .load) 0 (leaf (getD ss 0 0 - 2)) time)) r → Put entry exit (Option·map coverSheet asks) r
-  leaf-put h entry exit r = subst (λ (o : Option Cover). Put entry exit (Option·map coverSheet o) r) (ap₂ (λ (s : Shape) (b : ℕ). choice l (t .load) 0 s b) (sym (leaf-symbol (t .shape) ss (asked .decoded .tree .size) (asked .decoded .symbols-are) h)) (asked .time-is))
+  leaf-put h entry exit r = subst (λ (o : Option Cover). Put entry exit (Option·map coverSheet o) r) (ap₂ (λ (s : Shape) (b : ℕ). choice l (t .load) 0 s b) (sym (leaf-symbol (t .shape) ss (asked .prepared .decoded .tree .size) (asked .prepared .decoded .symbols-are) h)) (asked .time-is))
 
   module _ (gate : getD ss 0 0 < 2) (w : ℕ) (worth : Worth 70368744177664 (time + 1) w (lookup (time + 1) (tableOf work 0 0))) where
     looked : lookup (time + 1) (tableOf work 0 0) ≡ least (suc time) (covers l load 0 (t .shape))
     looked =
-        ap (lookup (time + 1)) (asked .decoded .curves .root (gate-symbol (t .shape) ss (asked .decoded .tree .size) (asked .decoded .symbols-are) gate)) ∙ lookup-is-least (time + 1) (curve-is (covers l (t .load) 0 (t .shape)))
+        ap (lookup (time + 1)) (asked .prepared .curves .root (gate-symbol (t .shape) ss (asked .prepared .decoded .tree .size) (asked .prepared .decoded .symbols-are) gate)) ∙ lookup-is-least (time + 1) (curve-is (covers l (t .load) 0 (t .shape)))
         ∙ ap₂ (λ (k a : ℕ). least k (covers l a 0 (t .shape))) (add-one time) (sym (asked .load-is))
 
     pub gate-none : (entry exit : List ℕ) → w ≡ absent → exit ≡ entry → Put entry exit (Option·map coverSheet asks) NoCover
@@ -135,16 +135,16 @@ module _ {l : Library} {t : Tree} {rows : List ℕ} {total : ℕ} {cells : List 
       gate-driven = record {
         node = root-in 0 (t .shape);
         drives = at-root refl (asked .load-is) refl;
-        time-small = omega (arith, asked .time-is, asked .decoded .tree .required);
+        time-small = omega (arith, asked .time-is, asked .prepared .decoded .tree .required);
         some-cover = (pointOf w, least-here);
       }
 
       pub gate-chooses : (places : ℕ) → places ≡ 64 → Chooses l t rows total cells loads ss zs room work 0 load 0 time places 0 (t .shape)
       gate-chooses places e = record {
-        decoded = asked .decoded;
+        prepared = asked .prepared;
         driven = gate-driven;
         loads-are = asked .loads-are;
-        fits = omega (arith, gates-lt-size (t .shape), asked .decoded .tree .size);
+        fits = omega (arith, gates-lt-size (t .shape), asked .prepared .decoded .tree .size);
       }
 
       pub gate-small : w < 70368744177664
@@ -156,7 +156,7 @@ module _ {l : Library} {t : Tree} {rows : List ℕ} {total : ℕ} {cells : List 
         chosen = chosen-there l load 0 (t .shape) time (least-here)
 
         few : length (chosen .0 .placed) ≤ 63
-        few = omega (arith, few-matches (choice-handed l load 0 (t .shape) time (chosen .1) .legal), gates-lt-size (t .shape), asked .decoded .tree .size)
+        few = omega (arith, few-matches (choice-handed l load 0 (t .shape) time (chosen .1) .legal), gates-lt-size (t .shape), asked .prepared .decoded .tree .size)
 
         here : Listed (chosen .0 .placed) 0 ns ps ns′ ps′ count
         here = listed (chosen .0) (chosen .1)

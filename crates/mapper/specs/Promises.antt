@@ -14,7 +14,7 @@ use Rattle.covers.specs.Answer.{Answer, mapAnswer, listAnswer}
 use Rattle.covers.specs.Outcome.{Outcome, told, outputAfter, capacity}
 use Rattle.curves.specs.Stored.{Stored}
 use Rattle.filling.specs.Promises.{FillStart}
-use Rattle.choosing.specs.Promises.{Decoded}
+use Rattle.choosing.specs.Promises.{Prepared}
 use Rattle.writing.specs.Written.{Written}
 use Rattle.mapper.specs.declared.Chosen.{Chosen}
 use Rattle.mapper.specs.declared.Chosen.the-variants.{NoCover, Bytes}
@@ -31,7 +31,7 @@ pub data Put (entry exit : List ℕ) : Option (List ℕ) → Chosen → Type 0 w
 
 -- The library and the tree as decoded with their curves, the loads of the bins, and the tree's own load and required time.
 pub record Asked (l : Library) (t : Tree) (rows : List ℕ) (total : ℕ) (cells : List CellRecord) (loads ss zs : List ℕ) (load time : ℕ) (work : List ℕ) (room : ℕ) : Type 0 where
-  pub decoded : Decoded l t rows total cells ss zs work room
+  pub prepared : Prepared l t rows total cells ss zs work room
   pub loads-are : loads ≡ padded 4 0 (l .bins)
   pub load-is : load ≡ t .load
   pub time-is : time ≡ t .required

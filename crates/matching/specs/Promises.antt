@@ -5,10 +5,10 @@ use mathlib.Core.Bool.{true, false}
 use mathlib.Core.List.{List, map, List·Memᴰ}
 use mathlib.Core.Option.{Option, none, some}
 use lib.ListN.{getD, length, replicate}
-use Rattle.shapes.specs.Shape.{symbols}
+use Rattle.shapes.specs.Shape.{symbols, sizes}
 use Rattle.sheets.specs.declared.CellRecord.{CellRecord}
-use Rattle.sheets.specs.Model.{Shape, size, leaves, Library, Pattern, patterns}
-use Rattle.sheets.specs.Sound.{SoundDrawing, SoundLibrary}
+use Rattle.sheets.specs.Model.{Shape, size, leaves, Library, Pattern, patterns, Tree}
+use Rattle.sheets.specs.Sound.{SoundDrawing, SoundLibrary, SoundTree}
 use Rattle.sheets.specs.Layout.{padded, blankCell, cellLaid, tableFrom, patternRows}
 use Rattle.covers.specs.Match.{Input, Match, laid}
 use Rattle.matching.specs.declared.Walked.{Walked}
@@ -58,3 +58,13 @@ pub record Ready (rows : List ℕ) (total : ℕ) (cells : List CellRecord) (ss z
   pub cells-are : cells ≡ padded 64 blankCell (map cellLaid (l .cells))
   pub subject : Subject ss zs n s
   pub room-is : room ≡ 8704
+
+-- The library l and the tree t as decoded: the patterns' rows, the cells, and the tree's symbols and sizes.
+pub record Decoded (l : Library) (t : Tree) (rows : List ℕ) (total : ℕ) (cells : List CellRecord) (ss zs : List ℕ) : Type 0 where
+  pub library : SoundLibrary l
+  pub tree : SoundTree t
+  pub rows-are : rows ≡ tableFrom 18 (replicate 2304 0) 0 (patternRows (patterns l))
+  pub total-is : total ≡ length (patterns l)
+  pub cells-are : cells ≡ padded 64 blankCell (map cellLaid (l .cells))
+  pub symbols-are : ss ≡ padded 64 0 (symbols (t .shape))
+  pub sizes-are : zs ≡ padded 64 0 (sizes (t .shape))

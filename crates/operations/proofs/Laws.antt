@@ -45,15 +45,17 @@ pub start-of : {l : Library} {t : Tree} {library : LibraryRecord} {tree : TreeRe
     FillStart (library .rows) (library .total) (library .cells) (library .loads) (library .bins) (tree .symbols) (tree .sizes) (tree .count) (tree .load) found (take 8192 work′) l t
 unfolding libraryLaid treeLaid
 start-of {library = library} {tree} g work work′ found long e room len = record {
-  sound = g .sound;
-  tree = g .tree-sound;
-  rows-are = ap (λ (r : LibraryRecord). r .rows) (g .library-is);
-  total-is = ap (λ (r : LibraryRecord). r .total) (g .library-is);
-  cells-are = ap (λ (r : LibraryRecord). r .cells) (g .library-is);
+  decoded = record {
+    library = g .sound;
+    tree = g .tree-sound;
+    rows-are = ap (λ (r : LibraryRecord). r .rows) (g .library-is);
+    total-is = ap (λ (r : LibraryRecord). r .total) (g .library-is);
+    cells-are = ap (λ (r : LibraryRecord). r .cells) (g .library-is);
+    symbols-are = ap (λ (r : TreeRecord). r .symbols) (g .tree-is);
+    sizes-are = ap (λ (r : TreeRecord). r .sizes) (g .tree-is);
+  };
   loads-are = ap (λ (r : LibraryRecord). r .loads) (g .library-is);
   bins-is = ap (λ (r : LibraryRecord). r .bins) (g .library-is);
-  symbols-are = ap (λ (r : TreeRecord). r .symbols) (g .tree-is);
-  sizes-are = ap (λ (r : TreeRecord). r .sizes) (g .tree-is);
   count-is = ap (λ (r : TreeRecord). r .count) (g .tree-is);
   load-is = ap (λ (r : TreeRecord). r .load) (g .tree-is);
   room = room;

@@ -48,7 +48,7 @@ lent : (t : ℕ) (c : choose-lts.Start (of-choose t) (choose-at t) choose.Post c
 lent t c = c .pre .1 .1 .1 .1 .1
 
 near : (t : ℕ) (c : choose-lts.Start (of-choose t) (choose-at t) choose.Post choose-Inv-loop choose-μ-loop) → Limits (c .args .n) (c .args .load) (c .args .bin) (c .args .symbols .now) (c .args .sizes .now)
-near t c = let all = lent t c in limits (all .decoded) (all .driven)
+near t c = let all = lent t c in limits (all .prepared) (all .driven)
 
 -- the lengths at the loop's test
 found-same : (t : ℕ) (c : choose-lts.At-loop (of-choose t) (choose-at t) choose.Post choose-Inv-loop choose-μ-loop) → length (c .before .before .before .before .before .before .before .before .before .before .before .before .before .before .args .found .now) ≡ length (c .loop .found)
@@ -85,7 +85,7 @@ own-next t c = let p = c .before .before .before .before .before .before .before
 
 own-near : (t : ℕ) (c : choose-lts.In-loop (of-choose t) (choose-at t) choose.Post choose-Inv-loop choose-μ-loop) → let a = c .before .before .before .before .before .before .before .before .before .before .before .before .before .before .before .args in let r = c .before .before .before .before .choose-match .result in let k = c .before .loop .k in
     Limits (getD (r .nodes) k 0) (getD (a .t4) (getD (r .bins) k 0) 0) (getD (r .bins) k 0) (a .symbols .now) (a .sizes .now)
-own-near t c = let x = own-next t c .chooses in limits (x .decoded) (x .driven)
+own-near t c = let x = own-next t c .chooses in limits (x .prepared) (x .driven)
 
 few-inputs : (t : ℕ) (c : choose-lts.At-loop (of-choose t) (choose-at t) choose.Post choose-Inv-loop choose-μ-loop) → c .before .before .before .choose-match .result .count ≤ 16
 few-inputs t c =
@@ -95,7 +95,7 @@ few-inputs t c =
     omega (arith, g .inputs-are .count-is, g .inputs-are .few)
 
 room-here : (t : ℕ) (c : choose-lts.Else1 (of-choose t) (choose-at t) choose.Post choose-Inv-loop choose-μ-loop) → (c .before .before .before .before .before .before .before .before .before .args .count < length (c .before .before .before .before .before .before .before .before .before .args .nodes .now)) × (0 < gates (c .before .before .before .before .before .before .before .before .before .pre .1 .1 .1 .1 .0))
-room-here t c = let all = lent t (c .before .before .before .before .before .before .before .before .before) in let g = gate-here (all .decoded) (all .driven) (c .if1 .left) in (omega (arith, all .fits), g)
+room-here t c = let all = lent t (c .before .before .before .before .before .before .before .before .before) in let g = gate-here (all .prepared) (all .driven) (c .if1 .left) in (omega (arith, all .fits), g)
 
 choose-mul-if1 : (t : ℕ) → choose-lts.Need-mul-if1 (of-choose t) (choose-at t) choose.Post choose-Inv-loop choose-μ-loop
 choose-mul-if1 t c = omega (arith, near t (c .before .before .before .before .before .before .before) .node-small)
@@ -110,7 +110,7 @@ choose-choose-match-requires : (t : ℕ) → choose-lts.Need-choose-match-requir
 choose-choose-match-requires t c κs =
     let p = c .before .before .before .before .before .before .before .before .before .before .pre .1 .1 in
     let all = lent t (c .before .before .before .before .before .before .before .before .before .before) in
-    (p .0, (p .1 .0, (p .1 .1 .0, (all .decoded, all .driven, c .before .if1 .left))))
+    (p .0, (p .1 .0, (p .1 .1 .0, (all .prepared, all .driven, c .before .if1 .left))))
 
 choose-cast-nodes : (t : ℕ) → choose-lts.Need-cast-nodes (of-choose t) (choose-at t) choose.Post choose-Inv-loop choose-μ-loop
 choose-cast-nodes t c = omega (arith, near t (c .before .before .before .before .before .before .before .before .before .before .before .before .before) .node-small)
@@ -134,8 +134,8 @@ choose-loop-holds t c =
       refl,
       λ l tree s lent′ d e.
           let all = resized lent′ (m .kept .1 .1 .1 .1 .1 .0) (length-set (a .nodes .now) (a .count) _) in
-          going-start l s (a .n) (a .load) (a .time) d (m .result) (a .count) (all .driven .some-cover .0) (gate-here (all .decoded) (all .driven) (c .before .before .before .before .if1 .left)) (all .driven .some-cover .1) e
-          (m .ensures l tree s (all .decoded) (all .driven)) (set (a .nodes .now) (a .count) (a .n)) (set (a .patterns .now) (a .count) (m .result .pattern)),
+          going-start l s (a .n) (a .load) (a .time) d (m .result) (a .count) (all .driven .some-cover .0) (gate-here (all .prepared) (all .driven) (c .before .before .before .before .if1 .left)) (all .driven .some-cover .1) e
+          (m .ensures l tree s (all .prepared) (all .driven)) (set (a .nodes .now) (a .count) (a .n)) (set (a .patterns .now) (a .count) (m .result .pattern)),
     )
 
 choose-element-copy-out-pin : (t : ℕ) → choose-lts.Need-element-copy-out-pin (of-choose t) (choose-at t) choose.Post choose-Inv-loop choose-μ-loop

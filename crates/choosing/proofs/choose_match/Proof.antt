@@ -8,7 +8,7 @@ use Rattle.sheets.specs.Model.{Shape, Library, Tree}
 use Rattle.covers.specs.Match.{Match}
 use Rattle.covers.specs.Curve.{base}
 use Rattle.curves.specs.Best.{RowSafe}
-use Rattle.choosing.specs.Promises.{RowHolds, InputsAre, Decoded, Driven}
+use Rattle.choosing.specs.Promises.{RowHolds, InputsAre, Prepared, Driven}
 use Rattle.choosing.proofs.Gate.{limits, ready, word-found, gate-here, rows-safe, Picked, picked, picked-inputs}
 use Rattle.choosing.proofs.choose_match.Statement.{statement}
 use Rattle.choosing.proofs.choose_match.Tie as tie
@@ -25,7 +25,7 @@ claims = (find-reads.Asked, find-reads.Learnt, find-matches-reads.Asked, find-ma
 -- The row that was picked, for every library and tree that was decoded.
 the-row : (c : lts.After-first-reaching claims reads.Pre reads.Post) (l : Library) (t : Tree) (s : Shape) →
     let a = c .before .before .before .before .before .before .before .before .before .before .before .before .args in
-    Decoded l t (a .rows .now) (a .total) (a .cells) (a .symbols .now) (a .sizes .now) (a .work .now) (length (a .found .now)) → Driven l t (a .n) (a .load) (a .bin) (a .time) s →
+    Prepared l t (a .rows .now) (a .total) (a .cells) (a .symbols .now) (a .sizes .now) (a .work .now) (length (a .found .now)) → Driven l t (a .n) (a .load) (a .bin) (a .time) s →
     Picked l (a .load) (a .n) s (a .time) (c .before .before .before .before .find-matches .last .1 .1 .1 .1 .1 .1 .0) (c .before .before .before .before .before .before .find .result) (c .first-reaching .result)
 the-row c l t s dec drv =
     let a = c .before .before .before .before .before .before .before .before .before .before .before .before .args in

@@ -32,7 +32,7 @@ returns c l t start =
     let a = c .before .before .before .before .before .before .before .before .before .before .before .before .before .before .before .before .args in
     let f = c .before .before .before .before .before .before .before .fill in
     let told = c .before .filling .given in
-    task-overfull l t (f .last .1 .1 .1 .1 .1 .1 .1 .1 .1 .1 .0) (a .output .now) (a .output .now) (a .task) (told .0 .0) (start .fill .tree) (subst (FillingIs l t (f .last .1 .1 .1 .1 .1 .1 .1 .1 .1 .1 .0)) (told .1) (f .ensures l t (start .fill))) refl
+    task-overfull l t (f .last .1 .1 .1 .1 .1 .1 .1 .1 .1 .1 .0) (a .output .now) (a .output .now) (a .task) (told .0 .0) (start .fill .decoded .tree) (subst (FillingIs l t (f .last .1 .1 .1 .1 .1 .1 .1 .1 .1 .1 .0)) (told .1) (f .ensures l t (start .fill))) refl
 
 enum-told : tie.Need-enum-told
 enum-told c = search needs
