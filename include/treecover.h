@@ -10,7 +10,8 @@ extern "C" {
 
 /*
  * Each function reads the bytes that it is lent, keeps no pointer and never fails otherwise than by its answer.
- * An empty sheet may have any pointer. Output and work area must not overlap each other or the sheets.
+ * What has length 0 may have any pointer. Output and work area must not overlap each other or the sheets, and the work area
+ * is aligned as uint64_t.
  *
  * A refusal is number * 2^32 + place; a success has 0 above bit 31. The numbers:
  *    1  output or work area too short; place 0

@@ -4,7 +4,7 @@ use crate::cover::{Cover, Pair};
 use crate::library::Library;
 use crate::matching::{matches_at, Match};
 use crate::merging::MOST_TRADE_OFFS;
-use crate::refusal::{Refusal, OVERFULL, NO_COVER};
+use crate::refusal::{Refusal, NO_COVER, OVERFULL};
 use crate::shape::Node;
 use crate::tree::Tree;
 
@@ -102,7 +102,8 @@ impl<'a> Listing<'a> {
     }
 
     fn refuse_overfull(&self) -> Result<(), Refusal> {
-        let overfull = |&node: &usize| self.covers[node].iter().any(|covers| trade_offs(covers).len() > MOST_TRADE_OFFS);
+        let overfull =
+            |&node: &usize| self.covers[node].iter().any(|covers| trade_offs(covers).len() > MOST_TRADE_OFFS);
         match (0..self.covers.len()).rev().find(overfull) {
             Some(node) => Err(Refusal::new(OVERFULL, node)),
             None => Ok(()),

@@ -1,6 +1,6 @@
 //! The library sheet.
 
-use crate::refusal::{Refusal, DRAWING, SIZE, RANGE};
+use crate::refusal::{Refusal, DRAWING, RANGE, SIZE};
 use crate::shape::Shape;
 use crate::sheet::Sheet;
 

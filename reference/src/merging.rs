@@ -4,7 +4,7 @@ use crate::cover::{Cover, Pair};
 use crate::curve::{Curve, Point};
 use crate::library::Library;
 use crate::matching::{matches_at, Input, Match};
-use crate::refusal::{Refusal, OVERFULL, NO_COVER};
+use crate::refusal::{Refusal, NO_COVER, OVERFULL};
 use crate::shape::{Node, Shape};
 use crate::tree::Tree;
 

@@ -1,7 +1,7 @@
 //! What a library and a tree have in common: fields in order, and a tail.
 
 use crate::bits::Reader;
-use crate::refusal::{Refusal, TAIL, SIZE, RANGE, TRUNCATED};
+use crate::refusal::{Refusal, RANGE, SIZE, TAIL, TRUNCATED};
 use crate::shape::Step;
 use std::ops::RangeInclusive;
 

@@ -3,9 +3,9 @@
 
 use crate::map::any_problem;
 use crate::stored::Stored;
+use reference::form::Form;
 use reference::generate::damage::{damaged, Kind};
 use reference::generate::specimen;
-use reference::form::Form;
 use reference::rng::Rng;
 use reference::text::{input, printed, MOST_INPUT};
 

@@ -7,7 +7,7 @@ use reference::generate::problem::{any_style, problem, varied, Problem};
 use reference::hex::hex;
 use reference::operation::{Lent, Operation, LEAST_WORK};
 use reference::product;
-use reference::refusal::{OVERFULL, NO_COVER};
+use reference::refusal::{NO_COVER, OVERFULL};
 use reference::rng::Rng;
 
 struct Question {

@@ -1,7 +1,7 @@
 //! Problems made by hand, each with what its list of trade-offs must be.
 
-mod overfull;
 mod loads;
+mod overfull;
 mod points;
 mod unions;
 

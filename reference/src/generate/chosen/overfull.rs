@@ -3,7 +3,7 @@
 use super::super::parts::{cell, chain, pin, AND, INVERTER, NAND};
 use super::{grades, library, plain, points_at, with, Outcome, Table};
 use crate::library::{Cell, Pin};
-use crate::refusal::{OVERFULL, NO_COVER};
+use crate::refusal::{NO_COVER, OVERFULL};
 use crate::shape::Step::{Inv, Leaf, Nand};
 
 pub fn add(table: &mut Table) {
