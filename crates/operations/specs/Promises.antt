@@ -11,17 +11,6 @@ use Rattle.mapper.specs.declared.Reply.{Reply}
 use Rattle.mapper.specs.Said.{ofReply, Limited}
 use Rattle.sheets.specs.Sound.{SoundLibrary, SoundTree}
 
--- A sound library and a sound tree in the records that the readers hand over.
-pub record Laid (l : Library) (t : Tree) (library : LibraryRecord) (tree : TreeRecord) : Type 0 where
-  pub sound : SoundLibrary l
-  pub tree-sound : SoundTree t
-  pub library-is : library ≡ libraryLaid l
-  pub tree-is : tree ≡ treeLaid t
-
-pub record LibraryLaid (l : Library) (library : LibraryRecord) : Type 0 where
-  pub sound : SoundLibrary l
-  pub library-is : library ≡ libraryLaid l
-
 -- What an outcome leaves in the output and in the work area that were lent.
 pub record Leaves (o : Outcome) (output output′ work work′ : List ℕ) : Type 0 where
   pub output-is : output′ ≡ outputAfter o output
@@ -32,3 +21,16 @@ pub record Operated (o : Outcome) (output output′ work work′ : List ℕ) (r 
   pub reply-is : ofReply r ≡ told o
   pub leaves : Leaves o output output′ work work′
   pub limited : Limited r
+
+-- ---- inside the crate
+
+-- A sound library and a sound tree in the records that the readers hand over.
+pub record Laid (l : Library) (t : Tree) (library : LibraryRecord) (tree : TreeRecord) : Type 0 where
+  pub sound : SoundLibrary l
+  pub tree-sound : SoundTree t
+  pub library-is : library ≡ libraryLaid l
+  pub tree-is : tree ≡ treeLaid t
+
+pub record LibraryLaid (l : Library) (library : LibraryRecord) : Type 0 where
+  pub sound : SoundLibrary l
+  pub library-is : library ≡ libraryLaid l
