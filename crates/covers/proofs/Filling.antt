@@ -1,27 +1,27 @@
 -- Curves filled node by node from the highest number down: a node's curves come from those of higher-numbered nodes by look-up and deadline.
 use Prim.Native.Nat.{ℕ, suc, _-_, _≤_, _<_}
-use mathlib.Core.Path.{_≡_, refl, sym, ap, ap₂, fun-ext, _∙_}
+use mathlib.Core.Path.{_≡_, refl, sym, ap, ap₂, _∙_}
 use mathlib.Core.Logic.{_⊎_, inl, inr, _↔_}
 use mathlib.Core.Bool.{true}
 use mathlib.Core.List.{List, [], _∷_, List·Memᴰ, List·Memᴰ·head, List·Memᴰ·tail}
 use mathlib.Core.Option.{Option, some, Option·map}
 use native.Mathlib.Omega.{arith}
-use lib.ListN.{length, getD, take}
+use lib.ListN.{length, getD}
 use Rattle.sheets.specs.Model.{Shape, leaf, inv, nand, size, Pin, Cell, Library}
 use Rattle.covers.specs.Match.{Input, Match, IsMatch, matches, pinAt, pinLoad}
-use Rattle.covers.specs.Cover.{Point, Cover, late, raised, leafPoint, leafCover, feeds, inputDelay}
+use Rattle.covers.specs.Cover.{Point, late, raised, leafPoint, leafCover, feeds, inputDelay}
 use Rattle.covers.specs.Enumeration.{matchCovers, gateCovers, under, coversStep, covers, allBelow}
 use Rattle.covers.specs.Tradeoff.{nodes}
 use Rattle.covers.specs.Choice.{lesser, before, least, reaches}
 use Rattle.covers.proofs.Basics.{lt-or-le, at-all}
-use Rattle.covers.specs.Curve.{both, byDeadline, curve, Filled, gates, lookup}
+use Rattle.covers.specs.Curve.{both, curve, Filled, gates, lookup}
 use Rattle.covers.proofs.Points.{lesser-none}
 use Rattle.covers.proofs.Least.{In, IsLeast}
 use Rattle.covers.proofs.Deadline.{bestInputs, bestMatch, bestOf, leastInput, deadline}
 use Rattle.covers.proofs.Matching.{matches-are, match-inside, spread-in}
 use Rattle.covers.proofs.Unroll.{covers-unroll, gate-covers}
 use Rattle.covers.proofs.Handed.{pattern-reaches}
-use Rattle.covers.proofs.Curve.{curve-is, lookup-is-least, curve-found}
+use Rattle.covers.proofs.Curve.{curve-is, lookup-is-least}
 use Rattle.covers.proofs.Nodes.{nodeOf, input-in, nodes-within}
 use Rattle.covers.proofs.Ascending.{ascending-range, ascending-unique}
 use Rattle.covers.proofs.Overfull.{nodes-ascend}
@@ -88,7 +88,3 @@ module _ (l : Library) where
     pub reaches-from-table : (load : ℕ) {end : ℕ} {p : Point} {m : Match} → IsLeast end (In (covers l load n s)) p → List·Memᴰ m (matches l load n s) → (reaches p (matchCovers (allBelow l) load n m) ≡ true) ↔ (bestMatch (fromTable l table) load (suc (p .arrival)) m ≡ some p)
     unfolding bestMatch
     reaches-from-table load {p = p} {m = m} f k = rw (inputs-same (fromTable l table) (leastInput (allBelow l)) (m .pattern .cell) load (suc (p .arrival)) (m .inputs) (input-best (matches-are l load n s k))) (pattern-reaches l load n s f k)
-
-    -- So deadlines find its curve, as far as they go.
-    pub curve-from-table : (k load end : ℕ) → 0 < gates s → ((c : Cover) → In (covers l load n s) c → c .point .arrival < end) → byDeadline k (λ e. bestOf (fromTable l table) load e (matches l load n s)) end ≡ take k (curve (covers l load n s))
-    curve-from-table k load end g h = ap (λ f. byDeadline k f end) (fun-ext (λ e. best-from-table load e g)) ∙ curve-found k end (covers l load n s) h

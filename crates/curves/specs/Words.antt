@@ -3,19 +3,14 @@ use Prim.Native.Nat.{ℕ, zero, suc, _+_, _*_, _≤_, _<_}
 use mathlib.Core.Path.{_≡_}
 use mathlib.Core.Bool.{cond}
 use mathlib.Core.List.{List, [], _∷_}
-use mathlib.Core.Option.{Option, none, some}
 use lib.ListN.{getD}
 use lib.Dec.{eqb}
 use Rattle.covers.specs.Cover.{Point}
-use Rattle.covers.specs.Curve.{wordOf, pointOf}
+use Rattle.covers.specs.Curve.{pointOf}
 
 -- What stands for no point: above every word of a point.
 abbrev pub absent : ℕ
 absent = 9223372036854775808
-
-unfoldable pub word : Option Point → ℕ
-word none = absent
-word (some p) = wordOf p
 
 -- A curve as it stands from a word on: points, latest first, up to a 0 or to k of them.
 unfoldable pub stored : List ℕ → ℕ → ℕ → List Point
