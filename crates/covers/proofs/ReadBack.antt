@@ -1,14 +1,19 @@
 -- A packed sheet reads back: every field stands at its place, so the cover sheet and the list sheet say what they were made from.
 use Prim.Native.Nat.{ℕ, zero, suc, _+_, _*_, _/_, _%_, _^_, _≤_, _<_}
 use mathlib.Core.Path.{_≡_, refl, sym, ap, _∙_}
-use mathlib.Core.Logic.{inl}
+use mathlib.Core.Logic.{inl, inr}
+use mathlib.Core.Bool.{true}
+use borrow.Author.Tests.{eq-eqb}
 use mathlib.Core.List.{List, [], _∷_, _++_, List·Memᴰ, List·Memᴰ·head, List·Memᴰ·tail, append-assoc}
-use native.Mathlib.Nat.{le-refl, zero-add, mul-suc, mod-eq-of-lt}
+use native.Mathlib.Nat.{le-refl, zero-add, mul-suc, mod-eq-of-lt, div-eq-of-lt}
 use native.Mathlib.Omega.{arith}
 use lib.ListN.{length, getD, replicate, length-replicate}
-use Rattle.bits.specs.Bits.{bytesTo, valueAt, withField}
+use lib.Pow.{pow-pos}
+use Rattle.bits.specs.Bits.{after, bytesTo, restOf, bitAt, valueAt, endsAt, withField}
 use Rattle.bits.proofs.Laws.{length-field, value-field, value-beside}
 use Rattle.covers.specs.Cover.{Point, Placed, Cover}
+use Rattle.covers.proofs.Basics.{zeros-at}
+use Rattle.covers.proofs.SheetLengths.{length-packed, placed-widths, point-widths}
 use Rattle.covers.specs.CoverSheet.{Field, widths, written, packed, placedFields, coverFields, pointFields, listFields, coverSheet, listSheet, CoverReads, ListReads}
 
 -- Fields written from place i on leave what stands before it.
@@ -16,6 +21,22 @@ written-before : (fs : List Field) (i : ℕ) (s : List ℕ) (j u : ℕ) → j + 
 unfolding written
 written-before [] i s j u h = refl
 written-before (f ∷ fs) i s j u h = written-before fs (i + f .width) (withField s i (f .width) (f .value)) j u (omega arith) ∙ value-beside s i (f .width) (f .value) j u (inl h)
+
+-- And what stands after them.
+written-after : (fs : List Field) (i : ℕ) (s : List ℕ) (j u : ℕ) → i + widths fs ≤ j → valueAt (written fs i s) j u ≡ valueAt s j u
+unfolding written widths
+written-after [] i s j u h = refl
+written-after (f ∷ fs) i s j u h = written-after fs (i + f .width) (withField s i (f .width) (f .value)) j u (omega arith) ∙ value-beside s i (f .width) (f .value) j u (inr (omega arith))
+
+-- Zero bytes have zero bits.
+bit-zeros : (n i : ℕ) → bitAt (replicate n 0) i ≡ 0
+unfolding bitAt
+bit-zeros n i = ap (λ x. x / 2 ^ after i % 2) (zeros-at n (i / 8)) ∙ ap (λ x. x % 2) (div-eq-of-lt (pow-pos (after i)))
+
+value-zeros : (n i w : ℕ) → valueAt (replicate n 0) i w ≡ 0
+unfolding valueAt
+value-zeros n i zero = refl
+value-zeros n i (suc w) = omega (arith, value-zeros n i w, bit-zeros n (i + w))
 
 -- The field after fs stands after them, whatever is written next.
 written-reads : (fs : List Field) (f : Field) (gs : List Field) (i : ℕ) (s : List ℕ) {p : ℕ} → p ≡ i + widths fs → i + widths (fs ++ f ∷ gs) ≤ 8 * length s → valueAt (written (fs ++ f ∷ gs) i s) p (f .width) ≡ f .value % 2 ^ f .width
@@ -31,6 +52,15 @@ unfolding packed bytesTo
 packed-reads fs f gs =
     let bytes = (widths (fs ++ f ∷ gs) + 7) / 8 in
     written-reads fs f gs 0 (replicate bytes 0) (omega arith) (omega (arith, length-replicate {A = ℕ} bytes 0))
+
+-- Nothing but zero bits to the byte follows the last field.
+packed-ends : (fs : List Field) {p : ℕ} → p ≡ widths fs → endsAt (packed fs) p ≡ true
+unfolding endsAt packed bytesTo
+packed-ends fs {p} e =
+    let w = widths fs in
+    let bytes = (w + 7) / 8 in
+    let rest : valueAt (packed fs) w (restOf w) ≡ 0 = written-after fs 0 (replicate bytes 0) w (restOf w) (omega arith) ∙ value-zeros bytes w (restOf w) in
+    rw (e, eq-eqb _ _ (length-packed fs), eq-eqb _ _ rest) refl
 
 -- The same of a value that fits, where the fields and the place are known by equations.
 reads-at : (fs : List Field) (f : Field) (gs : List Field) {all : List Field} {p : ℕ} → f .value < 2 ^ f .width → all ≡ fs ++ f ∷ gs → p ≡ widths fs → valueAt (packed all) p (f .width) ≡ f .value
@@ -83,6 +113,7 @@ cover-reads {c} h =
       count = reads-at (area ∷ arrival ∷ []) count rest (h .count) refl refl;
       node = λ k d i. row k d (52 + 13 * k) (58 + 13 * k) refl (omega arith) i .0;
       pattern = λ k d i. row k d (52 + 13 * k) (58 + 13 * k) refl (omega arith) i .1;
+      ends = packed-ends (coverFields c) (omega (arith, placed-widths (c .placed)));
     }
 
 -- ---- the list sheet
@@ -101,4 +132,5 @@ list-reads {ps} h =
       count = reads-at [] count (pointFields ps) (h .count) refl refl;
       arrival = λ k d i. row k d (5 + 46 * k) (29 + 46 * k) refl (omega arith) i .0;
       area = λ k d i. row k d (5 + 46 * k) (29 + 46 * k) refl (omega arith) i .1;
+      ends = packed-ends (listFields ps) (omega (arith, point-widths ps));
     }

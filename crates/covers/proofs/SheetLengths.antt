@@ -18,12 +18,12 @@ pub length-packed : (fs : List Field) → length (packed fs) ≡ (widths fs + 7)
 unfolding packed bytesTo
 length-packed fs = length-written fs 0 (replicate (bytesTo (widths fs)) 0) ∙ length-replicate (bytesTo (widths fs)) 0
 
-placed-widths : (xs : List Placed) → widths (placedFields xs) ≡ 13 * length xs
+pub placed-widths : (xs : List Placed) → widths (placedFields xs) ≡ 13 * length xs
 unfolding placedFields widths
 placed-widths [] = refl
 placed-widths (x ∷ xs) = omega (arith, placed-widths xs)
 
-point-widths : (ps : List Point) → widths (pointFields ps) ≡ 46 * length ps
+pub point-widths : (ps : List Point) → widths (pointFields ps) ≡ 46 * length ps
 unfolding pointFields widths
 point-widths [] = refl
 point-widths (p ∷ ps) = omega (arith, point-widths ps)

@@ -1,9 +1,10 @@
 -- The cover sheet and the list sheet as bytes.
 use Prim.Native.Nat.{ℕ, _+_, _*_, _<_}
 use mathlib.Core.Path.{_≡_}
+use mathlib.Core.Bool.{true}
 use mathlib.Core.List.{List, [], _∷_}
 use lib.ListN.{length, getD, replicate}
-use Rattle.bits.specs.Bits.{after, bytesTo, valueAt, withDigit, withBit, withField}
+use Rattle.bits.specs.Bits.{after, bytesTo, valueAt, endsAt, withDigit, withBit, withField}
 use Rattle.covers.specs.Cover.{Point, Placed, Cover}
 
 -- A field to be written: a value and its width in bits.
@@ -57,16 +58,18 @@ unfoldable pub listSheet : List Point → List ℕ
 unfolding packed listFields
 listSheet ps = packed (listFields ps)
 
--- Bytes whose fields say the cover, so that nothing of it is cut off.
+-- Bytes whose fields say the cover, so that nothing of it is cut off; zero bits to the byte follow, and no byte more.
 pub record CoverReads (c : Cover) (s : List ℕ) : Type 0 where
   pub area : valueAt s 0 22 ≡ c .point .area
   pub arrival : valueAt s 22 24 ≡ c .point .arrival
   pub count : valueAt s 46 6 ≡ length (c .placed)
   pub node : (k : ℕ) (d : Placed) → k < length (c .placed) → valueAt s (52 + 13 * k) 6 ≡ getD (c .placed) k d .node
   pub pattern : (k : ℕ) (d : Placed) → k < length (c .placed) → valueAt s (58 + 13 * k) 7 ≡ getD (c .placed) k d .pattern
+  pub ends : endsAt s (52 + 13 * length (c .placed)) ≡ true
 
--- Bytes whose fields say the trade-offs.
+-- Bytes whose fields say the trade-offs, with the same end.
 pub record ListReads (ps : List Point) (s : List ℕ) : Type 0 where
   pub count : valueAt s 0 5 ≡ length ps
   pub arrival : (k : ℕ) (d : Point) → k < length ps → valueAt s (5 + 46 * k) 24 ≡ getD ps k d .arrival
   pub area : (k : ℕ) (d : Point) → k < length ps → valueAt s (29 + 46 * k) 22 ≡ getD ps k d .area
+  pub ends : endsAt s (5 + 46 * length ps) ≡ true

@@ -14,7 +14,7 @@ use Rattle.sheets.specs.Layout.{padded, tableFrom}
 use Rattle.covers.specs.Match.{Match, fitting}
 use Rattle.covers.specs.Enumeration.{covers}
 use Rattle.covers.specs.Tradeoff.{Node, nodes}
-use Rattle.covers.proofs.Basics.{lt-or-le}
+use Rattle.covers.proofs.Basics.{lt-or-le, zeros-at}
 use Rattle.covers.specs.Curve.{curve, gates}
 use Rattle.covers.proofs.Matching.{size-pos}
 use Rattle.matching.specs.Found.{matchRow}
@@ -36,11 +36,6 @@ sets-most b l i (x ∷ xs) h g = sets-most b (set l i x) (suc i) xs (λ k. go k 
     go k (no n) z = rw (getD-set-other l i k x 0 n) (h k)
     go k (yes e) (inl z) = rw (e, getD-set-same l i x 0 z) (g x (List·Memᴰ·head refl))
     go k (yes e) (inr z) = rw (set-out l i x z) (h k)
-
-pub zeros-at : (n k : ℕ) → getD (replicate {A = ℕ} n 0) k 0 ≡ 0
-zeros-at zero k = refl
-zeros-at (suc n) zero = refl
-zeros-at (suc n) (suc k) = zeros-at n k
 
 symbol-most : (s : Shape) (b : ℕ) → ((x : ℕ) → List·Memᴰ x (leaves s) → x ≤ b) → (y : ℕ) → List·Memᴰ y (Shapes.symbols s) → y ≤ b + 2
 unfolding leaves Shapes.symbols

@@ -11,7 +11,7 @@ use Rattle.sheets.specs.declared.TreeRecord.{TreeRecord}
 use Rattle.sheets.specs.Model.{Library, Tree}
 use Rattle.sheets.specs.Layout.{libraryLaid, treeLaid}
 use Rattle.filling.specs.Promises.{FillStart}
-use Rattle.filling.proofs.At.{zeros-at}
+use Rattle.covers.proofs.Basics.{zeros-at}
 use borrow.Author.Tests.{le-leb, lt-leb}
 use Rattle.bits.specs.declared.Cursor.{Cursor}
 use Rattle.shapes.specs.declared.Fault.{Fault}
