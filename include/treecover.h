@@ -11,7 +11,7 @@ extern "C" {
 /*
  * Each function reads the bytes that it is lent, keeps no pointer and never fails otherwise than by its answer.
  * What has length 0 may have any pointer. Output and work area must not overlap each other or the sheets, and the work area
- * is aligned as uint64_t.
+ * is aligned as uint64_t. treecover_map and treecover_list take up to 256 KB of stack.
  *
  * A refusal is number * 2^32 + place; a success has 0 above bit 31. The numbers:
  *    1  output or work area too short; place 0

@@ -1,6 +1,5 @@
 // Which patterns match at a node of the subject tree. They are found once for a node, and serve every load and every deadline.
 use sheets::CellRecord;
-use sheets::Limits;
 use sheets::PatternRow;
 ghost use mathlib.Core.Path.{_≡_};
 ghost use mathlib.Core.Bool.{cond, not};
@@ -182,8 +181,8 @@ pub fn find_matches<'a>(
     let mut count: usize = 0;
     let mut p: usize = 0;
     while p < total {
-        let first = Limits::ROW * p;
-        let walked = walk(&rows[first..first + Limits::ROW], symbols, sizes, n);
+        let first = PatternRow::WORDS * p;
+        let walked = walk(&rows[first..first + PatternRow::WORDS], symbols, sizes, n);
         let number = rows[first] as usize;
         let cell = cells[number];
         let at = Row::WORDS * count;

@@ -1,1 +1,2 @@
+-- What the contracts of `operations` say.
 pub mod Promises

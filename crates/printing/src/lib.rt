@@ -3,6 +3,7 @@ use bits::Cursor;
 use bits::Field;
 use mapper::Reply;
 use sheets::Limits;
+use sheets::PatternRow;
 use writing::Sheet;
 ghost use mathlib.Core.List.{[], _∷_};
 ghost use mathlib.Core.Path.{_≡_};
@@ -97,7 +98,7 @@ fn put_match(text: &mut [u8], at: usize, sheet: &[u8], rows: &[u32], k: usize) -
     let first = Sheet::MATCHES_AT + Sheet::MATCH * k;
     let node = read_field(sheet, first, Sheet::NODE);
     let pattern = read_field(sheet, first + Sheet::NODE, Sheet::PATTERN);
-    let cell = rows[Limits::ROW * pattern as usize];
+    let cell = rows[PatternRow::WORDS * pattern as usize];
     put_numbers(text, at, node, cell, pattern)
 }
 

@@ -13,7 +13,7 @@ ghost use Rattle.sheets.specs.Layout.{blankCell};
 ghost use Rattle.sheets.specs.Promises.{BinsAre, HeadIs, PinIs, PinsAre, PatternIs, RowIs, RowsAre, DrawingsAre, CountIs, CellIs, CellsAre, LibraryIs, TreeIs};
 ghost use Rattle.sheets.specs.Report.{ofLibraryJudged, libraryReport, libraryNumber, ofTreeJudged, treeReport, treeNumber, Limited};
 
-// Document 01's limits: of the sheets, of what map and list are lent, and of the program's input.
+// Document 01's limits: of the sheets, of what map and list are lent, and of the program's input; and the base of a point's word, which they fix.
 pub struct Limits {}
 
 impl Limits {
@@ -37,10 +37,6 @@ impl Limits {
 
     pub const PATTERN_NODES: usize = 16;
 
-    pub const ROW: usize = 18;
-
-    pub const ROWS: usize = 2304;
-
     pub const TREE_NODES: usize = 64;
 
     pub const ARRIVAL: u32 = 1000000;
@@ -61,7 +57,7 @@ impl Limits {
     pub const INPUT: usize = 4096;
 }
 
-// Where the words of a pattern's row stand: its cell, its size and its symbols.
+// Where the words of a pattern's row stand: its cell, its size and its symbols; how many a row has, and a table of 128 rows.
 pub struct PatternRow {}
 
 impl PatternRow {
@@ -70,6 +66,10 @@ impl PatternRow {
     pub const SIZE: usize = 1;
 
     pub const SYMBOLS: usize = 2;
+
+    pub const WORDS: usize = 18;
+
+    pub const TABLE: usize = 2304;
 }
 
 // A cell as decoded. Its pins are the first `pins` places of the three arrays: load bins, intrinsic delays and drives.
@@ -90,7 +90,7 @@ pub struct LibraryRecord {
     pub count: usize,
     pub total: usize,
     pub cells: [CellRecord; 64],
-    pub rows: [u32; Limits::ROWS],
+    pub rows: [u32; PatternRow::TABLE],
 }
 
 // A tree as decoded: its nodes' symbols in preorder, and how many nodes stand under each.
@@ -344,8 +344,8 @@ fn read_rows(
     let mut at = scan;
     let mut k: u32 = 0;
     while k < count {
-        let first = Limits::ROW * (total + k as usize);
-        at = read_row(at, s, pins, cell, &mut rows[first..first + Limits::ROW]);
+        let first = PatternRow::WORDS * (total + k as usize);
+        at = read_row(at, s, pins, cell, &mut rows[first..first + PatternRow::WORDS]);
         k += 1;
     }
     at
@@ -485,7 +485,7 @@ pub fn read_library(s: &[u8]) -> LibraryRead
     let at = loads.scan;
     let count = shapes::ranged(at, s, 7, 1, Limits::CELLS);
     let at = count.scan;
-    let mut rows = [0u32; Limits::ROWS];
+    let mut rows = [0u32; PatternRow::TABLE];
     let cells = read_cells(at, s, bins.value, count.value, &mut rows);
     let at = cells.scan;
     let bin_loads = loads.loads;
