@@ -345,7 +345,13 @@ fn read_rows(
     let mut k: u32 = 0;
     while k < count {
         let first = PatternRow::WORDS * (total + k as usize);
-        at = read_row(at, s, pins, cell, &mut rows[first..first + PatternRow::WORDS]);
+        at = read_row(
+            at,
+            s,
+            pins,
+            cell,
+            &mut rows[first..first + PatternRow::WORDS],
+        );
         k += 1;
     }
     at
