@@ -6,8 +6,8 @@ use sheets::Limits;
 ghost use mathlib.Core.Path.{_≡_};
 ghost use mathlib.Core.List.{map};
 ghost use mathlib.Core.Option.{Option·map};
-ghost use Prim.Native.Nat.{ℕ, _<_, _≤_};
-ghost use lib.ListN.{length, getD, take};
+ghost use Prim.Native.Nat.{ℕ, _≤_};
+ghost use lib.ListN.{length, take};
 ghost use Rattle.sheets.specs.Model.{leaf, Library, Tree};
 ghost use Rattle.covers.specs.Choice.{choice};
 ghost use Rattle.covers.specs.Tradeoff.{tradeoffs};
@@ -59,8 +59,8 @@ fn write_leaf(arrival: u32, time: u32, output: &mut [u8]) -> Chosen
     Chosen::Bytes(writing::write_cover(output, 0, arrival, &none, &none, 0))
 }
 
-// The cover chosen at a root that is a gate.
-fn write_gate<'a>(
+// The cover that map hands over, on its sheet.
+fn write_chosen<'a>(
     rows: &'a [u32],
     total: usize,
     cells: [CellRecord; 64],
@@ -73,10 +73,14 @@ fn write_gate<'a>(
     work: &[u64],
     output: &mut [u8],
 ) -> Chosen
-    requires { ⌜ (109 ≤ length (now output)) × (getD (now symbols) 0 0 < 2) × ((l : Library) × ((t : Tree) × Asked l t (now rows) total cells loads (now symbols) (now sizes) load time (now work) (length (now found)))) ⌝ }
+    requires { ⌜ (109 ≤ length (now output)) × ((l : Library) × ((t : Tree) × Asked l t (now rows) total cells loads (now symbols) (now sizes) load time (now work) (length (now found)))) ⌝ }
     ensures { λ r. ⌜ ((l : Library) (t : Tree) → Asked l t (now (rows .entry)) total cells loads (now (symbols .entry)) (now (sizes .entry)) load time (now (work .entry)) (length (now (found .entry))) →
         Put (now (output .entry)) (now (output .exit)) (Option·map coverSheet (choice l (t .load) 0 (t .shape) (t .required))) r) ⌝ }
 {
+    let symbol = symbols[0];
+    if 2 <= symbol {
+        return write_leaf(symbol - 2, time, output);
+    }
     let w = curves::find(work, 0, (time + 1) as u64);
     if w == Words::ABSENT {
         return Chosen::NoCover;
@@ -103,43 +107,6 @@ fn write_gate<'a>(
     let area = (w / Limits::TIMES) as u32;
     let arrival = (w % Limits::TIMES) as u32;
     Chosen::Bytes(writing::write_cover(output, area, arrival, &nodes, &patterns, count))
-}
-
-// The cover that map hands over, on its sheet.
-fn write_chosen<'a>(
-    rows: &'a [u32],
-    total: usize,
-    cells: [CellRecord; 64],
-    loads: [u8; 4],
-    symbols: &'a [u32],
-    sizes: &'a [u8],
-    load: u32,
-    time: u32,
-    found: &mut [u32],
-    work: &[u64],
-    output: &mut [u8],
-) -> Chosen
-    requires { ⌜ (109 ≤ length (now output)) × ((l : Library) × ((t : Tree) × Asked l t (now rows) total cells loads (now symbols) (now sizes) load time (now work) (length (now found)))) ⌝ }
-    ensures { λ r. ⌜ ((l : Library) (t : Tree) → Asked l t (now (rows .entry)) total cells loads (now (symbols .entry)) (now (sizes .entry)) load time (now (work .entry)) (length (now (found .entry))) →
-        Put (now (output .entry)) (now (output .exit)) (Option·map coverSheet (choice l (t .load) 0 (t .shape) (t .required))) r) ⌝ }
-{
-    let symbol = symbols[0];
-    if 2 <= symbol {
-        return write_leaf(symbol - 2, time, output);
-    }
-    write_gate(
-        rows,
-        total,
-        cells,
-        loads,
-        symbols,
-        sizes,
-        load,
-        time,
-        found,
-        work,
-        output,
-    )
 }
 
 // How many points stand in the root's curve: its words up to a 0.
