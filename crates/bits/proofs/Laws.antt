@@ -13,7 +13,12 @@ use lib.Pow.{pow-pos, pow-mono, pow-add, shr-shr, low, field, mod-mod-pow, mod-p
 use lib.Arith.{digits-lt, digits-div, digits-mod}
 use lib.ListN.{length, getD, set, length-set}
 use lib.Seq.{getD-set-same, getD-set-other, set-out}
-use Rattle.bits.specs.Bits.{after, bitAt, valueAt, withDigit, withBit, withField, endsAt, bytesTo, restOf}
+use Rattle.bits.specs.Bits.{placeOf, cursorAt, after, bitAt, valueAt, withDigit, withBit, withField, endsAt, bytesTo, restOf}
+
+-- The cursor at a place stands there.
+pub place-at : (i : ℕ) → placeOf (cursorAt i) ≡ i
+unfolding placeOf cursorAt
+place-at i = refl
 
 pub bit-lt : (s : List ℕ) (i : ℕ) → bitAt s i < 2
 unfolding bitAt

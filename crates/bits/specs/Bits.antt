@@ -6,8 +6,8 @@ use mathlib.Core.Bool.{Bool, cond, _&&_}
 use lib.ListN.{length, getD, set}
 use lib.Dec.{leb, eqb}
 use Rattle.bits.specs.declared.Cursor.{Cursor}
-use Rattle.bits.specs.declared.Field.{Field}
-use Rattle.bits.specs.declared.Field.the-variants.{Value, Truncated}
+use Rattle.bits.specs.declared.FieldRead.{FieldRead}
+use Rattle.bits.specs.declared.FieldRead.the-variants.{Value, Truncated}
 
 -- How many bits of its byte stand after place i.
 unfoldable pub after : ℕ → ℕ
@@ -22,12 +22,15 @@ unfoldable pub valueAt : List ℕ → ℕ → ℕ → ℕ
 valueAt s i zero = 0
 valueAt s i (suc w) = 2 * valueAt s i w + bitAt s (i + w)
 
--- A cursor at place i.
-abbrev pub cursorAt : ℕ → Cursor
+-- The place at which a cursor stands, and the cursor at a place: how a cursor is kept is known here alone.
+unfoldable pub placeOf : Cursor → ℕ
+placeOf c = c .at
+
+unfoldable pub cursorAt : ℕ → Cursor
 cursorAt i = record { at = i }
 
 -- The field of w bits at place i: its value and the place after it, or that the bytes end before or inside it.
-unfoldable pub fieldAt : List ℕ → ℕ → ℕ → Field
+unfoldable pub fieldAt : List ℕ → ℕ → ℕ → FieldRead
 fieldAt s i w = cond (leb (i + w) (8 * length s)) (Value (valueAt s i w) (cursorAt (i + w))) Truncated
 
 -- How many bytes the bits before place i take up, and how many bits of the last of them are left.

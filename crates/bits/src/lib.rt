@@ -2,7 +2,7 @@
 ghost use mathlib.Core.Path.{_≡_};
 ghost use Prim.Native.Nat.{_+_, _*_, _<_, _≤_, _^_};
 ghost use lib.ListN.{length};
-ghost use Rattle.bits.specs.Bits.{bitAt, valueAt, fieldAt, endsAt, withBit, withField, Weight};
+ghost use Rattle.bits.specs.Bits.{placeOf, cursorAt, bitAt, valueAt, fieldAt, endsAt, withBit, withField, Weight};
 
 // A place in a slice: the number of a bit.
 pub struct Cursor {
@@ -10,7 +10,7 @@ pub struct Cursor {
 }
 
 // What reading a field finds: its value and the cursor after it, or that the slice ends before or inside it.
-pub enum Field {
+pub enum FieldRead {
     Value(u32, Cursor),
     Truncated,
 }
@@ -18,28 +18,35 @@ pub enum Field {
 impl Cursor {
     // The first bit.
     pub fn new() -> Self
-        ensures { λ r. ⌜ r .at ≡ 0 ⌝ }
+        ensures { λ r. ⌜ r ≡ cursorAt 0 ⌝ }
     {
         Cursor { at: 0 }
     }
 
+    // The number of the bit at which the cursor stands.
+    pub fn place(self) -> usize
+        ensures { λ r. ⌜ r ≡ placeOf self ⌝ }
+    {
+        self.at
+    }
+
     // The field of `width` bits at the cursor.
-    pub fn field(self, s: &[u8], width: usize) -> Field
-        requires { ⌜ (self .at < 2 ^ 32) × (width ≤ 24) ⌝ }
-        ensures { λ r. ⌜ r ≡ fieldAt (now (s .entry)) (self .at) width ⌝ }
+    pub fn field(self, s: &[u8], width: usize) -> FieldRead
+        requires { ⌜ (placeOf self < 2 ^ 32) × (width ≤ 24) ⌝ }
+        ensures { λ r. ⌜ r ≡ fieldAt (now (s .entry)) (placeOf self) width ⌝ }
     {
         let at = self.at;
         if (at + width + 7) / 8 <= s.len() {
-            Field::Value(value(s, at, width), Cursor { at: at + width })
+            FieldRead::Value(value(s, at, width), Cursor { at: at + width })
         } else {
-            Field::Truncated
+            FieldRead::Truncated
         }
     }
 
     // Whether the slice ends at the cursor: zero bits to the byte, and no byte more.
     pub fn ends(self, s: &[u8]) -> bool
-        requires { ⌜ self .at < 2 ^ 32 ⌝ }
-        ensures { λ r. ⌜ r ≡ endsAt (now (s .entry)) (self .at) ⌝ }
+        requires { ⌜ placeOf self < 2 ^ 32 ⌝ }
+        ensures { λ r. ⌜ r ≡ endsAt (now (s .entry)) (placeOf self) ⌝ }
     {
         let at = self.at;
         let bytes = (at + 7) / 8;

@@ -8,7 +8,7 @@ use native.Mathlib.Numerals.{add-one}
 use native.Mathlib.Omega.{arith}
 use lib.ListN.{length, getD, set, take, length-append, length-map}
 use lib.Seq.{sets, take-suc, take-all}
-use Rattle.shapes.proofs.Sets.{sets-append}
+use Rattle.fields.proofs.Lists.{sets-append, at-mem}
 use Rattle.sheets.specs.declared.CellRecord.{CellRecord}
 use Rattle.sheets.specs.Model.{Shape, Pin, Cell, Library, Tree}
 use Rattle.covers.specs.Lists.{firstSuch}
@@ -26,7 +26,6 @@ use Rattle.covers.proofs.Listing.{few-matches}
 use Rattle.covers.proofs.Nodes.{input-in, nodes-within}
 use Rattle.covers.proofs.Bounds.{match-cell}
 use Rattle.covers.proofs.FromSheets.{binned}
-use Rattle.matching.proofs.Lists.{at-mem}
 use Rattle.matching.proofs.Written.{in-padded}
 use Rattle.choosing.specs.declared.Inputs.{Inputs}
 use Rattle.choosing.specs.Promises.{noInput, InputsAre, below, Driven, Chooses, Listed}

@@ -37,7 +37,7 @@ use Rattle.matching.specs.Found.{matchRow}
 use Rattle.sheets.specs.Layout.{tableFrom}
 use Rattle.matching.specs.Standing.{Stands}
 use Rattle.matching.specs.Promises.{Ready}
-use Rattle.matching.proofs.Lists.{at-mem}
+use Rattle.fields.proofs.Lists.{at-mem}
 use Rattle.matching.proofs.Tables.{length-table}
 use Rattle.matching.proofs.Patterns.{fitting-sound}
 use Rattle.matching.proofs.Walking.{stands-size}

@@ -120,9 +120,3 @@ module _ {A B : Type 0} (f : A → List B) where
   unfolding flatMap
   of-flatMap [] h = absurd (List·Memᴰ·not-nil h)
   of-flatMap (x ∷ xs) h = ⊎-elim (λ k. (x, List·Memᴰ·head refl, k)) (λ k. let r = of-flatMap xs k in (r .0, List·Memᴰ·tail (r .1), r .2)) (List·Memᴰ·append-cases (f x) h)
-
--- Every place of a list of zeros, and past its end.
-pub zeros-at : (n k : ℕ) → getD (replicate {A = ℕ} n 0) k 0 ≡ 0
-zeros-at zero k = refl
-zeros-at (suc n) zero = refl
-zeros-at (suc n) (suc k) = zeros-at n k

@@ -8,13 +8,13 @@ use lib.ListN.{length, drop}
 use lib.Seq.{take-at}
 use borrow.Author.Tests.{le-leb}
 use Rattle.bits.specs.declared.Cursor.{Cursor}
-use Rattle.shapes.specs.declared.Scan.{Scan}
-use Rattle.shapes.specs.declared.Scan.the-variants.{At}
-use Rattle.shapes.specs.Promises.{Live}
+use Rattle.fields.specs.declared.Scan.{Scan}
+use Rattle.fields.specs.declared.Scan.the-variants.{At}
+use Rattle.fields.specs.Promises.{Live}
 use Rattle.sheets.specs.Model.{Library, Tree}
 use Rattle.sheets.specs.LibrarySheet.{library}
 use Rattle.sheets.specs.TreeSheet.{tree}
-use Rattle.sheets.specs.Report.{start}
+use Rattle.fields.specs.Reading.{start}
 use Rattle.sheets.proofs.Sound.{library-limits, tree-limits}
 use Rattle.covers.specs.Cover.{Point, Cover}
 use Rattle.covers.specs.Tradeoff.{Node, considered}

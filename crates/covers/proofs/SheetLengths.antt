@@ -7,16 +7,9 @@ use lib.ListN.{length, replicate, length-replicate}
 use Rattle.bits.specs.Bits.{bytesTo, withField}
 use Rattle.bits.proofs.Laws.{length-field}
 use Rattle.covers.specs.Cover.{Point, Placed, Cover}
-use Rattle.covers.specs.CoverSheet.{Field, widths, written, packed, placedFields, coverFields, pointFields, listFields, coverSheet, listSheet}
-
-length-written : (fs : List Field) (i : ℕ) (s : List ℕ) → length (written fs i s) ≡ length s
-unfolding written
-length-written [] i s = refl
-length-written (f ∷ fs) i s = length-written fs (i + f .width) (withField s i (f .width) (f .value)) ∙ length-field s i (f .width) (f .value)
-
-pub length-packed : (fs : List Field) → length (packed fs) ≡ (widths fs + 7) / 8
-unfolding packed bytesTo
-length-packed fs = length-written fs 0 (replicate (bytesTo (widths fs)) 0) ∙ length-replicate (bytesTo (widths fs)) 0
+use Rattle.fields.specs.Written.{Field, widths, packed}
+use Rattle.fields.proofs.Written.{length-packed}
+use Rattle.covers.specs.CoverSheet.{placedFields, coverFields, pointFields, listFields, coverSheet, listSheet}
 
 pub placed-widths : (xs : List Placed) → widths (placedFields xs) ≡ 13 * length xs
 unfolding placedFields widths

@@ -3,30 +3,10 @@ use Prim.Native.Nat.{ℕ, _+_, _*_, _<_}
 use mathlib.Core.Path.{_≡_}
 use mathlib.Core.Bool.{true}
 use mathlib.Core.List.{List, [], _∷_}
-use lib.ListN.{length, getD, replicate}
-use Rattle.bits.specs.Bits.{after, bytesTo, valueAt, endsAt, withDigit, withBit, withField}
+use lib.ListN.{length, getD}
+use Rattle.bits.specs.Bits.{valueAt, endsAt}
+use Rattle.fields.specs.Written.{Field, packed}
 use Rattle.covers.specs.Cover.{Point, Placed, Cover}
-
--- A field to be written: a value and its width in bits.
-pub record Field : Type 0 where
-  pub value : ℕ
-  pub width : ℕ
-
--- How many bits fields take up.
-unfoldable pub widths : List Field → ℕ
-widths [] = 0
-widths (f ∷ fs) = f .width + widths fs
-
--- Bytes with fields written into them from place i on, with no gaps between them.
-unfoldable pub written : List Field → ℕ → List ℕ → List ℕ
-unfolding withField withBit withDigit after
-written [] i s = s
-written (f ∷ fs) i s = written fs (i + f .width) (withField s i (f .width) (f .value))
-
--- Fields as bytes, with zero bits to the byte.
-unfoldable pub packed : List Field → List ℕ
-unfolding widths written bytesTo
-packed fs = written fs 0 (replicate (bytesTo (widths fs)) 0)
 
 -- For each match its node, 6, and its pattern, 7.
 unfoldable pub placedFields : List Placed → List Field

@@ -4,11 +4,11 @@ use mathlib.Core.Path.{_≡_}
 use mathlib.Core.Logic.{_↔_}
 use mathlib.Core.List.{List, List·Memᴰ}
 use Rattle.bits.specs.declared.Cursor.{Cursor}
-use Rattle.shapes.specs.declared.Scan.the-variants.{At}
+use Rattle.fields.specs.declared.Scan.the-variants.{At}
 use Rattle.sheets.specs.Model.{Library, Tree}
 use Rattle.sheets.specs.LibrarySheet.{library}
 use Rattle.sheets.specs.TreeSheet.{tree}
-use Rattle.sheets.specs.Report.{start}
+use Rattle.fields.specs.Reading.{start}
 use Rattle.covers.specs.Cover.{Cover}
 use Rattle.covers.specs.Tradeoff.{Node, nodes, TooMany}
 use Rattle.covers.specs.CoverSheet.{coverSheet, listSheet, CoverReads, ListReads}

@@ -4,12 +4,13 @@ use mathlib.Core.Bool.{cond, _&&_, _||_}
 use mathlib.Core.List.{List, _++_}
 use lib.Dec.{leb, eqb}
 use lib.ListN.{length, take, drop, replicate}
-use Rattle.shapes.specs.declared.Scan.{Scan}
-use Rattle.shapes.specs.declared.Scan.the-variants.{At, Refused}
+use Rattle.fields.specs.declared.Scan.{Scan}
+use Rattle.fields.specs.declared.Scan.the-variants.{At, Refused}
 use Rattle.sheets.specs.Model.{Library, Tree}
 use Rattle.sheets.specs.LibrarySheet.{library}
 use Rattle.sheets.specs.TreeSheet.{tree}
-use Rattle.sheets.specs.Report.{start, libraryNumber, treeNumber}
+use Rattle.sheets.specs.Report.{libraryNumber, treeNumber}
+use Rattle.fields.specs.Reading.{start}
 use Rattle.covers.specs.Answer.{Answer, overfullAt, noCover, success, mapAnswer, listAnswer}
 
 -- Refused with document 01's number and place, or the sheet's bytes.

@@ -11,13 +11,12 @@ use native.Mathlib.Omega.{arith}
 use lib.ListN.{length, getD, take, drop, set, length-append, length-map, length-set}
 use lib.Dec.{leb, eqb}
 use lib.Seq.{sets, getD-set-other, getD-set-same, take-all, take-append-seam, set-out}
-use Rattle.shapes.proofs.Sets.{sets-append}
+use Rattle.fields.proofs.Lists.{sets-append, before-sets}
 use Rattle.covers.specs.Cover.{Point, late, raised}
 use Rattle.covers.specs.Choice.{before, lesser}
 use Rattle.covers.proofs.Basics.{lt-or-le}
 use Rattle.covers.specs.Curve.{base, both, byDeadline, chained, lookup, pointOf, wordOf}
 use Rattle.covers.proofs.Points.{point-path}
-use Rattle.matching.proofs.Lists.{before-sets}
 use Rattle.curves.specs.Words.{stored, Small, AgreeFrom}
 use Rattle.curves.specs.Best.{inputBest, inputLate, rowDelay, inputsBest, rowBest, legalBest, rowsBest, Above}
 use Rattle.curves.specs.Promises.{bestBefore, CurveStored, Fit}

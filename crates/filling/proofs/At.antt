@@ -14,7 +14,8 @@ use Rattle.sheets.specs.Layout.{padded, tableFrom}
 use Rattle.covers.specs.Match.{Match, fitting}
 use Rattle.covers.specs.Enumeration.{covers}
 use Rattle.covers.specs.Tradeoff.{Node, nodes}
-use Rattle.covers.proofs.Basics.{lt-or-le, zeros-at}
+use Rattle.fields.proofs.Lists.{zeros-at}
+use Rattle.covers.proofs.Basics.{lt-or-le}
 use Rattle.covers.specs.Curve.{curve, gates}
 use Rattle.covers.proofs.Matching.{size-pos}
 use Rattle.matching.specs.Found.{matchRow}

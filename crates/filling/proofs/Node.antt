@@ -28,7 +28,7 @@ use Rattle.sheets.specs.Layout.{tableFrom}
 use Rattle.matching.specs.Standing.{Stands}
 use Rattle.matching.proofs.Written.{length-row, row-input}
 use Rattle.matching.proofs.Patterns.{SoundMatch, fitting-sound, fitting-few, match-row-at}
-use Rattle.matching.proofs.Lists.{at-mem}
+use Rattle.fields.proofs.Lists.{at-mem}
 use Rattle.curves.specs.Words.{tableOf, Small}
 use Rattle.curves.specs.Best.{RowSafe, Matches, Above}
 use Rattle.curves.specs.Promises.{bestBefore, PointsFit, Fit}

@@ -24,7 +24,7 @@ use Rattle.covers.proofs.Nodes.{root-in}
 use Rattle.covers.proofs.Ascending.{ascending-range, ascending-unique}
 use Rattle.covers.proofs.Overfull.{nodes-ascend, overfull-named, LastOf, nowhere, at, highest-unique}
 use Rattle.covers.proofs.Filling.{filled-start, filled-next}
-use Rattle.matching.proofs.Lists.{at-mem}
+use Rattle.fields.proofs.Lists.{at-mem}
 use Rattle.matching.proofs.Standing.{ready-everywhere}
 use Rattle.matching.proofs.Written.{in-padded}
 use Rattle.curves.specs.Words.{tableOf, Small, ZeroBelow}

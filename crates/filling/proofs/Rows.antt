@@ -19,7 +19,7 @@ use Rattle.covers.specs.Curve.{both, lookup}
 use Rattle.covers.proofs.Points.{lesser-assoc, lesser-none}
 use Rattle.covers.proofs.Deadline.{bestInputs, bestMatch, bestOf}
 use Rattle.covers.proofs.Filling.{fromCurve, fromTable}
-use Rattle.matching.proofs.Lists.{at-mem}
+use Rattle.fields.proofs.Lists.{at-mem}
 use Rattle.matching.specs.Found.{inputWords, inputsWords, firstIllegal, matchRow}
 use Rattle.curves.specs.Words.{tableOf}
 use Rattle.curves.specs.Best.{inputBest, inputLate, rowDelay, inputsBest, rowBest, legalBest, rowsBest}

@@ -10,7 +10,7 @@ use lib.ListN.{length, getD, take, set, length-map, length-take, length-set}
 use lib.Seq.{sets, getD-set-same, getD-set-other, take-all}
 use Rattle.covers.specs.Cover.{Point}
 use Rattle.covers.specs.Curve.{base, byDeadline, wordOf}
-use Rattle.matching.proofs.Lists.{before-sets}
+use Rattle.fields.proofs.Lists.{before-sets}
 use Rattle.curves.specs.Words.{tableOf, slot, Small, AgreeFrom, ZeroBelow}
 use Rattle.curves.specs.Best.{Above, rowsBest}
 use Rattle.curves.specs.Promises.{bestBefore, PointsFit, CurveStored}

@@ -11,7 +11,7 @@ use native.Mathlib.Omega.{arith}
 use lib.ListN.{length, getD, take, drop, replicate, length-append, length-map, length-drop, length-replicate}
 use lib.Seq.{sets, take-suc, length-take-le, getD-take, getD-drop}
 use borrow.Rule.Slice.PartMut.{putMid}
-use Rattle.shapes.proofs.Sets.{mid-sets}
+use Rattle.fields.proofs.Lists.{mid-sets, at-mem, at-map}
 use Rattle.shapes.proofs.Drawn.{length-symbols}
 use Rattle.sheets.specs.declared.CellRecord.{CellRecord}
 use Rattle.sheets.specs.Model.{Shape, leaf, inv, nand, size, leaves, Cell, Library, Pattern, drawn, patternsFrom, patterns}
@@ -22,7 +22,6 @@ use Rattle.matching.specs.declared.Walked.{Walked}
 use Rattle.matching.specs.Found.{matchRow}
 use Rattle.sheets.specs.Sound.{IsGate, SoundDrawing, SoundLibrary}
 use Rattle.matching.specs.Promises.{Walkable, WalkedIs, Writable, Tried, Ready}
-use Rattle.matching.proofs.Lists.{at-mem, at-map}
 use Rattle.sheets.proofs.Laws.{table-append}
 use Rattle.matching.proofs.Tables.{length-table, row-at}
 use Rattle.matching.proofs.Written.{in-padded, length-row}

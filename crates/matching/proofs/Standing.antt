@@ -16,7 +16,7 @@ use Rattle.covers.specs.Tradeoff.{Node, nodes}
 use Rattle.covers.proofs.Nodes.{node-ends}
 use Rattle.matching.specs.Standing.{Stands, Subject}
 use Rattle.matching.specs.Promises.{Ready, Decoded}
-use Rattle.matching.proofs.Lists.{in-sets}
+use Rattle.fields.proofs.Lists.{in-sets}
 
 -- A list stands in another from place i on.
 abbrev Held : List ℕ → ℕ → List ℕ → Type 0

@@ -7,7 +7,7 @@ use native.Mathlib.Omega.{arith}
 use lib.ListN.{length, getD}
 use lib.Seq.{sets, length-sets}
 use Rattle.sheets.specs.Layout.{tableFrom}
-use Rattle.matching.proofs.Lists.{before-sets, in-sets}
+use Rattle.fields.proofs.Lists.{before-sets, in-sets}
 
 module _ (stride : ℕ) where
   pub length-table : (l : List ℕ) (i : ℕ) (rs : List (List ℕ)) → length (tableFrom stride l i rs) ≡ length l

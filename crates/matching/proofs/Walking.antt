@@ -19,7 +19,7 @@ use Rattle.covers.proofs.Matching.{size-pos}
 use Rattle.matching.specs.declared.Walked.{Walked}
 use Rattle.matching.specs.Standing.{Stands}
 use Rattle.matching.specs.Promises.{WalkedIs, Walkable}
-use Rattle.matching.proofs.Lists.{at-mem}
+use Rattle.fields.proofs.Lists.{at-mem}
 
 joined-assoc : (a b c : Option (List Input)) → joined a (joined b c) ≡ joined (joined a b) c
 unfolding joined

@@ -8,7 +8,7 @@ use native.Mathlib.Numerals.{add-one}
 use native.Mathlib.Omega.{arith}
 use lib.ListN.{length, getD, take, replicate, length-map, length-replicate, List·getD-append}
 use lib.Seq.{sets, take-suc, length-take-le, getD-append-add}
-use Rattle.shapes.proofs.Sets.{sets-append}
+use Rattle.fields.proofs.Lists.{sets-append, at-mem, front-sets, at-map}
 use Rattle.sheets.specs.declared.CellRecord.{CellRecord}
 use Rattle.sheets.specs.Model.{leaf, Pin, Cell}
 use Rattle.sheets.specs.Layout.{padded, cellLaid}
@@ -17,7 +17,6 @@ use Rattle.covers.specs.Cover.{feeds}
 use Rattle.matching.specs.declared.Walked.{Walked}
 use Rattle.matching.specs.Found.{inputWords, inputsWords, firstIllegal, matchRow}
 use Rattle.matching.specs.Promises.{Writable}
-use Rattle.matching.proofs.Lists.{at-mem, front-sets, at-map}
 
 -- What a padded array holds.
 pub in-padded : {A : Type 0} (n : ℕ) (blank d : A) (xs : List A) (k : ℕ) → length xs ≤ n → k < length xs → getD (padded n blank xs) k d ≡ getD xs k d

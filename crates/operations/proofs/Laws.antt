@@ -11,20 +11,21 @@ use Rattle.sheets.specs.declared.TreeRecord.{TreeRecord}
 use Rattle.sheets.specs.Model.{Library, Tree}
 use Rattle.sheets.specs.Layout.{libraryLaid, treeLaid}
 use Rattle.filling.specs.Promises.{FillStart}
-use Rattle.covers.proofs.Basics.{zeros-at}
+use Rattle.fields.proofs.Lists.{zeros-at}
 use borrow.Author.Tests.{le-leb, lt-leb}
 use Rattle.bits.specs.declared.Cursor.{Cursor}
-use Rattle.shapes.specs.declared.Fault.{Fault}
-use Rattle.shapes.specs.declared.Fault.the-variants.{Truncated, Tail, Range, Drawing, Size}
-use Rattle.shapes.specs.declared.Scan.{Scan}
-use Rattle.shapes.specs.declared.Scan.the-variants.{At, Refused}
-use Rattle.shapes.specs.Promises.{Live}
+use Rattle.fields.specs.declared.Fault.{Fault}
+use Rattle.fields.specs.declared.Fault.the-variants.{Truncated, Tail, Range, Drawing, Size}
+use Rattle.fields.specs.declared.Scan.{Scan}
+use Rattle.fields.specs.declared.Scan.the-variants.{At, Refused}
+use Rattle.fields.specs.Promises.{Live}
 use Rattle.sheets.specs.declared.LibraryRead.{LibraryRead}
 use Rattle.sheets.specs.declared.TreeRead.{TreeRead}
 use Rattle.sheets.specs.LibrarySheet.{library as libraryOf}
 use Rattle.sheets.specs.TreeSheet.{tree as treeOf}
 use Rattle.sheets.specs.Promises.{LibraryIs, TreeIs}
-use Rattle.sheets.specs.Report.{start, libraryNumber, treeNumber}
+use Rattle.sheets.specs.Report.{libraryNumber, treeNumber}
+use Rattle.fields.specs.Reading.{start}
 use Rattle.sheets.specs.Report as Report
 use Rattle.sheets.proofs.Sound.{library-limits, tree-limits}
 use Rattle.sheets.proofs.Whole.{library-refused-limited, tree-refused-limited}

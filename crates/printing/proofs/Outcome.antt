@@ -4,13 +4,13 @@ use mathlib.Core.Path.{_≡_, refl, sym, ap, subst, _∙_}
 use mathlib.Core.List.{List}
 use native.Mathlib.Omega.{arith}
 use lib.ListN.{length, take, drop, length-append}
-use Rattle.shapes.specs.declared.Scan.{Scan}
-use Rattle.shapes.specs.declared.Scan.the-variants.{At, Refused}
-use Rattle.shapes.specs.Promises.{Live}
+use Rattle.fields.specs.declared.Scan.{Scan}
+use Rattle.fields.specs.declared.Scan.the-variants.{At, Refused}
+use Rattle.fields.specs.Promises.{Live}
 use Rattle.sheets.specs.Model.{Library, Tree}
 use Rattle.sheets.specs.LibrarySheet.{library as libraryOf}
 use Rattle.sheets.specs.TreeSheet.{tree as treeOf}
-use Rattle.sheets.specs.Report.{start}
+use Rattle.fields.specs.Reading.{start}
 use Rattle.sheets.proofs.Sound.{library-limits, tree-limits}
 use Rattle.covers.specs.Cover.{Cover}
 use Rattle.covers.specs.CoverSheet.{coverSheet}

@@ -19,7 +19,7 @@ use Rattle.covers.proofs.Listing.{known-patterns}
 use Rattle.covers.proofs.SheetLengths.{cover-sheet-length}
 use Rattle.covers.proofs.ReadBack.{cover-reads}
 use Rattle.covers.proofs.FromSheets.{root-bounds, cover-fits}
-use Rattle.matching.proofs.Lists.{at-mem, at-map}
+use Rattle.fields.proofs.Lists.{at-mem, at-map}
 use Rattle.matching.proofs.Tables.{length-table, row-at}
 use Rattle.matching.proofs.Patterns.{sound-pattern}
 use Rattle.lines.specs.Text.{decimal, line}

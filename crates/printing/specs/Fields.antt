@@ -4,7 +4,7 @@ use mathlib.Core.Path.{_≡_}
 use mathlib.Core.List.{List, [], _∷_, _++_}
 use lib.ListN.{length, getD}
 use Rattle.bits.specs.Bits.{valueAt}
-use Rattle.sheets.specs.Report.{start}
+use Rattle.fields.specs.Reading.{start}
 use Rattle.sheets.specs.LibrarySheet.{library}
 use Rattle.sheets.specs.Layout.{libraryLaid}
 use Rattle.lines.specs.Text.{decimal, line}

@@ -9,18 +9,19 @@ use lib.ListN.{length, take, set, length-append}
 use lib.Seq.{sets, length-take-le, take-suc-set}
 use lib.Dec.{leb}
 use borrow.Author.Tests.{leb-true}
-use Rattle.shapes.specs.declared.Got.{Got}
+use Rattle.fields.specs.declared.Got.{Got}
 use Rattle.shapes.specs.declared.Rules.{Rules}
 use Rattle.shapes.specs.declared.Branch.{Branch}
-use Rattle.shapes.specs.declared.Scan.{Scan}
-use Rattle.shapes.specs.declared.Scan.the-variants.{At, Refused}
-use Rattle.shapes.specs.declared.Fault.the-variants.{Range, Drawing}
-use Rattle.shapes.specs.declared.Verdict.the-variants.{Sound, Faulty}
-use Rattle.shapes.specs.Reading.{Reader, place, field}
+use Rattle.fields.specs.declared.Scan.{Scan}
+use Rattle.fields.specs.declared.Scan.the-variants.{At, Refused}
+use Rattle.fields.specs.declared.Fault.the-variants.{Range, Drawing}
+use Rattle.fields.specs.declared.Verdict.the-variants.{Sound, Faulty}
+use Rattle.fields.specs.Reading.{Reader, place, field}
 use Rattle.shapes.specs.Shape.{Shape, leaf, inv, nand, size, symbols, sizes, leafSymbol}
 use Rattle.shapes.specs.Drawing.{elem, leafVerdict, leafNode, pair, branch, node}
-use Rattle.shapes.proofs.Sets.{sets-append, set-sets, take-sets}
-use Rattle.shapes.specs.Promises.{Reads, Live, Coded, Room, Laid, Went, LeafRead, NodeRead, PairRead}
+use Rattle.fields.proofs.Lists.{sets-append, set-sets, take-sets}
+use Rattle.fields.specs.Promises.{Reads, Live}
+use Rattle.shapes.specs.Promises.{Coded, Room, Laid, Went, LeafRead, NodeRead, PairRead}
 
 -- ---- a leaf
 

@@ -1,4 +1,3 @@
 -- Laws about readers, for the proofs of this crate and of those above it.
 pub mod Laws
-pub mod Sets
 pub mod Drawn

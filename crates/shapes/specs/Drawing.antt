@@ -5,11 +5,11 @@ use mathlib.Core.List.{List, [], _∷_, _++_}
 use mathlib.Core.Bool.{Bool, false, cond, _&&_, _||_}
 use lib.ListN.{length}
 use lib.Dec.{leb, eqb}
-use Rattle.shapes.specs.declared.Fault.the-variants.{Range, Drawing, Size}
+use Rattle.fields.specs.declared.Fault.the-variants.{Range, Drawing, Size}
 use Rattle.shapes.specs.declared.Rules.{Rules}
-use Rattle.shapes.specs.declared.Verdict.{Verdict}
-use Rattle.shapes.specs.declared.Verdict.the-variants.{Sound, Faulty}
-use Rattle.shapes.specs.Reading.{Reader, done, _>>=_, field}
+use Rattle.fields.specs.declared.Verdict.{Verdict}
+use Rattle.fields.specs.declared.Verdict.the-variants.{Sound, Faulty}
+use Rattle.fields.specs.Reading.{Reader, done, _>>=_, field}
 use Rattle.shapes.specs.Shape.{Shape, leaf, inv, nand, symbols, invSymbol, nandSymbol, leafSymbol}
 
 -- Whether x stands in a list.

@@ -1,5 +1,4 @@
 -- What the contracts of `shapes` say, in reading order.
-pub mod Reading
 pub mod Shape
 pub mod Drawing
 pub mod Promises

@@ -4,37 +4,14 @@ use mathlib.Core.Path.{_≡_}
 use mathlib.Core.List.{List, _++_}
 use lib.ListN.{length, take}
 use lib.Seq.{sets}
-use Rattle.shapes.specs.declared.Got.{Got}
 use Rattle.shapes.specs.declared.Rules.{Rules}
 use Rattle.shapes.specs.declared.Branch.{Branch}
-use Rattle.shapes.specs.declared.Scan.{Scan}
-use Rattle.shapes.specs.declared.Scan.the-variants.{At, Refused}
-use Rattle.shapes.specs.declared.Verdict.{Verdict}
-use Rattle.shapes.specs.declared.Verdict.the-variants.{Sound, Faulty}
-use Rattle.shapes.specs.Reading.{place, field}
+use Rattle.fields.specs.declared.Got.{Got}
+use Rattle.fields.specs.declared.Scan.{Scan}
+use Rattle.fields.specs.Reading.{place, field}
+use Rattle.fields.specs.Promises.{Reads, Live}
 use Rattle.shapes.specs.Shape.{symbols, sizes}
 use Rattle.shapes.specs.Drawing.{codeVerdict, leafNode, pair, node}
-
--- The field x was read: its value, at most `most`, and the scan after it, at `reach` at the most.
-pub record Reads (r : Got) (x : ℕ × Scan) (reach most : ℕ) : Type 0 where
-  pub value : r .value ≡ x .0
-  pub scan : r .scan ≡ x .1
-  pub near : place (r .scan) ≤ reach
-  pub small : r .value ≤ most
-
--- A verdict on a field that was read at `before`.
-abbrev pub settlingAt : Scan → Got → Scan → Verdict → Got
-settlingAt before got (At c) Sound = got
-settlingAt before got (At c) (Faulty f) = record { value = 0; scan = Refused f (place before) }
-settlingAt before got (Refused f p) verdict = got
-
-abbrev pub settling : Scan → Got → Verdict → Got
-settling before got verdict = settlingAt before got (got .scan) verdict
-
--- The scan was not refused.
-abbrev pub Live : Scan → Type 0
-Live (At c) = Unit {0}
-Live (Refused f p) = ⊥
 
 -- A node's code was read after n nodes. There is room for the node unless the scan is refused, and then it stays where it was.
 pub record Coded (s : List ℕ) (rules : Rules) (scan : Scan) (n : ℕ) (r : Got) : Type 0 where

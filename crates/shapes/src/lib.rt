@@ -1,40 +1,15 @@
-// What a sheet is read with: the scan, and the one reader of shapes that serves patterns and trees.
-use bits::Cursor;
-use bits::Field;
+// The one reader of shapes, which serves patterns and trees.
+use fields::Fault;
+use fields::Got;
+use fields::Scan;
+use fields::Verdict;
 ghost use mathlib.Core.Path.{_≡_};
 ghost use Prim.Native.Nat.{_+_, _-_, _<_, _≤_, _^_};
 ghost use lib.ListN.{length, take, set};
-ghost use Rattle.shapes.specs.Reading.{place, free, within, field, ended};
+ghost use Rattle.fields.specs.Reading.{place};
+ghost use Rattle.fields.specs.Promises.{Live};
 ghost use Rattle.shapes.specs.Drawing.{elem, codeVerdict, leafVerdict};
-ghost use Rattle.shapes.specs.Promises.{Reads, Live, Coded, Room, Near, LeafRead, NodeRead, PairRead, settling};
-
-// What can be wrong with a sheet: its bytes end in a field ("torn"), go on after the last ("loose tail"), a value is out of range
-// ("off the scale"), a pattern is wrongly drawn ("misdrawn"), or there is one node or pattern too many ("overgrown").
-pub enum Fault {
-    Truncated,
-    Tail,
-    Range,
-    Drawing,
-    Size,
-}
-
-// A scan of a sheet: at a place, or refused for good.
-pub enum Scan {
-    At(Cursor),
-    Refused(Fault, usize),
-}
-
-// What is to be said of a field's value.
-pub enum Verdict {
-    Sound,
-    Faulty(Fault),
-}
-
-// A field's value, 0 after a refusal, and the scan after it.
-pub struct Got {
-    pub value: u32,
-    pub scan: Scan,
-}
+ghost use Rattle.shapes.specs.Promises.{Coded, Room, Near, LeafRead, NodeRead, PairRead};
 
 // What differs between patterns and trees: the width of a leaf's number and the greatest that is sound, the most nodes, and whether
 // it is a pattern, which opens with a gate and has no pin twice.
@@ -49,91 +24,6 @@ pub struct Rules {
 pub struct Branch {
     pub scan: Scan,
     pub next: usize,
-}
-
-// Where a scan stands, or was refused.
-pub fn place_of(scan: Scan) -> usize
-    ensures { λ r. ⌜ r ≡ place scan ⌝ }
-{
-    match scan {
-        Scan::At(c) => c.at,
-        Scan::Refused(_, at) => at,
-    }
-}
-
-// A field of any value.
-pub fn raw(scan: Scan, s: &[u8], width: usize) -> Got
-    requires { ⌜ (place scan < 2 ^ 32) × (width ≤ 24) ⌝ }
-    ensures { λ r. ⌜ Reads r (field (now (s .entry)) width free scan) (place scan + width) 16777215 ⌝ }
-{
-    let Scan::At(c) = scan else {
-        return Got { value: 0, scan };
-    };
-    let at = c.at;
-    let Field::Value(value, next) = c.field(s, width) else {
-        return Got {
-            value: 0,
-            scan: Scan::Refused(Fault::Truncated, at),
-        };
-    };
-    Got {
-        value,
-        scan: Scan::At(next),
-    }
-}
-
-// The field `got`, read at `before`, with a verdict on its value.
-pub fn settle(before: Scan, got: Got, verdict: Verdict) -> Got
-    ensures { λ r. ⌜ r ≡ settling before got verdict ⌝ }
-{
-    let after = got.scan;
-    let Scan::At(_) = after else {
-        return got;
-    };
-    let Verdict::Faulty(fault) = verdict else {
-        return got;
-    };
-    Got {
-        value: 0,
-        scan: Scan::Refused(fault, place_of(before)),
-    }
-}
-
-// Whether a value lies between two bounds.
-pub fn in_range(least: u32, most: u32, value: u32) -> Verdict
-    ensures { λ r. ⌜ r ≡ within least most value ⌝ }
-{
-    if value < least {
-        return Verdict::Faulty(Fault::Range);
-    }
-    if most < value {
-        return Verdict::Faulty(Fault::Range);
-    }
-    Verdict::Sound
-}
-
-// A field with a range.
-pub fn ranged(scan: Scan, s: &[u8], width: usize, least: u32, most: u32) -> Got
-    requires { ⌜ (place scan < 2 ^ 32) × (width ≤ 24) ⌝ }
-    ensures { λ r. ⌜ Reads r (field (now (s .entry)) width (within least most) scan) (place scan + width) most ⌝ }
-{
-    let got = raw(scan, s, width);
-    settle(scan, got, in_range(least, most, got.value))
-}
-
-// The end of a sheet.
-pub fn end(scan: Scan, s: &[u8]) -> Scan
-    requires { ⌜ place scan < 2 ^ 32 ⌝ }
-    ensures { λ r. ⌜ r ≡ ended (now (s .entry)) scan ⌝ }
-{
-    let Scan::At(c) = scan else {
-        return scan;
-    };
-    let at = c.at;
-    if c.ends(s) {
-        return scan;
-    }
-    Scan::Refused(Fault::Tail, at)
 }
 
 // The verdict on a node's code, after `n` nodes.
@@ -161,8 +51,8 @@ fn read_code(scan: Scan, s: &[u8], rules: Rules, n: usize) -> Got
     requires { ⌜ place scan < 2 ^ 32 ⌝ }
     ensures { λ r. ⌜ Coded (now (s .entry)) rules scan n r ⌝ }
 {
-    let got = raw(scan, s, 2);
-    settle(scan, got, code_verdict(rules, n, got.value))
+    let got = fields::raw(scan, s, 2);
+    fields::settle(scan, got, code_verdict(rules, n, got.value))
 }
 
 // Whether `x` stands among the first `n` symbols.
@@ -213,8 +103,8 @@ fn read_leaf(
     let Scan::At(_) = scan else {
         return Branch { scan, next: n };
     };
-    let got = raw(scan, s, rules.width);
-    let leaf = settle(scan, got, leaf_verdict(rules, symbols, n, got.value));
+    let got = fields::raw(scan, s, rules.width);
+    let leaf = fields::settle(scan, got, leaf_verdict(rules, symbols, n, got.value));
     symbols[n] = 2 + leaf.value;
     sizes[n] = 1;
     let after = leaf.scan;

@@ -5,14 +5,14 @@ use Prim.Native.Nat.{ℕ, zero, suc, _+_}
 use native.Mathlib.Nat.{zero-add, add-zero, add-suc, suc-add}
 use native.Mathlib.Omega.{arith}
 use lib.ListN.{length, set, length-map, length-append}
-use Rattle.shapes.specs.declared.Got.{Got}
-use Rattle.shapes.specs.declared.Scan.{Scan}
-use Rattle.shapes.specs.declared.Fault.{Fault}
-use Rattle.shapes.specs.declared.Scan.the-variants.{At, Refused}
+use Rattle.fields.specs.declared.Got.{Got}
+use Rattle.fields.specs.declared.Scan.{Scan}
+use Rattle.fields.specs.declared.Fault.{Fault}
+use Rattle.fields.specs.declared.Scan.the-variants.{At, Refused}
 use Rattle.shapes.specs.Shape.{Shape}
-use Rattle.shapes.specs.Reading.{Reader, times, field}
-use Rattle.shapes.specs.Promises.{Live}
-use Rattle.shapes.proofs.Laws.{length-times, times-value, times-scan}
+use Rattle.fields.specs.Reading.{Reader, times, field}
+use Rattle.fields.specs.Promises.{Live}
+use Rattle.fields.proofs.Laws.{length-times, times-value, times-scan}
 use Rattle.sheets.specs.declared.HeadRead.{HeadRead}
 use Rattle.sheets.specs.declared.PinsRead.{PinsRead}
 use Rattle.sheets.specs.declared.DrawingsRead.{DrawingsRead}

@@ -9,21 +9,22 @@ use native.Mathlib.Numerals.{add-one}
 use native.Mathlib.Omega.{arith}
 use lib.ListN.{length, take, drop, set, length-map, length-set}
 use lib.Seq.{sets}
-use Rattle.shapes.specs.declared.Scan.{Scan}
-use Rattle.shapes.specs.Reading.{Reader, place, times, within, field}
-use Rattle.shapes.specs.declared.Verdict.the-variants.{Sound, Faulty}
-use Rattle.shapes.specs.declared.Fault.the-variants.{Size}
+use Rattle.fields.specs.declared.Scan.{Scan}
+use Rattle.fields.specs.Reading.{Reader, place, times, within, field}
+use Rattle.fields.specs.declared.Verdict.the-variants.{Sound, Faulty}
+use Rattle.fields.specs.declared.Fault.the-variants.{Size}
 use borrow.Author.Tests.{leb-true}
 use lib.Dec.{leb}
-use Rattle.shapes.proofs.Laws.{length-times, times-value, times-scan, positive-live, live-sound, range-passes}
-use Rattle.shapes.proofs.Sets.{sets-append, set-sets, take-sets, mid-sets}
+use Rattle.fields.proofs.Laws.{length-times, times-value, times-scan, positive-live, live-sound, range-passes}
+use Rattle.fields.proofs.Lists.{sets-append, set-sets, take-sets, mid-sets}
 use Rattle.shapes.proofs.Drawn.{live?, length-symbols, node-live}
 use borrow.Rule.Slice.PartMut.{putMid}
-use Rattle.shapes.specs.declared.Scan.the-variants.{At, Refused}
+use Rattle.fields.specs.declared.Scan.the-variants.{At, Refused}
 use Rattle.shapes.specs.declared.Branch.{Branch}
 use Rattle.shapes.specs.Shape.{Shape, symbols, sizes, size}
 use Rattle.shapes.specs.Drawing.{elem, shape}
-use Rattle.shapes.specs.Promises.{Live, Laid, NodeRead}
+use Rattle.fields.specs.Promises.{Live}
+use Rattle.shapes.specs.Promises.{Laid, NodeRead}
 use Rattle.sheets.specs.LibrarySheet.{last, binLoad, complete, hasAll, pattern, patternRules, countVerdict}
 use Rattle.sheets.specs.Layout.{padded, row, tableFrom}
 use Rattle.sheets.specs.Promises.{PatternIs, RowIs}

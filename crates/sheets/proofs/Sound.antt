@@ -6,19 +6,19 @@ use Prim.Native.Nat.{ℕ, zero, suc, _+_, _-_, _≤_, _<_}
 use native.Mathlib.Omega.{arith}
 use lib.ListN.{length, length-append}
 use Rattle.shapes.specs.declared.Rules.{Rules}
-use Rattle.shapes.specs.declared.Scan.{Scan}
-use Rattle.shapes.specs.declared.Verdict.the-variants.{Sound}
-use Rattle.shapes.specs.Reading.{Reader, place, times, within, field}
+use Rattle.fields.specs.declared.Scan.{Scan}
+use Rattle.fields.specs.declared.Verdict.the-variants.{Sound}
+use Rattle.fields.specs.Reading.{Reader, place, times, within, field, start}
 use Rattle.shapes.specs.Shape.{symbols}
 use Rattle.shapes.specs.Drawing.{codeVerdict, leafVerdict, leafNode, pair, branch, node, shape}
-use Rattle.shapes.specs.Promises.{Live}
-use Rattle.shapes.proofs.Laws.{live-sound, range-least, range-passes, code-room, length-times}
+use Rattle.fields.specs.Promises.{Live}
+use Rattle.fields.proofs.Laws.{live-sound, range-least, range-passes, length-times}
+use Rattle.shapes.proofs.Laws.{code-room}
 use Rattle.shapes.proofs.Drawn.{leaf-passes, length-symbols, node-live}
 use Rattle.sheets.specs.Model.{Shape, size, leaves, Pin, Cell, patternsFrom, patterns}
 use Rattle.sheets.specs.LibrarySheet.{Head, last, binLoad, head, pin, patternRules, hasAll, pattern, countVerdict, drawings, cell, bins, cells, library}
 use Rattle.sheets.specs.TreeSheet.{tree, treeRules}
 use Rattle.sheets.specs.Promises.{cellAfter}
-use Rattle.sheets.specs.Report.{start}
 use Rattle.sheets.specs.Sound.{IsGate, SoundDrawing, SoundPin, SoundCell, SoundLibrary, SoundTree}
 use Rattle.sheets.proofs.Laws.{complete-live, count-fits}
 use Rattle.sheets.proofs.Cells.{length-drawn, patterns-more}

@@ -6,26 +6,27 @@ use Prim.Native.Nat.{ℕ, _+_}
 use native.Mathlib.Nat.{zero-add}
 use native.Mathlib.Omega.{arith}
 use lib.ListN.{length, replicate}
-use Rattle.bits.specs.Bits.{endsAt}
+use Rattle.bits.specs.Bits.{placeOf, endsAt}
 use Rattle.bits.specs.declared.Cursor.{Cursor}
 use Rattle.shapes.specs.declared.Branch.{Branch}
-use Rattle.shapes.specs.declared.Fault.{Fault}
-use Rattle.shapes.specs.declared.Fault.the-variants.{Tail}
-use Rattle.shapes.specs.declared.Got.{Got}
-use Rattle.shapes.specs.declared.Scan.{Scan}
-use Rattle.shapes.specs.declared.Scan.the-variants.{At, Refused}
+use Rattle.fields.specs.declared.Fault.{Fault}
+use Rattle.fields.specs.declared.Fault.the-variants.{Tail}
+use Rattle.fields.specs.declared.Got.{Got}
+use Rattle.fields.specs.declared.Scan.{Scan}
+use Rattle.fields.specs.declared.Scan.the-variants.{At, Refused}
 use Rattle.shapes.specs.Shape.{symbols, sizes}
-use Rattle.shapes.specs.Reading.{place, times, field, within, ended}
+use Rattle.fields.specs.Reading.{start, place, times, field, within, ended}
 use Rattle.shapes.specs.Drawing.{shape, node}
-use Rattle.shapes.specs.Promises.{Live, Reads, Laid, NodeRead}
-use Rattle.shapes.proofs.Laws.{value-at, scan-at, length-times}
+use Rattle.fields.specs.Promises.{Live, Reads}
+use Rattle.shapes.specs.Promises.{Laid, NodeRead}
+use Rattle.fields.proofs.Laws.{start-place, value-at, scan-at, length-times}
 use Rattle.shapes.proofs.Drawn.{length-symbols}
 use Rattle.sheets.specs.declared.BinsRead.{BinsRead}
 use Rattle.sheets.specs.declared.CellsRead.{CellsRead}
 use Rattle.sheets.specs.Model.{Cell, patterns, patternsFrom}
 use Rattle.sheets.specs.LibrarySheet.{binLoad, bins, cells, library}
 use Rattle.sheets.specs.TreeSheet.{tree, treeRules}
-use Rattle.sheets.specs.Report.{Limited, start, refused, soundLibrary, soundTree, libraryNumber, treeNumber, libraryRead, treeRead, libraryReport, treeReport}
+use Rattle.sheets.specs.Report.{Limited, refused, soundLibrary, soundTree, libraryNumber, treeNumber, libraryRead, treeRead, libraryReport, treeReport}
 use Rattle.sheets.specs.declared.LibraryRead.{LibraryRead}
 use Rattle.sheets.specs.declared.LibraryRecord.{LibraryRecord}
 use Rattle.sheets.specs.declared.TreeRead.{TreeRead}
@@ -39,18 +40,15 @@ ended-live s (At c) h = tt
 ended-live s (Refused f p) h = h
 
 ended-place : (s : List ℕ) (c : Scan) → place (ended s c) ≡ place c
-ended-place s (At c) = go (endsAt s (c .at))
+ended-place s (At c) = go (endsAt s (placeOf c))
   where
-    go : (b : Bool) → place (cond b (At c) (Refused Tail (c .at))) ≡ c .at
+    go : (b : Bool) → place (cond b (At c) (Refused Tail (placeOf c))) ≡ placeOf c
     go true = refl
     go false = refl
 ended-place s (Refused f p) = refl
 
-at-start : (c : Cursor) → c .at ≡ 0 → At c ≡ start
-at-start c e = λ i. At (record { at = e i })
-
-pub tree-is : (s : List ℕ) (c : Cursor) (load req : Got) (read : Branch) (l′ m′ : List ℕ) (res : Scan) → c .at ≡ 0 →
-    Reads load (field s 8 (within 0 255) (At c)) (c .at + 8) 255 → Reads req (field s 24 (within 0 16777215) (load .scan)) (place (load .scan) + 24) 16777215 →
+pub tree-is : (s : List ℕ) (c : Scan) (load req : Got) (read : Branch) (l′ m′ : List ℕ) (res : Scan) → c ≡ start →
+    Reads load (field s 8 (within 0 255) c) (place c + 8) 255 → Reads req (field s 24 (within 0 16777215) (load .scan)) (place (load .scan) + 24) 16777215 →
     NodeRead s treeRules (req .scan) 0 (replicate 64 0) (replicate 64 0) l′ m′ read → res ≡ ended s (read .scan) →
     TreeIs s (record { scan = res; tree = record { load = load .value; required = req .value; count = read .next; symbols = l′; sizes = m′ } })
 unfolding tree shape treeLaid
@@ -58,7 +56,7 @@ tree-is s c load req read l′ m′ res ec hl hr hn er =
     let L = field s 8 (within 0 255) start in
     let R = field s 24 (within 0 16777215) (L .1) in
     let X = node s treeRules 65 [] (R .1) in
-    let at-load = scan-at s 8 (within 0 255) (At c) hl (at-start c ec) in
+    let at-load = scan-at s 8 (within 0 255) c hl ec in
     let at-shape = scan-at s 24 (within 0 16777215) (load .scan) hr at-load in
     let laid : Laid 0 (replicate 64 0) (replicate 64 0) l′ m′ read (X .1) (symbols (X .0)) (sizes (X .0)) =
     subst (λ (q : Scan). let x = node s treeRules 65 [] q in Laid 0 (replicate 64 0) (replicate 64 0) l′ m′ read (x .1) (symbols (x .0)) (sizes (x .0))) at-shape
@@ -69,18 +67,18 @@ tree-is s c load req read l′ m′ res ec hl hr hn er =
           let z : Live (read .scan) = ended-live s (read .scan) (subst Live er q) in
           let counted = laid .next z ∙ zero-add (length (symbols (X .0))) ∙ length-symbols (X .0) in
           λ i. record {
-            load = value-at s 8 (within 0 255) (At c) hl (at-start c ec) i;
+            load = value-at s 8 (within 0 255) c hl ec i;
             required = value-at s 24 (within 0 16777215) (load .scan) hr at-load i;
             count = counted i;
             symbols = laid .symbols z i;
             sizes = laid .sizes z i;
           };
       nodes-few = hn .went .upto;
-      near = omega (arith, ap place er, ended-place s (read .scan), hn .went .near, hl .near, hr .near, ec);
+      near = omega (arith, ap place er, ended-place s (read .scan), hn .went .near, hl .near, hr .near, ap place ec, start-place);
     }
 
-pub library-is : (s : List ℕ) (c : Cursor) (nb : Got) (lb : BinsRead) (nc : Got) (rc : CellsRead) (l′ : List ℕ) (res : Scan) → c .at ≡ 0 →
-    Reads nb (field s 3 (within 1 4) (At c)) (c .at + 3) 4 → BinsAre s (nb .value) (nb .scan) lb →
+pub library-is : (s : List ℕ) (c : Scan) (nb : Got) (lb : BinsRead) (nc : Got) (rc : CellsRead) (l′ : List ℕ) (res : Scan) → c ≡ start →
+    Reads nb (field s 3 (within 1 4) c) (place c + 3) 4 → BinsAre s (nb .value) (nb .scan) lb →
     Reads nc (field s 7 (within 1 64) (lb .scan)) (place (lb .scan) + 7) 64 →
     CellsAre s (nb .value) (nc .value) (nc .scan) (replicate 2304 0) l′ rc → res ≡ ended s (rc .scan) →
     LibraryIs s (record {
@@ -100,8 +98,8 @@ library-is s c nb lb nc rc l′ res ec hnb hlb hnc hrc er =
     let B = times (N .0) (binLoad s) (N .1) in
     let C = field s 7 (within 1 64) (B .1) in
     let X = times (C .0) (cellAfter s (length (B .0))) (C .1) in
-    let counted-bins = value-at s 3 (within 1 4) (At c) hnb (at-start c ec) in
-    let at-bins = scan-at s 3 (within 1 4) (At c) hnb (at-start c ec) in
+    let counted-bins = value-at s 3 (within 1 4) c hnb ec in
+    let at-bins = scan-at s 3 (within 1 4) c hnb ec in
     let same-bins : times (nb .value) (binLoad s) (nb .scan) ≡ B = ap₂ (λ (n : ℕ) (q : Scan). times n (binLoad s) q) counted-bins at-bins in
     let at-count : lb .scan ≡ B .1 = hlb .scan-is ∙ ap (λ (x : List ℕ × Scan). x .1) same-bins in
     let counted = value-at s 7 (within 1 64) (lb .scan) hnc at-count in
@@ -122,7 +120,7 @@ library-is s c nb lb nc rc l′ res ec hnb hlb hnc hrc er =
       bins-few = hnb .small;
       cells-few = hnc .small;
       patterns-few = hrc .fits;
-      near = omega (arith, ap place er, ended-place s (rc .scan), hnb .near, hnb .small, hlb .near, hnc .near, hnc .small, hrc .near, ec);
+      near = omega (arith, ap place er, ended-place s (rc .scan), hnb .near, hnb .small, hlb .near, hnc .near, hnc .small, hrc .near, ap place ec, start-place);
     }
 
 -- ---- what the judges say

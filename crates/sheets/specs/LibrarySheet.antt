@@ -4,13 +4,13 @@ use mathlib.Core.List.{List, [], _∷_}
 use mathlib.Core.Bool.{Bool, true, cond, _&&_}
 use lib.ListN.{length}
 use lib.Dec.{leb, eqb}
-use Rattle.shapes.specs.declared.Fault.the-variants.{Drawing, Size}
+use Rattle.fields.specs.declared.Fault.the-variants.{Drawing, Size}
 use Rattle.shapes.specs.declared.Rules.{Rules}
-use Rattle.shapes.specs.declared.Scan.{Scan}
-use Rattle.shapes.specs.declared.Scan.the-variants.{At, Refused}
-use Rattle.shapes.specs.declared.Verdict.{Verdict}
-use Rattle.shapes.specs.declared.Verdict.the-variants.{Faulty}
-use Rattle.shapes.specs.Reading.{Reader, done, _>>=_, times, within, field, ended, place}
+use Rattle.fields.specs.declared.Scan.{Scan}
+use Rattle.fields.specs.declared.Scan.the-variants.{At, Refused}
+use Rattle.fields.specs.declared.Verdict.{Verdict}
+use Rattle.fields.specs.declared.Verdict.the-variants.{Faulty}
+use Rattle.fields.specs.Reading.{Reader, done, _>>=_, times, within, field, ended, place}
 use Rattle.shapes.specs.Shape.{symbols, leafSymbol}
 use Rattle.shapes.specs.Drawing.{elem, shape}
 use Rattle.sheets.specs.Model.{Shape, Pin, Cell, Library, patternsFrom}

@@ -4,11 +4,11 @@ use mathlib.Core.Path.{_≡_}
 use mathlib.Core.List.{List, [], map}
 use lib.ListN.{length}
 use lib.Seq.{sets}
-use Rattle.shapes.specs.declared.Scan.{Scan}
-use Rattle.shapes.specs.Reading.{Reader, place, times, field}
+use Rattle.fields.specs.declared.Scan.{Scan}
+use Rattle.fields.specs.Reading.{Reader, place, times, field, start}
 use Rattle.shapes.specs.Shape.{symbols}
-use Rattle.shapes.specs.declared.Got.{Got}
-use Rattle.shapes.specs.Promises.{Live, Reads}
+use Rattle.fields.specs.declared.Got.{Got}
+use Rattle.fields.specs.Promises.{Live, Reads}
 use Rattle.sheets.specs.declared.BinsRead.{BinsRead}
 use Rattle.sheets.specs.declared.HeadRead.{HeadRead}
 use Rattle.sheets.specs.declared.PinRead.{PinRead}
@@ -23,7 +23,6 @@ use Rattle.sheets.specs.Model.{Pin, size, Cell, patternsFrom}
 use Rattle.sheets.specs.LibrarySheet.{binLoad, head, pin, pattern, countVerdict, drawings, cell, library}
 use Rattle.sheets.specs.TreeSheet.{tree}
 use Rattle.sheets.specs.Layout.{padded, blankCell, cellLaid, row, tableFrom, patternRows, libraryLaid, treeLaid}
-use Rattle.sheets.specs.Report.{start}
 
 module _ (s : List ℕ) where
   pub record BinsAre (count : ℕ) (scan : Scan) (r : BinsRead) : Type 0 where

@@ -2,11 +2,11 @@
 use Prim.Native.Nat.{ℕ, _+_, _*_, _^_, _≤_, _<_}
 use mathlib.Core.List.{List}
 use lib.ListN.{length}
-use Rattle.bits.specs.Bits.{cursorAt}
-use Rattle.shapes.specs.declared.Fault.{Fault}
-use Rattle.shapes.specs.declared.Fault.the-variants.{Truncated, Tail, Range, Drawing, Size}
-use Rattle.shapes.specs.declared.Scan.{Scan}
-use Rattle.shapes.specs.declared.Scan.the-variants.{At, Refused}
+use Rattle.fields.specs.Reading.{start}
+use Rattle.fields.specs.declared.Fault.{Fault}
+use Rattle.fields.specs.declared.Fault.the-variants.{Truncated, Tail, Range, Drawing, Size}
+use Rattle.fields.specs.declared.Scan.{Scan}
+use Rattle.fields.specs.declared.Scan.the-variants.{At, Refused}
 use Rattle.sheets.specs.declared.LibraryJudged as LibraryJudged
 use Rattle.sheets.specs.declared.TreeJudged as TreeJudged
 use Rattle.sheets.specs.Model.{Library, Tree, patterns, size}
@@ -28,10 +28,6 @@ libraryNumber Size = 6
 
 unfoldable pub treeNumber : Fault → ℕ
 treeNumber f = libraryNumber f + 10
-
--- The scan of a whole sheet starts at its first bit.
-abbrev pub start : Scan
-start = At (cursorAt 0)
 
 unfoldable pub libraryRead : Library × Scan → Report
 libraryRead (l, At c) = soundLibrary (length (l .cells)) (length (patterns l))

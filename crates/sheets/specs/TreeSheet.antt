@@ -3,7 +3,7 @@ use Prim.Native.Nat.{ℕ}
 use mathlib.Core.List.{List}
 use mathlib.Core.Bool.{false}
 use Rattle.shapes.specs.declared.Rules.{Rules}
-use Rattle.shapes.specs.Reading.{Reader, _>>=_, within, field, ended}
+use Rattle.fields.specs.Reading.{Reader, _>>=_, within, field, ended}
 use Rattle.shapes.specs.Drawing.{shape}
 use Rattle.sheets.specs.Model.{Tree}
 

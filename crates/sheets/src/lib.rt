@@ -1,13 +1,12 @@
 // The library sheet and the tree sheet: what is decoded from them, and the two judges.
-use bits::Cursor;
-use shapes::Fault;
+use fields::Fault;
 use shapes::Rules;
-use shapes::Scan;
-use shapes::Verdict;
+use fields::Scan;
+use fields::Verdict;
 ghost use mathlib.Core.Path.{_≡_};
 ghost use Prim.Native.Nat.{_+_, _-_, _<_, _≤_, _^_};
 ghost use lib.ListN.{length, take};
-ghost use Rattle.shapes.specs.Reading.{place};
+ghost use Rattle.fields.specs.Reading.{place};
 ghost use Rattle.sheets.specs.LibrarySheet.{hasAll, complete, countVerdict};
 ghost use Rattle.sheets.specs.Layout.{blankCell};
 ghost use Rattle.sheets.specs.Promises.{BinsAre, HeadIs, PinIs, PinsAre, PatternIs, RowIs, RowsAre, DrawingsAre, CountIs, CellIs, CellsAre, LibraryIs, TreeIs};
@@ -105,13 +104,13 @@ pub struct TreeRecord {
 // What a judge of libraries answers.
 pub enum LibraryJudged {
     Sound(usize, usize),
-    Refused(shapes::Fault, usize),
+    Refused(fields::Fault, usize),
 }
 
 // What a judge of trees answers.
 pub enum TreeJudged {
     Sound(usize),
-    Refused(shapes::Fault, usize),
+    Refused(fields::Fault, usize),
 }
 
 // The bin loads, and the scan after them.
@@ -155,7 +154,7 @@ fn read_bins(scan: Scan, s: &[u8], count: u32) -> BinsRead
     let mut before: u32 = 0;
     let mut k: u32 = 0;
     while k < count {
-        let got = shapes::ranged(at, s, 8, before + 1, Limits::LOAD);
+        let got = fields::ranged(at, s, 8, before + 1, Limits::LOAD);
         at = got.scan;
         before = got.value;
         loads[k as usize] = before as u8;
@@ -169,13 +168,13 @@ fn read_head(scan: Scan, s: &[u8]) -> HeadRead
     requires { ⌜ place scan < 2 ^ 20 ⌝ }
     ensures { λ r. ⌜ HeadIs (now (s .entry)) scan r ⌝ }
 {
-    let held = shapes::ranged(scan, s, 1, 0, 1);
+    let held = fields::ranged(scan, s, 1, 0, 1);
     let at = held.scan;
-    let area = shapes::ranged(at, s, 16, 1, Limits::AREA);
+    let area = fields::ranged(at, s, 16, 1, Limits::AREA);
     let at = area.scan;
-    let highest = shapes::ranged(at, s, 8, 0, Limits::LOAD);
+    let highest = fields::ranged(at, s, 8, 0, Limits::LOAD);
     let at = highest.scan;
-    let pins = shapes::ranged(at, s, 3, 1, Limits::PINS);
+    let pins = fields::ranged(at, s, 3, 1, Limits::PINS);
     let at = pins.scan;
     HeadRead {
         scan: at,
@@ -201,11 +200,11 @@ fn read_pin(scan: Scan, s: &[u8], bins: u32) -> PinRead
     requires { ⌜ (bins ≤ 4) × (place scan < 2 ^ 30) ⌝ }
     ensures { λ r. ⌜ PinIs (now (s .entry)) bins scan r ⌝ }
 {
-    let load = shapes::ranged(scan, s, 2, 0, last_of(bins));
+    let load = fields::ranged(scan, s, 2, 0, last_of(bins));
     let at = load.scan;
-    let intrinsic = shapes::ranged(at, s, 16, 0, Limits::INTRINSIC);
+    let intrinsic = fields::ranged(at, s, 16, 0, Limits::INTRINSIC);
     let at = intrinsic.scan;
-    let drive = shapes::ranged(at, s, 8, 0, Limits::DRIVE);
+    let drive = fields::ranged(at, s, 8, 0, Limits::DRIVE);
     let at = drive.scan;
     PinRead {
         scan: at,
@@ -312,7 +311,7 @@ fn read_pattern(scan: Scan, s: &[u8], pins: u32, symbols: &mut [u32]) -> Pattern
     let size = read.next;
     let whole = has_pins(symbols, size, pins);
     PatternRead {
-        scan: completed(whole, shapes::place_of(scan), after),
+        scan: completed(whole, fields::place_of(scan), after),
         size: size as u32,
     }
 }
@@ -365,16 +364,16 @@ fn count_verdict(total: usize, count: u32) -> Verdict
     if Limits::PATTERNS < total + count as usize {
         return Verdict::Faulty(Fault::Size);
     }
-    shapes::in_range(1, Limits::DRAWINGS, count)
+    fields::in_range(1, Limits::DRAWINGS, count)
 }
 
 // A cell's pattern count, after `total` patterns.
-fn read_count(scan: Scan, s: &[u8], total: usize) -> shapes::Got
+fn read_count(scan: Scan, s: &[u8], total: usize) -> fields::Got
     requires { ⌜ (total ≤ 128) × (place scan < 2 ^ 20) ⌝ }
     ensures { λ r. ⌜ CountIs (now (s .entry)) total scan r ⌝ }
 {
-    let got = shapes::raw(scan, s, 3);
-    shapes::settle(scan, got, count_verdict(total, got.value))
+    let got = fields::raw(scan, s, 3);
+    fields::settle(scan, got, count_verdict(total, got.value))
 }
 
 // A cell's patterns, after `total` rows.
@@ -484,12 +483,12 @@ fn read_cells(scan: Scan, s: &[u8], bins: u32, count: u32, rows: &mut [u32]) -> 
 pub fn read_library(s: &[u8]) -> LibraryRead
     ensures { λ r. ⌜ LibraryIs (now (s .entry)) r ⌝ }
 {
-    let start = Scan::At(Cursor::new());
-    let bins = shapes::ranged(start, s, 3, 1, Limits::BINS);
+    let start = fields::begin();
+    let bins = fields::ranged(start, s, 3, 1, Limits::BINS);
     let at = bins.scan;
     let loads = read_bins(at, s, bins.value);
     let at = loads.scan;
-    let count = shapes::ranged(at, s, 7, 1, Limits::CELLS);
+    let count = fields::ranged(at, s, 7, 1, Limits::CELLS);
     let at = count.scan;
     let mut rows = [0u32; PatternRow::TABLE];
     let cells = read_cells(at, s, bins.value, count.value, &mut rows);
@@ -497,7 +496,7 @@ pub fn read_library(s: &[u8]) -> LibraryRead
     let bin_loads = loads.loads;
     let records = cells.cells;
     LibraryRead {
-        scan: shapes::end(at, s),
+        scan: fields::end(at, s),
         library: LibraryRecord {
             bins: bins.value,
             loads: bin_loads,
@@ -513,10 +512,10 @@ pub fn read_library(s: &[u8]) -> LibraryRead
 pub fn read_tree(s: &[u8]) -> TreeRead
     ensures { λ r. ⌜ TreeIs (now (s .entry)) r ⌝ }
 {
-    let start = Scan::At(Cursor::new());
-    let load = shapes::ranged(start, s, 8, 0, Limits::LOAD);
+    let start = fields::begin();
+    let load = fields::ranged(start, s, 8, 0, Limits::LOAD);
     let at = load.scan;
-    let required = shapes::ranged(at, s, 24, 0, Limits::TIME);
+    let required = fields::ranged(at, s, 24, 0, Limits::TIME);
     let at = required.scan;
     let rules = Rules {
         width: 20,
@@ -529,7 +528,7 @@ pub fn read_tree(s: &[u8]) -> TreeRead
     let read = shapes::read_node(at, s, rules, 0, &mut symbols, &mut sizes);
     let at = read.scan;
     TreeRead {
-        scan: shapes::end(at, s),
+        scan: fields::end(at, s),
         tree: TreeRecord {
             load: load.value as u8,
             required: required.value,

@@ -11,8 +11,10 @@ use lib.Seq.{set-append-left, slice, slice-cons, slice-empty, take-suc, length-t
 use Rattle.bits.specs.Bits.{after, withDigit, withBit, withField, bytesTo}
 use Rattle.bits.proofs.Laws.{length-bit, length-field}
 use Rattle.covers.specs.Cover.{Point}
-use Rattle.covers.specs.CoverSheet.{Field, widths, written, packed, placedFields, coverFields, pointFields, listFields, coverSheet, listSheet}
-use Rattle.covers.proofs.SheetLengths.{length-packed, cover-sheet-length, list-sheet-length}
+use Rattle.fields.specs.Written.{Field, widths, written, packed}
+use Rattle.fields.proofs.Written.{length-packed}
+use Rattle.covers.specs.CoverSheet.{placedFields, coverFields, pointFields, listFields, coverSheet, listSheet}
+use Rattle.covers.proofs.SheetLengths.{cover-sheet-length, list-sheet-length}
 use Rattle.covers.specs.Curve.{base, pointOf}
 use Rattle.writing.specs.Written.{placedOf, coverOf, pointsOf, Written}
 

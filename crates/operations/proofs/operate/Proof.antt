@@ -3,7 +3,7 @@ use native.Mathlib.Omega.{arith}
 use lib.ListN.{length}
 use Rattle.sheets.specs.LibrarySheet.{library as libraryOf}
 use Rattle.sheets.specs.TreeSheet.{tree as treeOf}
-use Rattle.sheets.specs.Report.{start}
+use Rattle.fields.specs.Reading.{start}
 use Rattle.covers.specs.Outcome.{capacity, withLibrary}
 use Rattle.mapper.specs.Promises.{leastOutput, taskAnswer}
 use Rattle.operations.proofs.Laws.{library-laid, short-output, short-work, lent-short, library-answered, library-not-sound}

@@ -1,6 +1,6 @@
 use borrow.Author.Needs.{needs}
 use Rattle.sheets.specs.TreeSheet.{tree as treeOf}
-use Rattle.sheets.specs.Report.{start}
+use Rattle.fields.specs.Reading.{start}
 use Rattle.covers.specs.Outcome.{capacity}
 use Rattle.mapper.specs.Promises.{taskAnswer}
 use Rattle.operations.proofs.Laws.{tree-laid, tree-answered, tree-not-sound}

@@ -1,6 +1,7 @@
 use borrow.Author.Needs.{needs}
 use Rattle.shapes.specs.Drawing.{codeVerdict}
-use Rattle.shapes.proofs.Laws.{coded, settled-field, both, code-room}
+use Rattle.fields.proofs.Laws.{settled-field, both}
+use Rattle.shapes.proofs.Laws.{coded, code-room}
 use Rattle.shapes.proofs.read_code.Statement.{statement}
 use Rattle.shapes.proofs.read_code.Tie as tie
 

@@ -3,10 +3,10 @@ use native.Mathlib.Omega.{arith}
 use Prim.Native.Nat.{_+_}
 use mathlib.Core.Path.{subst, sym}
 use lib.ListN.{take}
-use Rattle.shapes.specs.Reading.{place, field}
+use Rattle.fields.specs.Reading.{place, field}
 use Rattle.shapes.specs.Drawing.{leafVerdict}
-use Rattle.shapes.specs.Promises.{Reads, Live}
-use Rattle.shapes.proofs.Laws.{settled-field, both}
+use Rattle.fields.specs.Promises.{Reads, Live}
+use Rattle.fields.proofs.Laws.{settled-field, both}
 use Rattle.shapes.proofs.Drawn.{leaf-passes, leaf-dead, leaf-live}
 use Rattle.shapes.proofs.read_leaf.Statement.{statement}
 use Rattle.shapes.proofs.read_leaf.Tie as tie

@@ -1,8 +1,8 @@
 use borrow.Author.Needs.{needs}
 use mathlib.Core.Path.{sym, ap, ap₂, subst, _∙_}
 use mathlib.Core.Bool.{Bool}
-use Rattle.shapes.specs.declared.Scan.{Scan}
-use Rattle.shapes.specs.Promises.{Live}
+use Rattle.fields.specs.declared.Scan.{Scan}
+use Rattle.fields.specs.Promises.{Live}
 use Rattle.sheets.specs.LibrarySheet.{complete}
 use Rattle.sheets.proofs.Laws.{complete-dead, complete-whole}
 use Rattle.sheets.proofs.completed.Statement.{statement}

@@ -2,9 +2,9 @@ use native.Mathlib.Omega.{arith}
 use Prim.Native.Nat.{ℕ, _≤_, _+_, _-_, _*_}
 use mathlib.Core.Path.{_≡_, refl, sym, ap, _∙_}
 use mathlib.Core.List.{List, map, map-id}
-use Rattle.shapes.specs.declared.Scan.{Scan}
-use Rattle.shapes.specs.Reading.{place, times}
-use Rattle.shapes.proofs.Laws.{times-value, times-scan}
+use Rattle.fields.specs.declared.Scan.{Scan}
+use Rattle.fields.specs.Reading.{place, times}
+use Rattle.fields.proofs.Laws.{times-value, times-scan}
 use Rattle.sheets.specs.LibrarySheet.{binLoad, last}
 use Rattle.sheets.specs.Layout.{padded}
 use Rattle.sheets.proofs.Laws.{filled-more, last-more, bin-range}

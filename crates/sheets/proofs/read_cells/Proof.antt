@@ -4,9 +4,9 @@ use Prim.Native.Nat.{ℕ, _≤_, _+_, _-_, _*_}
 use mathlib.Core.Path.{_≡_, refl, ap, _∙_}
 use mathlib.Core.List.{List, map}
 use lib.ListN.{length, replicate}
-use Rattle.shapes.specs.declared.Scan.{Scan}
-use Rattle.shapes.specs.Reading.{place, times}
-use Rattle.shapes.specs.Promises.{Live}
+use Rattle.fields.specs.declared.Scan.{Scan}
+use Rattle.fields.specs.Reading.{place, times}
+use Rattle.fields.specs.Promises.{Live}
 use Rattle.sheets.specs.Model.{Cell, patternsFrom}
 use Rattle.sheets.specs.Layout.{padded, blankCell, cellLaid, tableFrom, patternRows}
 use Rattle.sheets.specs.Promises.{cellAfter}

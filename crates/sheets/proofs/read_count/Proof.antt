@@ -1,7 +1,7 @@
 use borrow.Author.Needs.{needs}
 use native.Mathlib.Omega.{arith}
 use Rattle.sheets.specs.LibrarySheet.{countVerdict}
-use Rattle.shapes.proofs.Laws.{settled-field, both}
+use Rattle.fields.proofs.Laws.{settled-field, both}
 use Rattle.sheets.proofs.Laws.{count-passes, count-fits}
 use Rattle.sheets.proofs.read_count.Statement.{statement}
 use Rattle.sheets.proofs.read_count.Tie as tie

@@ -3,8 +3,8 @@ use native.Mathlib.Omega.{arith}
 use Prim.Native.Nat.{ℕ}
 use mathlib.Core.Path.{refl, ap}
 use lib.Dec.{eqb}
-use Rattle.shapes.specs.Reading.{within}
-use Rattle.shapes.proofs.Laws.{value-at, scan-at}
+use Rattle.fields.specs.Reading.{within}
+use Rattle.fields.proofs.Laws.{value-at, scan-at}
 use Rattle.sheets.specs.LibrarySheet.{head}
 use Rattle.sheets.proofs.read_head.Statement.{statement}
 use Rattle.sheets.proofs.read_head.Tie as tie

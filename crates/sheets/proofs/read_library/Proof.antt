@@ -3,8 +3,8 @@ use Rattle.sheets.proofs.Whole.{library-is}
 use Rattle.sheets.proofs.read_library.Statement.{statement}
 use Rattle.sheets.proofs.read_library.Tie as tie
 
-new-requires : tie.Need-new-requires
-new-requires c κs = search needs
+begin-requires : tie.Need-begin-requires
+begin-requires c κs = search needs
 
 ranged-requires : tie.Need-ranged-requires
 ranged-requires c κs = search needs
@@ -24,25 +24,25 @@ read-cells-requires c κs = search needs
 end-requires : tie.Need-end-requires
 end-requires c κs = search needs
 
-cast-t18 : tie.Need-cast-t18
-cast-t18 c = search needs
+cast-t17 : tie.Need-cast-t17
+cast-t17 c = search needs
 
 returns : tie.Need-returns
 returns c =
     let cells = c .before .before .before .before .before .read-cells in
-    library-is (c .before .before .before .before .before .before .before .before .before .before .before .before .args .s .now) (c .before .before .before .before .before .before .before .before .before .before .new .result) (c .before .before .before .before .before .before .before .before .before .ranged .result) (c .before .before .before .before .before .before .before .before .read-bins .result) (c .before .before .before .before .before .before .before .ranged2 .result) (cells .result) (cells .last .1 .1 .1 .1 .0) (c .before .end .result)
-    (c .before .before .before .before .before .before .before .before .before .before .new .ensures) (c .before .before .before .before .before .before .before .before .before .ranged .ensures) (c .before .before .before .before .before .before .before .before .read-bins .ensures) (c .before .before .before .before .before .before .before .ranged2 .ensures) (cells .ensures) (c .before .end .ensures)
+    library-is (c .before .before .before .before .before .before .before .before .before .before .before .before .args .s .now) (c .before .before .before .before .before .before .before .before .before .before .begin .result) (c .before .before .before .before .before .before .before .before .before .ranged .result) (c .before .before .before .before .before .before .before .before .read-bins .result) (c .before .before .before .before .before .before .before .ranged2 .result) (cells .result) (cells .last .1 .1 .1 .1 .0) (c .before .end .result)
+    (c .before .before .before .before .before .before .before .before .before .before .begin .ensures .0) (c .before .before .before .before .before .before .before .before .before .ranged .ensures) (c .before .before .before .before .before .before .before .before .read-bins .ensures) (c .before .before .before .before .before .before .before .ranged2 .ensures) (cells .ensures) (c .before .end .ensures)
 
 pub read-library-spec : {M : Type 1} → statement M
 read-library-spec =
     tie.close
     (tie.spec
-    new-requires
+    begin-requires
     ranged-requires
     read-bins-requires
     ranged-requires-2
     slice-aggregate-read-cells
     read-cells-requires
     end-requires
-    cast-t18
+    cast-t17
     returns)

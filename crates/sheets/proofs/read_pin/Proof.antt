@@ -2,9 +2,9 @@ use borrow.Author.Needs.{needs}
 use native.Mathlib.Omega.{arith}
 use Prim.Native.Nat.{ℕ, _-_, _+_}
 use mathlib.Core.Path.{refl, subst}
-use Rattle.shapes.specs.Reading.{place, within, field}
-use Rattle.shapes.specs.Promises.{Reads}
-use Rattle.shapes.proofs.Laws.{value-at, scan-at}
+use Rattle.fields.specs.Reading.{place, within, field}
+use Rattle.fields.specs.Promises.{Reads}
+use Rattle.fields.proofs.Laws.{value-at, scan-at}
 use Rattle.sheets.specs.LibrarySheet.{pin}
 use Rattle.sheets.proofs.read_pin.Statement.{statement}
 use Rattle.sheets.proofs.read_pin.Tie as tie

@@ -5,10 +5,10 @@ use mathlib.Core.List.{List, map}
 use lib.ListN.{length, drop, length-drop}
 use lib.Seq.{length-take-le}
 use borrow.Rule.Slice.PartMut.{same-len-mid}
-use Rattle.shapes.specs.declared.Scan.{Scan}
+use Rattle.fields.specs.declared.Scan.{Scan}
 use Rattle.shapes.specs.Shape.{Shape}
-use Rattle.shapes.specs.Reading.{place, times}
-use Rattle.shapes.specs.Promises.{Live}
+use Rattle.fields.specs.Reading.{place, times}
+use Rattle.fields.specs.Promises.{Live}
 use Rattle.sheets.specs.LibrarySheet.{pattern}
 use Rattle.sheets.specs.Layout.{row, tableFrom}
 use Rattle.sheets.proofs.Laws.{rows-turn}

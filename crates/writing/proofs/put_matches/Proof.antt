@@ -2,7 +2,7 @@ use native.Mathlib.Omega.{arith}
 use Prim.Native.Nat.{_≤_, _-_, _+_, _*_}
 use mathlib.Core.Path.{_≡_, refl, _∙_}
 use lib.ListN.{length}
-use Rattle.covers.specs.CoverSheet.{written}
+use Rattle.fields.specs.Written.{written}
 use Rattle.writing.proofs.Laws.{matchesFrom, match-turn, matches-done}
 use Rattle.writing.proofs.put_matches.Statement.{statement}
 use Rattle.writing.proofs.put_matches.Tie as tie

@@ -2,7 +2,8 @@ use native.Mathlib.Omega.{arith}
 use Prim.Native.Nat.{_≤_, _-_, _+_, _*_}
 use mathlib.Core.Path.{_≡_, refl, _∙_}
 use lib.ListN.{length}
-use Rattle.covers.specs.CoverSheet.{written, pointFields}
+use Rattle.covers.specs.CoverSheet.{pointFields}
+use Rattle.fields.specs.Written.{written}
 use Rattle.writing.specs.Written.{pointsOf}
 use Rattle.writing.proofs.Laws.{point-turn, points-done}
 use Rattle.writing.proofs.put_points.Statement.{statement}

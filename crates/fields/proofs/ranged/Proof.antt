@@ -1,8 +1,8 @@
 use borrow.Author.Needs.{needs}
-use Rattle.shapes.specs.Reading.{within}
-use Rattle.shapes.proofs.Laws.{settled-field, both, within-passes}
-use Rattle.shapes.proofs.ranged.Statement.{statement}
-use Rattle.shapes.proofs.ranged.Tie as tie
+use Rattle.fields.specs.Reading.{within}
+use Rattle.fields.proofs.Laws.{settled-field, both, within-passes}
+use Rattle.fields.proofs.ranged.Statement.{statement}
+use Rattle.fields.proofs.ranged.Tie as tie
 
 raw-requires : tie.Need-raw-requires
 raw-requires c κs = search needs

@@ -1,7 +1,7 @@
 use borrow.Author.Tests.{le-leb, lt-leb}
-use Rattle.shapes.specs.Reading.{within}
-use Rattle.shapes.proofs.in_range.Statement.{statement}
-use Rattle.shapes.proofs.in_range.Tie as tie
+use Rattle.fields.specs.Reading.{within}
+use Rattle.fields.proofs.in_range.Statement.{statement}
+use Rattle.fields.proofs.in_range.Tie as tie
 
 returns : tie.Need-returns
 unfolding within

@@ -5,18 +5,22 @@ use Prim.Native.Nat.{ℕ, zero, suc}
 use mathlib.Core.List.{List, [], _∷_, _++_}
 use mathlib.Core.Bool.{cond, _&&_}
 use lib.Dec.{leb}
-use Rattle.bits.specs.Bits.{fieldAt, endsAt}
-use Rattle.bits.specs.declared.Field as Field
-use Rattle.shapes.specs.declared.Fault.the-variants.{Truncated, Tail, Range}
-use Rattle.shapes.specs.declared.Scan.{Scan}
-use Rattle.shapes.specs.declared.Scan.the-variants.{At, Refused}
-use Rattle.shapes.specs.declared.Verdict.{Verdict}
-use Rattle.shapes.specs.declared.Verdict.the-variants.{Sound, Faulty}
+use Rattle.bits.specs.Bits.{placeOf, cursorAt, fieldAt, endsAt}
+use Rattle.bits.specs.declared.FieldRead as FieldRead
+use Rattle.fields.specs.declared.Fault.the-variants.{Truncated, Tail, Range}
+use Rattle.fields.specs.declared.Scan.{Scan}
+use Rattle.fields.specs.declared.Scan.the-variants.{At, Refused}
+use Rattle.fields.specs.declared.Verdict.{Verdict}
+use Rattle.fields.specs.declared.Verdict.the-variants.{Sound, Faulty}
 
 -- Where a scan stands, or was refused.
 abbrev pub place : Scan → ℕ
-place (At c) = c .at
+place (At c) = placeOf c
 place (Refused f p) = p
+
+-- The scan of a whole sheet starts at its first bit.
+abbrev pub start : Scan
+start = At (cursorAt 0)
 
 -- A reader takes a scan to a value and the next scan.
 abbrev pub Reader : Type 0 → Type 0
@@ -50,17 +54,17 @@ abbrev pub settled : ℕ → Verdict → ℕ → Scan → ℕ × Scan
 settled p Sound x c = (x, c)
 settled p (Faulty f) x c = (0, Refused f p)
 
-abbrev pub found : ℕ → (ℕ → Verdict) → Field.Field → ℕ × Scan
-found p verdict Field.the-variants.Truncated = (0, Refused Truncated p)
-found p verdict (Field.the-variants.Value x c) = settled p (verdict x) x (At c)
+abbrev pub taken : ℕ → (ℕ → Verdict) → FieldRead.FieldRead → ℕ × Scan
+taken p verdict FieldRead.the-variants.Truncated = (0, Refused Truncated p)
+taken p verdict (FieldRead.the-variants.Value x c) = settled p (verdict x) x (At c)
 
 module _ (s : List ℕ) where
   -- A field of w bits. That the bytes end before or inside it is the first fault looked for.
   abbrev pub field : ℕ → (ℕ → Verdict) → Reader ℕ
-  field w verdict (At c) = found (c .at) verdict (fieldAt s (c .at) w)
+  field w verdict (At c) = taken (placeOf c) verdict (fieldAt s (placeOf c) w)
   field w verdict (Refused f p) = (0, Refused f p)
 
   -- The end of a sheet: zero bits to the byte, and no byte more.
   abbrev pub ended : Scan → Scan
-  ended (At c) = cond (endsAt s (c .at)) (At c) (Refused Tail (c .at))
+  ended (At c) = cond (endsAt s (placeOf c)) (At c) (Refused Tail (placeOf c))
   ended (Refused f p) = Refused f p

@@ -1,7 +1,7 @@
 use borrow.Author.Needs.{needs}
-use Rattle.shapes.proofs.Laws.{settling-faulty}
-use Rattle.shapes.proofs.settle.Statement.{statement}
-use Rattle.shapes.proofs.settle.Tie as tie
+use Rattle.fields.proofs.Laws.{settling-faulty}
+use Rattle.fields.proofs.settle.Statement.{statement}
+use Rattle.fields.proofs.settle.Tie as tie
 
 enum-told : tie.Need-enum-told
 enum-told c = search needs

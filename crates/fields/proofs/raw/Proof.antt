@@ -1,0 +1,60 @@
+use borrow.Author.Needs.{needs}
+use native.Mathlib.Omega.{arith}
+use Prim.Native.Nat.{ℕ}
+use mathlib.Core.Path.{ap, sym, _∙_}
+use Rattle.fields.specs.declared.Fault.the-variants.{Truncated}
+use Rattle.fields.specs.declared.Scan.the-variants.{Refused}
+use Rattle.bits.specs.Bits.{placeOf}
+use Rattle.fields.specs.Reading.{place, taken, free}
+use Rattle.fields.proofs.Laws.{reads-taken}
+use Rattle.fields.proofs.raw.Statement.{statement}
+use Rattle.fields.proofs.raw.Tie as tie
+
+enum-known-scan : tie.Need-enum-known-scan
+enum-known-scan c = search needs
+
+enum-told : tie.Need-enum-told
+enum-told c = search needs
+
+returns : tie.Need-returns
+returns c = search needs
+
+place-requires : tie.Need-place-requires
+place-requires c κs = search needs
+
+field-requires : tie.Need-field-requires
+field-requires c κs = omega (arith, ap place (c .before .before .scan .given .1))
+
+enum-known-value : tie.Need-enum-known-value
+enum-known-value c = search needs
+
+enum-told-2 : tie.Need-enum-told-2
+enum-told-2 c = search needs
+
+returns-2 : tie.Need-returns-2
+returns-2 c =
+    let a = c .before .before .before .before .before .before .before .before .args in
+    let k = c .before .before .before .before .before .scan .given in
+    reads-taken (a .s .now) (a .width) (a .scan) (k .0 .0) (c .before .before .field .result) _ (omega arith) (k .1) (c .before .before .field .ensures)
+    (ap (λ (p : ℕ). (0, Refused Truncated p)) (c .before .before .before .place .ensures) ∙ ap (taken (placeOf (k .0 .0)) free) (sym (c .enum-told2 .given .1)))
+
+returns-3 : tie.Need-returns-3
+returns-3 c =
+    let a = c .before .before .before .before .before .before .before .before .before .args in
+    let k = c .before .before .before .before .before .before .scan .given in
+    reads-taken (a .s .now) (a .width) (a .scan) (k .0 .0) (c .before .before .before .field .result) _ (omega arith) (k .1) (c .before .before .before .field .ensures)
+    (ap (taken (placeOf (k .0 .0)) free) (sym (c .before .value .given .1)))
+
+pub raw-spec : {M : Type 1} → statement M
+raw-spec =
+    tie.close
+    (tie.spec
+    enum-known-scan
+    enum-told
+    returns
+    place-requires
+    field-requires
+    enum-known-value
+    enum-told-2
+    returns-2
+    returns-3)
