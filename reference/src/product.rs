@@ -40,6 +40,8 @@ macro_rules! mappers {
 }
 
 mappers!(treecover_map, treecover_list);
+#[cfg(feature = "before")]
+mappers!(before_map);
 
 /// The product's answer: a refusal, number × 2^32 + place, or the bytes written.
 pub fn run(operation: Operation, library: &[u8], tree: &[u8], output: &mut [u8], work: &mut [u64]) -> u64 {
@@ -47,6 +49,16 @@ pub fn run(operation: Operation, library: &[u8], tree: &[u8], output: &mut [u8],
         Operation::Map => treecover_map,
         Operation::List => treecover_list,
     };
+    call(function, library, tree, output, work)
+}
+
+/// The answer of an earlier product's map.
+#[cfg(feature = "before")]
+pub fn map_before(library: &[u8], tree: &[u8], output: &mut [u8], work: &mut [u64]) -> u64 {
+    call(before_map, library, tree, output, work)
+}
+
+fn call(function: Function, library: &[u8], tree: &[u8], output: &mut [u8], work: &mut [u64]) -> u64 {
     // It reads within the first two slices and writes within the others.
     unsafe {
         function(

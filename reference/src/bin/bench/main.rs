@@ -2,7 +2,7 @@
 //!
 //! `bench`: a table of times and ratios.
 //! `bench repeat COUNT WHO ROW`: so many maps of a row (`typical`, `chain`, `comb`, `deep`) by
-//! `product`, `plain` or `merging`, for a profiler that counts instructions: two counts,
+//! `product`, `plain`, `merging` or, if it is linked, `before`, for a profiler that counts instructions: two counts,
 //! and the difference is free of what comes before the first map.
 
 mod clock;

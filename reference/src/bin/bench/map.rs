@@ -12,7 +12,14 @@ struct Row {
     tree: Vec<u8>,
 }
 
-const WHO: [&str; 3] = ["product", "plain", "merging"];
+/// Who maps: the product first, and an earlier one last, if it is linked.
+fn who() -> Vec<&'static str> {
+    let mut who = vec!["product", "plain", "merging"];
+    if cfg!(feature = "before") {
+        who.push("before");
+    }
+    who
+}
 
 pub fn run() {
     for (name, problem) in heavy::all() {
@@ -21,15 +28,18 @@ pub fn run() {
             format!("{} cells, {} patterns, {} nodes", library.cells.len(), library.pattern_count(), tree.nodes.len());
         let row = Row { library: problem.library_sheet(), tree: problem.tree_sheet() };
         let calls = if name == "typical" { 200 } else { 2 };
-        let contestants = WHO.iter().map(|who| row.contestant(who)).collect();
+        let contestants = who().iter().map(|who| row.contestant(who)).collect();
         let times = medians(31, calls, contestants);
         println!("map, {name} ({sizes}):");
-        println!("  product {:.0} ns, plain Rust {:.0} ns, merging {:.0} ns", times[0], times[1], times[2]);
-        println!("  product to plain Rust {:.2}, to merging {:.2}", times[0] / times[1], times[0] / times[2]);
+        print!("  product {:.0} ns", times[0]);
+        for (who, time) in who().iter().zip(&times).skip(1) {
+            print!("; {who} {time:.0} ns, ratio {:.3}", times[0] / time);
+        }
+        println!();
     }
 }
 
-/// Some maps of a row by one of the three, if the arguments ask for it.
+/// Some maps of a row by one of them, if the arguments ask for it.
 pub fn repeat(arguments: Vec<String>) -> bool {
     let [word, count, who, name] = arguments.as_slice() else { return false };
     let named = heavy::all().into_iter().find(|(row, _)| row == name);
@@ -51,6 +61,12 @@ impl Row {
                 assert_eq!(length, expected.len() as u64);
                 assert_eq!(output[..expected.len()], expected);
             }),
+            #[cfg(feature = "before")]
+            "before" => Box::new(move || {
+                let length = product::map_before(black_box(&self.library), &self.tree, &mut output, &mut work);
+                assert_eq!(length, expected.len() as u64);
+                assert_eq!(output[..expected.len()], expected);
+            }),
             "plain" => Box::new(move || {
                 let length =
                     deadline::run(Operation::Map, black_box(&self.library), &self.tree, &mut output, &mut work);
@@ -61,7 +77,7 @@ impl Row {
                 let sheet = Operation::Map.run(Lent::ENOUGH, black_box(&self.library), &self.tree);
                 assert_eq!(sheet.as_ref(), Ok(&expected));
             }),
-            _ => panic!("product, plain or merging"),
+            _ => panic!("product, plain, merging or, with an earlier product linked, before"),
         }
     }
 }
