@@ -11,7 +11,7 @@ use native.Mathlib.Nat.{add-zero, eq-or-lt-of-le}
 use native.Mathlib.Omega.{arith}
 use lib.ListN.{length, getD, take, drop, set, length-append, length-map}
 use lib.Dec.{leb, ltb}
-use lib.Seq.{sets, sets-eq, getD-set-other, getD-set-same, getD-take, getD-drop, take-all, take-at, take-append-add, take-set-le, drop-at, drop-set-lt, drop-set-add, length-take-le, set-out}
+use lib.Seq.{sets, sets-eq, getD-set-other, getD-set-same, take-all, take-at, take-append-add, take-set-le, drop-at, drop-set-lt, drop-set-add, length-take-le, set-out}
 use Rattle.shapes.proofs.Sets.{sets-append}
 use Rattle.covers.specs.Cover.{Point, late, raised, leafPoint}
 use Rattle.covers.specs.Choice.{before, lesser}
@@ -21,7 +21,7 @@ use Rattle.covers.proofs.Points.{point-path}
 use Rattle.curves.specs.Words.{pointLimit, stored, curveAt, Small, AgreeFrom}
 use Rattle.curves.specs.Best.{rowOf, rowArea, rowIllegal, rowCount, inputSize, inputPlace, inputNode, inputBin, inputLoad, rowDelay, inputBest, inputLate, inputsBest, rowBest, legalBest, rowsBest, Above}
 use Rattle.curves.specs.Promises.{bestBefore, nodePoints, CurveStored, Fit}
-use Rattle.curves.proofs.Laws.{word-point, apart}
+use Rattle.curves.proofs.Laws.{word-point, apart, part-word}
 
 -- ---- the other curves
 
@@ -185,7 +185,7 @@ curve-laid most work i ps z h g f =
     let rest = take left (drop (a + n) work) in
     let cut : drop a (sets work a ws) ≡ ws ++ drop (a + n) work = ap (drop a) (sets-eq ws work a (omega arith) ∙ append-assoc (take a work) ws (drop (a + n) work)) ∙ drop-at (take a work) (ws ++ drop (a + n) work) a (length-take-le a work (omega arith)) in
     let words : curveAt most (sets work a ws) i ≡ ws ++ rest = ap₂ (λ (m : ℕ) (l : List ℕ). take m l) split cut ∙ take-append-add ws (drop (a + n) work) left in
-    let next : getD rest 0 0 ≡ 0 = rw (getD-take left (drop (a + n) work) 0 0 (omega arith), getD-drop (a + n) work 0 0, add-zero (a + n)) (sym (getD-take (most + 1) (drop a work) n 0 (omega arith) ∙ getD-drop a work n 0) ∙ z n) in
+    let next : getD rest 0 0 ≡ 0 = rw (part-word left (a + n) work 0 (omega arith), add-zero (a + n)) (sym (part-word (most + 1) a work n (omega arith)) ∙ z n) in
     ap stored words ∙ stored-words ps rest f next
 
 -- Every point found by deadline is the best before some instant.

@@ -8,7 +8,7 @@ use Prim.Native.Nat.{ℕ, zero, suc, _+_, _-_, _*_, _/_, _%_, _≤_, _<_, min, m
 use native.Mathlib.Nat.{div-add-mod', mul-suc, mul-le-mul, mul-le-mul-left, mod-eq-of-lt, div-eq-of-lt}
 use native.Mathlib.Numerals.{add-one}
 use native.Mathlib.Omega.{arith}
-use lib.ListN.{length, getD, take, drop, length-drop, length-take, List·getD-eq-default}
+use lib.ListN.{length, getD, take, drop, length-drop, length-take, drop-of-length-le, List·getD-eq-default}
 use lib.Seq.{length-take-le, getD-take, getD-drop, drop-cons}
 use borrow.Author.Tests.{eq-eqb, ne-eqb, lt-ltb, le-ltb, le-leb, lt-leb}
 use Rattle.covers.specs.Cover.{Point, late, raised, beside, leafArrival, leafPoint}
@@ -16,7 +16,7 @@ use Rattle.covers.specs.Choice.{before, lesser}
 use Rattle.covers.specs.Curve.{base, both, lookup, pointOf, wordOf}
 use Rattle.covers.proofs.Points.{point-path, both-assoc, Leq, smaller, earlier, pick-left, pick-right, lesser-none}
 use Rattle.covers.proofs.Basics.{lt-or-le}
-use Rattle.curves.specs.Words.{absent, pointLimit, matchLimit, stored, tableOf, Small, WorkArea}
+use Rattle.curves.specs.Words.{absent, pointLimit, matchLimit, stored, tableOf, Small, ZeroBelow, WorkArea}
 use Rattle.curves.specs.Best.{rowWords, rowOf, rowArea, rowIllegal, rowCount, inputSize, inputPlace, inputNode, inputBin, inputLoad, rowDelay, inputBest, inputLate, inputsBest, rowBest, legalBest, rowsBest, RowSafe, Tables, Matches}
 use Rattle.curves.specs.Promises.{Worth}
 
@@ -50,26 +50,52 @@ slot-within {most} w at h = let ends = apart (most + 1) {i = at} {j = 256} h in 
 pub part-length : (w a : ℕ) (l : List ℕ) → a + w ≤ length l → length (take w (drop a l)) ≡ w
 part-length w a l h = length-take-le w (drop a l) (omega (arith, length-drop a l))
 
-pub part-small : (w a : ℕ) (l : List ℕ) → Small l → Small (take w (drop a l))
-part-small w a l s k = go (lt-or-le k w)
+pub part-word : (w a : ℕ) (l : List ℕ) (k : ℕ) → k < w → getD (take w (drop a l)) k 0 ≡ getD l (a + k) 0
+part-word w a l k h = getD-take w (drop a l) k 0 h ∙ getD-drop a l k 0
+
+pub part-words : (P : ℕ → Type 0) → P 0 → (w a : ℕ) (l : List ℕ) → ((k : ℕ) → P (getD l k 0)) → (k : ℕ) → P (getD (take w (drop a l)) k 0)
+part-words P z w a l all k = go (lt-or-le k w)
   where
-    go : (k < w) ⊎ (w ≤ k) → getD (take w (drop a l)) k 0 < pointLimit
-    go (inl h) = rw (getD-take w (drop a l) k 0 h, getD-drop a l k 0) (s (a + k))
-    go (inr h) = rw (List·getD-eq-default (take w (drop a l)) 0 {n = k} (omega (arith, length-take w (drop a l)))) (omega arith)
+    go : (k < w) ⊎ (w ≤ k) → P (getD (take w (drop a l)) k 0)
+    go (inl h) = rw (part-word w a l k h) (all (a + k))
+    go (inr h) = rw (List·getD-eq-default (take w (drop a l)) 0 {n = k} (omega (arith, length-take w (drop a l)))) z
 
--- From place k on in a curve: the word there ends it, is before the instant, or is not.
+pub part-small : (w a : ℕ) (l : List ℕ) → Small l → Small (take w (drop a l))
+part-small = part-words (λ x. x < pointLimit) (omega arith)
+
+pub zero-curves : (most : ℕ) (work : List ℕ) → ((k : ℕ) → getD work k 0 ≡ 0) → (i : ℕ) → ZeroBelow most i work
+zero-curves most work z i j h = part-words (λ x. x ≡ 0) refl (most + 1) ((most + 1) * j) work z
+
+-- From place k on in a curve: a word that ends it, or one for a point.
+module _ (curve : List ℕ) (k : ℕ) where
+  pub stored-end : getD curve k 0 ≡ 0 → stored (drop k curve) ≡ []
+  unfolding stored
+  stored-end e = go (lt-or-le k (length curve))
+    where
+      go : (k < length curve) ⊎ (length curve ≤ k) → stored (drop k curve) ≡ []
+      go (inl h) = unfold stored in rw (drop-cons curve k 0 h, eq-eqb (getD curve k 0) 0 e)
+      go (inr h) = unfold stored in rw (drop-of-length-le curve h)
+
+  pub stored-more : (getD curve k 0 ≡ 0 → ⊥) → stored (drop k curve) ≡ pointOf (getD curve k 0) ∷ stored (drop (k + 1) curve)
+  stored-more n = go (lt-or-le k (length curve))
+    where
+      go : (k < length curve) ⊎ (length curve ≤ k) → stored (drop k curve) ≡ pointOf (getD curve k 0) ∷ stored (drop (k + 1) curve)
+      go (inl h) = unfold stored in rw (drop-cons curve k 0 h, add-one, ne-eqb (getD curve k 0) 0 n)
+      go (inr h) = absurd (n (List·getD-eq-default curve 0 {n = k} h))
+
+-- That word is before the instant, or is not.
 module _ (curve : List ℕ) (end k : ℕ) where
-  pub found-end : k < length curve → getD curve k 0 ≡ 0 → lookup end (stored (drop k curve)) ≡ none
-  unfolding stored lookup
-  found-end h e = rw (drop-cons curve k 0 h, eq-eqb (getD curve k 0) 0 e)
+  pub found-end : getD curve k 0 ≡ 0 → lookup end (stored (drop k curve)) ≡ none
+  unfolding lookup
+  found-end e = ap (lookup end) (stored-end curve k e)
 
-  pub found-here : k < length curve → (getD curve k 0 ≡ 0 → ⊥) → getD curve k 0 % base < end → lookup end (stored (drop k curve)) ≡ some (pointOf (getD curve k 0))
-  unfolding stored lookup pointOf
-  found-here h e t = rw (drop-cons curve k 0 h) (simp (ne-eqb (getD curve k 0) 0 e, lt-ltb (getD curve k 0 % base) end t))
+  pub found-here : (getD curve k 0 ≡ 0 → ⊥) → getD curve k 0 % base < end → lookup end (stored (drop k curve)) ≡ some (pointOf (getD curve k 0))
+  unfolding lookup pointOf
+  found-here n t = ap (lookup end) (stored-more curve k n) ∙ rw (lt-ltb (getD curve k 0 % base) end t)
 
-  pub found-later : k < length curve → 0 < end → end ≤ getD curve k 0 % base → lookup end (stored (drop k curve)) ≡ lookup end (stored (drop (k + 1) curve))
-  unfolding stored lookup pointOf
-  found-later h z t = rw (drop-cons curve k 0 h, add-one) (simp (ne-eqb (getD curve k 0) 0 (λ e. absurd (omega arith)), le-ltb (getD curve k 0 % base) end t))
+  pub found-later : 0 < end → end ≤ getD curve k 0 % base → lookup end (stored (drop k curve)) ≡ lookup end (stored (drop (k + 1) curve))
+  unfolding lookup pointOf
+  found-later z t = ap (lookup end) (stored-more curve k (λ e. absurd (omega arith))) ∙ rw (le-ltb (getD curve k 0 % base) end t)
 
 pub found-never : (ps : List Point) (end : ℕ) → end ≡ 0 → lookup end ps ≡ none
 unfolding lookup

@@ -147,7 +147,15 @@ fn later(a: u64, b: u64) -> u64
 }
 
 // The least point before `end` of the input whose words stand from `at` on in a match's row, as the match sees it.
-fn input_word(row: &[u32], symbols: &[u32], work: &[u64], most: usize, load: u32, end: u64, at: usize) -> u64
+fn input_word(
+    row: &[u32],
+    symbols: &[u32],
+    work: &[u64],
+    most: usize,
+    load: u32,
+    end: u64,
+    at: usize,
+) -> u64
     requires { ⌜ Tables most (now row) (now symbols) (now work) ⌝ }
     requires { ⌜ InputSafe (now row) at ⌝ }
     requires { ⌜ (load ≤ 255) × (end ≤ base) ⌝ }
@@ -183,7 +191,15 @@ fn best_match(row: &[u32], symbols: &[u32], work: &[u64], most: usize, load: u32
     let mut arrival: u64 = 0;
     let mut k = 0;
     while k < count {
-        let w = input_word(row, symbols, work, most, load, end, Row::INPUTS + Row::INPUT * k);
+        let w = input_word(
+            row,
+            symbols,
+            work,
+            most,
+            load,
+            end,
+            Row::INPUTS + Row::INPUT * k,
+        );
         if w == Words::ABSENT {
             return Words::ABSENT;
         }

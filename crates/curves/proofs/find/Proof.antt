@@ -1,8 +1,7 @@
 use native.Mathlib.Omega.{arith}
-use Prim.Native.Nat.{ℕ, _+_, _-_, _≤_}
-use mathlib.Core.Path.{_≡_, refl, ap, _∙_}
-use mathlib.Core.List.{List}
-use lib.ListN.{length, getD, drop, drop-of-length-le}
+use Prim.Native.Nat.{_-_, _≤_}
+use mathlib.Core.Path.{_≡_, refl, _∙_}
+use lib.ListN.{length, getD, drop, List·getD-eq-default}
 use Rattle.covers.specs.Curve.{lookup}
 use Rattle.curves.specs.Words.{pointLimit, stored}
 use Rattle.curves.proofs.Laws.{worth-none, worth-point, found-end, found-here, found-later, found-never}
@@ -25,7 +24,7 @@ returns-2 : tie.Need-returns-2 Inv-loop μ-loop
 returns-2 c =
     let a = c .before .before .before .before .before .before .args in
     let i = c .before .before .before .before .loop in
-    worth-none pointLimit (a .end) _ (i .inv .1 ∙ found-end (a .curve .now) (a .end) (i .k) (c .before .before .before .loop-test .taken) (c .if3 .taken))
+    worth-none pointLimit (a .end) _ (i .inv .1 ∙ found-end (a .curve .now) (a .end) (i .k) (c .if3 .taken))
 
 returns-3 : tie.Need-returns-3 Inv-loop μ-loop
 returns-3 c =
@@ -33,20 +32,19 @@ returns-3 c =
     let i = c .before .before .before .before .loop in
     let small = c .before .before .before .before .before .before .pre (i .k) in
     worth-point pointLimit (a .end) (getD (a .curve .now) (i .k) 0) _ small (omega arith) (c .before .if2 .taken)
-    (i .inv .1 ∙ found-here (a .curve .now) (a .end) (i .k) (c .before .before .before .loop-test .taken) (c .if3 .left) (c .before .if2 .taken))
+    (i .inv .1 ∙ found-here (a .curve .now) (a .end) (i .k) (c .if3 .left) (c .before .if2 .taken))
 
 loop-again : tie.Need-loop-again Inv-loop μ-loop
 loop-again c =
     let a = c .before .before .before .before .before .args in
     let i = c .before .before .before .loop in
-    (omega arith, i .inv .1 ∙ found-later (a .curve .now) (a .end) (i .k) (c .before .before .loop-test .taken) (omega (arith, c .before .before .before .before .if1 .left)) (c .if2 .left))
+    (omega arith, i .inv .1 ∙ found-later (a .curve .now) (a .end) (i .k) (omega (arith, c .before .before .before .before .if1 .left)) (c .if2 .left))
 
 returns-4 : tie.Need-returns-4 Inv-loop μ-loop
-unfolding stored lookup
 returns-4 c =
     let a = c .before .before .before .args in
     let i = c .before .loop in
-    worth-none pointLimit (a .end) _ (i .inv .1 ∙ ap (λ (ws : List ℕ). lookup (a .end) (stored ws)) (drop-of-length-le (a .curve .now) (c .loop-test .left)))
+    worth-none pointLimit (a .end) _ (i .inv .1 ∙ found-end (a .curve .now) (a .end) (i .k) (List·getD-eq-default (a .curve .now) 0 {n = i .k} (c .loop-test .left)))
 
 mul-w : tie.Need-mul-w Inv-loop μ-loop
 mul-w c = omega arith
