@@ -1,139 +1,155 @@
 -- What is stored at a node changes nothing that is read at later nodes; a curve grows point by point.
 use mathlib.Core.Path.{_≡_, refl, sym, ap, ap₂, subst, _∙_}
 use mathlib.Core.List.{List, [], _∷_, _++_, map, map-append, append-assoc, append-nil, List·Memᴰ, List·Memᴰ·head, List·Memᴰ·tail, List·Memᴰ·not-nil, List·Memᴰ·cases-cons}
-use mathlib.Core.Bool.{Bool, cond}
+use mathlib.Core.Bool.{cond}
 use mathlib.Core.Option.{Option, none, some, Option·map}
 use mathlib.Core.Logic.{_⊎_, inl, inr, ⊎-elim}
 use borrow.Author.Tests.{eq-eqb, ne-eqb}
 use Prim.Native.Nat.{ℕ, zero, suc, _+_, _-_, _*_, _%_, _≤_, _<_}
 use native.Mathlib.Decide.{ℕ-discrete}
+use native.Mathlib.Nat.{add-zero, eq-or-lt-of-le}
 use native.Mathlib.Omega.{arith}
-use lib.ListN.{length, getD, take, drop, set, length-append, length-map, length-set}
-use lib.Dec.{leb, eqb}
-use lib.Seq.{sets, getD-set-other, getD-set-same, take-all, take-append-seam, set-out}
-use Rattle.fields.proofs.Lists.{sets-append, before-sets}
-use Rattle.covers.specs.Cover.{Point, late, raised}
+use lib.ListN.{length, getD, take, drop, set, length-append, length-map}
+use lib.Dec.{leb, ltb}
+use lib.Seq.{sets, sets-eq, getD-set-other, getD-set-same, take-all, take-at, take-append-add, take-set-le, drop-at, drop-set-lt, drop-set-add, length-take-le, set-out}
+use Rattle.fields.proofs.Lists.{sets-append}
+use Rattle.covers.specs.Cover.{Point, late, raised, leafPoint}
 use Rattle.covers.specs.Choice.{before, lesser}
 use Rattle.covers.proofs.Basics.{lt-or-le}
 use Rattle.covers.specs.Curve.{base, both, byDeadline, chained, lookup, pointOf, wordOf}
 use Rattle.covers.proofs.Points.{point-path}
-use Rattle.curves.specs.Words.{stored, Small, AgreeFrom}
-use Rattle.curves.specs.Best.{inputBest, inputLate, rowDelay, inputsBest, rowBest, legalBest, rowsBest, Above}
-use Rattle.curves.specs.Promises.{bestBefore, CurveStored, Fit}
-use Rattle.curves.proofs.Laws.{word-point}
+use Rattle.curves.specs.Words.{pointLimit, stored, curveAt, Small, AgreeFrom}
+use Rattle.curves.specs.Best.{rowOf, rowArea, rowIllegal, rowCount, inputSize, inputPlace, inputNode, inputBin, inputLoad, rowDelay, inputBest, inputLate, inputsBest, rowBest, legalBest, rowsBest, Above}
+use Rattle.curves.specs.Promises.{bestBefore, nodePoints, CurveStored, Fit}
+use Rattle.curves.proofs.Laws.{word-point, apart, part-word}
 
--- ---- what stands above a place
+-- ---- the other curves
 
-pub sets-above : (l : List ℕ) (i : ℕ) (xs : List ℕ) → AgreeFrom (i + length xs) (sets l i xs) l
-sets-above l i [] k h = refl
-sets-above l i (x ∷ xs) k h = sets-above (set l i x) (suc i) xs k (omega arith) ∙ getD-set-other l i k x 0 (λ e. absurd (omega arith))
+-- What is written before a part, or after it, leaves the part as it is.
+drop-sets : (l : List ℕ) (i n : ℕ) (xs : List ℕ) → i + length xs ≤ n → drop n (sets l i xs) ≡ drop n l
+drop-sets l i n [] h = refl
+drop-sets l i n (x ∷ xs) h = drop-sets (set l i x) (suc i) n xs (omega arith) ∙ drop-set-lt n l i x (omega arith)
 
-pub stored-same : (work work′ : List ℕ) (m at n : ℕ) → m ≤ at → AgreeFrom m work work′ → stored work at n ≡ stored work′ at n
-unfolding stored
-stored-same work work′ m at zero h a = refl
-stored-same work work′ m at (suc n) h a =
-    ap₂ (λ (w : ℕ) (ps : List Point). cond (eqb w 0) [] (pointOf w ∷ ps)) (a at h) (stored-same work work′ m (suc at) n (omega arith) a)
+part-sets : (l : List ℕ) (a w i : ℕ) (xs : List ℕ) → a + w ≤ i → take w (drop a (sets l i xs)) ≡ take w (drop a l)
+part-sets l a w i [] h = refl
+part-sets l a w i (x ∷ xs) h =
+    let e : i ≡ a + (i - a) = omega arith in
+    part-sets (set l i x) a w (suc i) xs (omega arith)
+    ∙ ap (λ (n : ℕ). take w (drop a (set l n x))) e
+    ∙ ap (take w) (drop-set-add a l (i - a) x)
+    ∙ take-set-le w (drop a l) (i - a) x (omega arith)
 
-module _ (symbols work work′ : List ℕ) (m : ℕ) (a : AgreeFrom m work work′) where
-  input-same : (node bin end : ℕ) → m ≤ 128 * node → inputBest symbols work node bin end ≡ inputBest symbols work′ node bin end
+-- What is written into one curve leaves the others as they are.
+pub curve-other : (most : ℕ) (work : List ℕ) (i j : ℕ) (xs : List ℕ) → (j ≡ i → ⊥) → length xs ≤ most + 1 → curveAt most (sets work ((most + 1) * i) xs) j ≡ curveAt most work j
+curve-other most work i j xs n h = go (lt-or-le i j)
+  where
+    go : (i < j) ⊎ (j ≤ i) → curveAt most (sets work ((most + 1) * i) xs) j ≡ curveAt most work j
+    go (inl l) = ap (take (most + 1)) (drop-sets work ((most + 1) * i) ((most + 1) * j) xs (omega (arith, apart (most + 1) l)))
+    go (inr l) = let less : j < i = ⊎-elim (λ e. absurd (n e)) (λ m. m) (eq-or-lt-of-le l) in part-sets work ((most + 1) * j) (most + 1) ((most + 1) * i) xs (apart (most + 1) less)
+
+module _ (most : ℕ) (symbols work work′ : List ℕ) (m : ℕ) (a : AgreeFrom most m work work′) where
+  input-same : (node bin load end : ℕ) → m ≤ 4 * node → inputBest most symbols work node bin load end ≡ inputBest most symbols work′ node bin load end
   unfolding inputBest
-  input-same node bin end h =
-      ap (λ (ps : List Point). cond (leb 2 (getD symbols node 0)) (before end (record { area = 0; arrival = getD symbols node 0 - 2 })) (lookup end ps))
-      (stored-same work work′ m (128 * node + 32 * bin) 32 (omega arith) a)
+  input-same node bin load end h =
+      ap (λ (ws : List ℕ). cond (leb 2 (getD symbols node 0)) (before end (leafPoint (getD symbols node 0 - 2) load)) (lookup end (stored ws))) (a (4 * node + bin) (omega arith))
 
-  inputs-same : (row : List ℕ) (load end at k : ℕ) → ((i : ℕ) → i < k → m ≤ 128 * getD row (at + 4 * i) 0) →
-      inputsBest symbols work row load end at k ≡ inputsBest symbols work′ row load end at k
-  unfolding inputsBest inputLate rowDelay
+  inputs-same : (row : List ℕ) (load end at k : ℕ) → ((i : ℕ) → i < k → m ≤ 4 * inputNode row (at + inputSize * i)) →
+      inputsBest most symbols work row load end at k ≡ inputsBest most symbols work′ row load end at k
+  unfolding inputsBest inputLate
   inputs-same row load end at zero h = refl
   inputs-same row load end at (suc k) h =
-      let d = getD row (at + 2) 0 + getD row (at + 3) 0 * load in
-      let here : m ≤ 128 * getD row at 0 = subst (λ (i : ℕ). m ≤ 128 * getD row i 0) (omega arith) (h 0 (omega arith)) in
-      ap₂ (λ (o o′ : Option Point). both (Option·map (late d) o) o′) (input-same (getD row at 0) (getD row (at + 1) 0) (end - d) here)
-      (inputs-same row load end (at + 4) k (λ i l. subst (λ (j : ℕ). m ≤ 128 * getD row j 0) (omega arith) (h (suc i) (omega arith))))
+      let d = rowDelay row at load in
+      let here : m ≤ 4 * inputNode row at = subst (λ (i : ℕ). m ≤ 4 * inputNode row i) (omega arith) (h 0 (omega arith)) in
+      ap₂ (λ (o o′ : Option Point). both (Option·map (late d) o) o′) (input-same (inputNode row at) (inputBin row at) (inputLoad row at) (end - d) here)
+      (inputs-same row load end (at + inputSize) k (λ i l. subst (λ (j : ℕ). m ≤ 4 * inputNode row j) (omega arith) (h (suc i) (omega arith))))
 
-  pub rows-same : (found : List ℕ) (load end n : ℕ) → ((j : ℕ) → j < n → (k : ℕ) → k < getD (take 68 (drop (68 * j) found)) 3 0 → m ≤ 128 * getD (take 68 (drop (68 * j) found)) (4 + 4 * k) 0) →
-      rowsBest symbols work found load end n ≡ rowsBest symbols work′ found load end n
-  unfolding rowsBest legalBest rowBest
-  rows-same found load end zero h = refl
-  rows-same found load end (suc n) h =
-      let row = take 68 (drop (68 * n) found) in
-      ap₂ (λ (o o′ : Option Point). lesser o (cond (lib.Dec.ltb load (getD row 2 0)) (Option·map (raised (getD row 1 0)) o′) none))
-      (rows-same found load end n (λ j l. h j (omega arith))) (inputs-same row load end 4 (getD row 3 0) (h n (omega arith)))
+-- What is read of later nodes' curves alone is the same where those are.
+pub rows-same : (most : ℕ) (symbols work work′ : List ℕ) (at : ℕ) → AgreeFrom most (at + 1) work work′ → (found : List ℕ) (load end n : ℕ) → Above at found n →
+    rowsBest most symbols work found load end n ≡ rowsBest most symbols work′ found load end n
+unfolding rowsBest legalBest rowBest
+rows-same most symbols work work′ at a found load end zero h = refl
+rows-same most symbols work work′ at a found load end (suc n) h =
+    let row = rowOf found n in
+    ap₂ (λ (o o′ : Option Point). lesser o (cond (ltb load (rowIllegal row)) (Option·map (raised (rowArea row)) o′) none))
+    (rows-same most symbols work work′ at a found load end n (λ j l. h j (omega arith)))
+    (inputs-same most symbols work work′ (at + 1) a row load end (inputPlace 0) (rowCount row) (λ i l. omega (arith, h n (omega arith) i l)))
 
 -- ---- a curve, point by point
 
-module _ (symbols work found : List ℕ) (load count at : ℕ) where
-  -- k points are stored, and the rest of the first 32 by deadline are still to be found, before `end`.
+module _ (most : ℕ) (symbols work found : List ℕ) (load count at : ℕ) where
+  abbrev best : ℕ → Option Point
+  best = bestBefore most symbols work found load count
+
+  abbrev all : List Point
+  all = nodePoints most symbols work found load count
+
+  -- k points are stored, and the rest are still to be found, before `end`.
   pub record Growing (k end : ℕ) (work′ : List ℕ) : Type 0 where
     pub points : List Point
     pub many : length points ≡ k
-    pub so-far : byDeadline 32 (bestBefore symbols work found load count) base ≡ points ++ byDeadline (32 - k) (bestBefore symbols work found load count) end
-    pub laid : work′ ≡ sets work at (map wordOf points)
+    pub so-far : all ≡ points ++ byDeadline (most + 1 - k) best end
+    pub laid : work′ ≡ sets work ((most + 1) * at) (map wordOf points)
 
   pub growing-start : Growing 0 base work
-  growing-start = record { points = []; many = refl; so-far = refl; laid = refl }
+  growing-start = record { points = []; many = refl; so-far = ap (λ (n : ℕ). byDeadline n best base) (omega arith); laid = refl }
 
-  pub growing-next : (k end : ℕ) (work′ : List ℕ) (w : ℕ) → k < 32 → Growing k end work′ → bestBefore symbols work found load count end ≡ some (pointOf w) →
-      Growing (k + 1) (w % base) (set work′ (at + k) w)
-  unfolding byDeadline chained pointOf
+  -- The next point, if there is one.
+  step : (k end : ℕ) (o : Option Point) → k ≤ most → best end ≡ o → byDeadline (most + 1 - k) best end ≡ chained o (λ p. byDeadline (most - k) best (p .arrival))
+  unfolding byDeadline
+  step k end o h e =
+      let left : most + 1 - k ≡ suc (most - k) = omega arith in
+      ap (λ (n : ℕ). byDeadline n best end) left ∙ ap (λ (q : Option Point). chained q (λ p. byDeadline (most - k) best (p .arrival))) e
+
+  pub growing-next : (k end : ℕ) (work′ : List ℕ) (w : ℕ) → k < most → Growing k end work′ → best end ≡ some (pointOf w) → Growing (k + 1) (w % base) (set work′ ((most + 1) * at + k) w)
+  unfolding chained pointOf
   growing-next k end work′ w h g e =
-      let f = bestBefore symbols work found load count in
-      let left : 32 - k ≡ suc (32 - (k + 1)) = omega arith in
-      let step : byDeadline (32 - k) f end ≡ pointOf w ∷ byDeadline (32 - (k + 1)) f (w % base) =
-      ap (λ (n : ℕ). byDeadline n f end) left ∙ ap (λ (o : Option Point). chained o (λ p. byDeadline (32 - (k + 1)) f (p .arrival))) e in
+      let left : most - k ≡ most + 1 - (k + 1) = omega arith in
       record {
         points = g .points ++ (pointOf w ∷ []);
         many = length-append (g .points) (pointOf w ∷ []) ∙ ap (λ (n : ℕ). n + 1) (g .many);
-        so-far = g .so-far ∙ ap (λ (ps : List Point). g .points ++ ps) step ∙ sym (append-assoc (g .points) (pointOf w ∷ []) _);
+        so-far = g .so-far ∙ ap (λ (ps : List Point). g .points ++ ps) (step k end _ (omega arith) e ∙ ap (λ (n : ℕ). pointOf w ∷ byDeadline n best (w % base)) left)
+            ∙ sym (append-assoc (g .points) (pointOf w ∷ []) _);
         laid =
-            ap₂ (λ (l : List ℕ) (v : ℕ). set l (at + k) v) (g .laid) (sym (word-point w))
-            ∙ ap (λ (i : ℕ). set (sets work at (map wordOf (g .points))) (at + i) (wordOf (pointOf w))) (sym (length-map (g .points) wordOf ∙ g .many))
-            ∙ sym (sets-append work at (map wordOf (g .points)) (wordOf (pointOf w) ∷ []))
-            ∙ ap (sets work at) (sym (map-append wordOf (g .points) (pointOf w ∷ [])));
+            ap₂ (λ (l : List ℕ) (v : ℕ). set l ((most + 1) * at + k) v) (g .laid) (sym (word-point w))
+            ∙ ap (λ (i : ℕ). set (sets work ((most + 1) * at) (map wordOf (g .points))) ((most + 1) * at + i) (wordOf (pointOf w))) (sym (length-map (g .points) wordOf ∙ g .many))
+            ∙ sym (sets-append work ((most + 1) * at) (map wordOf (g .points)) (wordOf (pointOf w) ∷ []))
+            ∙ ap (sets work ((most + 1) * at)) (sym (map-append wordOf (g .points) (pointOf w ∷ [])));
       }
 
-  pub growing-done : (k end : ℕ) (work′ : List ℕ) → k ≤ 31 → Small work′ → Growing k end work′ → bestBefore symbols work found load count end ≡ none →
-      CurveStored symbols work found load count at work′ k
-  unfolding byDeadline chained
+  pub growing-done : (k end : ℕ) (work′ : List ℕ) → k ≤ most → Small work′ → Growing k end work′ → best end ≡ none → CurveStored most symbols work found load count at work′ k
+  unfolding chained
   growing-done k end work′ h sm g e =
-      let f = bestBefore symbols work found load count in
-      let left : 32 - k ≡ suc (31 - k) = omega arith in
-      let all : byDeadline 32 f base ≡ g .points =
-      g .so-far ∙ ap (λ (ps : List Point). g .points ++ ps) (ap (λ (n : ℕ). byDeadline n f end) left ∙ ap (λ (o : Option Point). chained o (λ p. byDeadline (31 - k) f (p .arrival))) e)
-      ∙ append-nil (g .points) in
+      let whole : all ≡ g .points = g .so-far ∙ ap (λ (ps : List Point). g .points ++ ps) (step k end none h e) ∙ append-nil (g .points) in
       record {
-        counted = sym (ap length all ∙ g .many);
-        laid = g .laid ∙ ap (λ (ps : List Point). sets work at (map wordOf ps)) (sym (ap (take 31) all ∙ take-all 31 (g .points) (omega (arith, g .many))));
+        counted = sym (ap length whole ∙ g .many);
+        laid = g .laid ∙ ap (λ (ps : List Point). sets work ((most + 1) * at) (map wordOf ps)) (sym (ap (take most) whole ∙ take-all most (g .points) (omega (arith, g .many))));
         small = sm;
       }
 
-  pub growing-over : (end : ℕ) (work′ : List ℕ) (w : ℕ) → Small work′ → Growing 31 end work′ → bestBefore symbols work found load count end ≡ some (pointOf w) →
-      CurveStored symbols work found load count at work′ 32
-  unfolding byDeadline chained
+  pub growing-over : (end : ℕ) (work′ : List ℕ) (w : ℕ) → Small work′ → Growing most end work′ → best end ≡ some (pointOf w) → CurveStored most symbols work found load count at work′ (most + 1)
+  unfolding chained byDeadline
   growing-over end work′ w sm g e =
-      let f = bestBefore symbols work found load count in
-      let all : byDeadline 32 f base ≡ g .points ++ (pointOf w ∷ []) =
-      g .so-far ∙ ap (λ (ps : List Point). g .points ++ ps) (ap (λ (o : Option Point). chained o (λ p. byDeadline 0 f (p .arrival))) e) in
+      let done : most - most ≡ 0 = omega arith in
+      let whole : all ≡ g .points ++ (pointOf w ∷ []) =
+      g .so-far ∙ ap (λ (ps : List Point). g .points ++ ps) (step most end _ (omega arith) e ∙ ap (λ (n : ℕ). pointOf w ∷ byDeadline n best (pointOf w .arrival)) done) in
       record {
-        counted = sym (ap length all ∙ length-append (g .points) (pointOf w ∷ []) ∙ ap (λ (n : ℕ). n + 1) (g .many));
-        laid = g .laid ∙ ap (λ (ps : List Point). sets work at (map wordOf ps))
-            (sym (ap (take 31) all ∙ ap (λ (n : ℕ). take n (g .points ++ (pointOf w ∷ []))) (sym (g .many)) ∙ take-append-seam (g .points) (pointOf w ∷ [])));
+        counted = sym (ap length whole ∙ length-append (g .points) (pointOf w ∷ []) ∙ ap (λ (n : ℕ). n + 1) (g .many));
+        laid = g .laid ∙ ap (λ (ps : List Point). sets work ((most + 1) * at) (map wordOf ps)) (sym (ap (take most) whole ∙ take-at (g .points) (pointOf w ∷ []) most (g .many)));
         small = sm;
       }
 
   -- What is stored so far changes nothing that is read.
-  pub growing-same : (node k end : ℕ) (work′ : List ℕ) → at + 32 ≤ 128 * (node + 1) → k ≤ 31 → Growing k end work′ → Above node found count → (e : ℕ) →
-      rowsBest symbols work′ found load e count ≡ bestBefore symbols work found load count e
-  growing-same node k end work′ h l g above e =
-      rows-same symbols work′ work (128 * (node + 1))
-      (λ i le. ap (λ (q : List ℕ). getD q i 0) (g .laid) ∙ sets-above work at (map wordOf (g .points)) i (omega (arith, length-map (g .points) wordOf, g .many)))
-      found load e count (λ j lj i li. omega (arith, above j lj i li))
+  pub growing-same : (k end : ℕ) (work′ : List ℕ) → k ≤ most → Growing k end work′ → Above at found count → (e : ℕ) → rowsBest most symbols work′ found load e count ≡ best e
+  growing-same k end work′ l g above e =
+      rows-same most symbols work′ work at
+      (λ j le. ap (λ (q : List ℕ). curveAt most q j) (g .laid) ∙ curve-other most work at j (map wordOf (g .points)) (λ z. absurd (omega arith)) (omega (arith, length-map (g .points) wordOf, g .many)))
+      found load e count above
 
 -- One word more that is not too great.
-pub small-set : (work : List ℕ) (i w : ℕ) → Small work → w < 70368744177664 → Small (set work i w)
+pub small-set : (work : List ℕ) (i w : ℕ) → Small work → w < pointLimit → Small (set work i w)
 small-set work i w s h k = go (ℕ-discrete k i) (lt-or-le i (length work))
   where
-    go : Dec (k ≡ i) → (i < length work) ⊎ (length work ≤ i) → getD (set work i w) k 0 < 70368744177664
+    go : Dec (k ≡ i) → (i < length work) ⊎ (length work ≤ i) → getD (set work i w) k 0 < pointLimit
     go (no n) l = rw (getD-set-other work i k w 0 n) (s k)
     go (yes e) (inl l) = rw (e, getD-set-same work i w 0 l) h
     go (yes e) (inr l) = rw (set-out work i w l) (s k)
@@ -148,20 +164,29 @@ fit-word : (p : Point) → Fit p → wordOf p ≡ 0 → ⊥
 unfolding wordOf
 fit-word p f e = omega (arith, f .some-area)
 
-pub stored-laid : (work : List ℕ) (at n : ℕ) (ps : List Point) → ((k : ℕ) → at ≤ k → k < at + n → getD work k 0 ≡ 0) → length ps < n → at + n ≤ length work →
-    ((p : Point) → List·Memᴰ p ps → Fit p) → stored (sets work at (map wordOf ps)) at n ≡ ps
+stored-words : (ps : List Point) (zs : List ℕ) → ((p : Point) → List·Memᴰ p ps → Fit p) → getD zs 0 0 ≡ 0 → stored (map wordOf ps ++ zs) ≡ ps
 unfolding stored
-stored-laid work at zero ps z h g f = absurd (omega arith)
-stored-laid work at (suc n) [] z h g f = rw (eq-eqb (getD work at 0) 0 (z at (omega arith) (omega arith)))
-stored-laid work at (suc n) (p ∷ ps) z h g f =
-    let w = wordOf p in
-    let work₁ = set work at w in
+stored-words [] [] f z = refl
+stored-words [] (x ∷ zs) f z = rw (eq-eqb x 0 z)
+stored-words (p ∷ ps) zs f z =
     let fit = f p (List·Memᴰ·head refl) in
-    let here : getD (sets work₁ (suc at) (map wordOf ps)) at 0 ≡ w = before-sets work₁ (suc at) (map wordOf ps) at 0 (omega arith) ∙ getD-set-same work at w 0 (omega arith) in
-    let rest = stored-laid work₁ (suc at) n ps (λ k l m. getD-set-other work at k w 0 (λ e. absurd (omega arith)) ∙ z k (omega arith) (omega arith)) (omega arith) (omega (arith, length-set work at w)) (λ q m. f q (List·Memᴰ·tail m)) in
-    ap (λ (v : ℕ). cond (eqb v 0) [] (pointOf v ∷ stored (sets work₁ (suc at) (map wordOf ps)) (suc at) n)) here
-    ∙ ap (λ (b : Bool). cond b [] (pointOf w ∷ stored (sets work₁ (suc at) (map wordOf ps)) (suc at) n)) (ne-eqb w 0 (fit-word p fit))
-    ∙ ap₂ (λ (x : Point) (xs : List Point). x ∷ xs) (fit-back p fit) rest
+    rw (ne-eqb (wordOf p) 0 (fit-word p fit)) (ap₂ (λ (x : Point) (xs : List Point). x ∷ xs) (fit-back p fit) (stored-words ps zs (λ q m. f q (List·Memᴰ·tail m)) z))
+
+-- Points stored in a curve of zeros, with a word to spare.
+pub curve-laid : (most : ℕ) (work : List ℕ) (i : ℕ) (ps : List Point) → ((k : ℕ) → getD (curveAt most work i) k 0 ≡ 0) → length ps ≤ most → (most + 1) * i + (most + 1) ≤ length work →
+    ((p : Point) → List·Memᴰ p ps → Fit p) → stored (curveAt most (sets work ((most + 1) * i) (map wordOf ps)) i) ≡ ps
+curve-laid most work i ps z h g f =
+    let a = (most + 1) * i in
+    let ws = map wordOf ps in
+    let n = length ws in
+    let few : n ≤ most = omega (arith, length-map ps wordOf) in
+    let left = most + 1 - n in
+    let split : most + 1 ≡ n + left = omega arith in
+    let rest = take left (drop (a + n) work) in
+    let cut : drop a (sets work a ws) ≡ ws ++ drop (a + n) work = ap (drop a) (sets-eq ws work a (omega arith) ∙ append-assoc (take a work) ws (drop (a + n) work)) ∙ drop-at (take a work) (ws ++ drop (a + n) work) a (length-take-le a work (omega arith)) in
+    let words : curveAt most (sets work a ws) i ≡ ws ++ rest = ap₂ (λ (m : ℕ) (l : List ℕ). take m l) split cut ∙ take-append-add ws (drop (a + n) work) left in
+    let next : getD rest 0 0 ≡ 0 = rw (part-word left (a + n) work 0 (omega arith), add-zero (a + n)) (sym (part-word (most + 1) a work n (omega arith)) ∙ z n) in
+    ap stored words ∙ stored-words ps rest f next
 
 -- Every point found by deadline is the best before some instant.
 pub deadline-all : (k : ℕ) (f : ℕ → Option Point) (end : ℕ) {P : Point → Type 0} → ((e : ℕ) (p : Point) → f e ≡ some p → P p) → (p : Point) → List·Memᴰ p (byDeadline k f end) → P p

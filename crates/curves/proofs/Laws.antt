@@ -1,23 +1,23 @@
 -- Laws about words and stored curves.
 use mathlib.Core.Path.{_≡_, refl, sym, ap, ap₂, subst, _∙_}
-use mathlib.Core.List.{List}
+use mathlib.Core.List.{List, [], _∷_}
 use mathlib.Core.Logic.{_⊎_, inl, inr}
 use native.Mathlib.Decide.{ℕ-discrete}
 use mathlib.Core.Option.{Option, none, some, Option·map}
 use Prim.Native.Nat.{ℕ, zero, suc, _+_, _-_, _*_, _/_, _%_, _≤_, _<_, min, max}
-use native.Mathlib.Nat.{div-add-mod', mul-le-mul, mod-eq-of-lt, div-eq-of-lt}
+use native.Mathlib.Nat.{div-add-mod', mul-suc, mul-le-mul, mul-le-mul-left, mod-eq-of-lt, div-eq-of-lt}
 use native.Mathlib.Numerals.{add-one}
 use native.Mathlib.Omega.{arith}
-use lib.ListN.{getD, take, drop, length-drop}
-use lib.Seq.{length-take-le}
+use lib.ListN.{length, getD, take, drop, length-drop, length-take, drop-of-length-le, List·getD-eq-default}
+use lib.Seq.{length-take-le, getD-take, getD-drop, drop-cons}
 use borrow.Author.Tests.{eq-eqb, ne-eqb, lt-ltb, le-ltb, le-leb, lt-leb}
-use Rattle.covers.specs.Cover.{Point, late, raised, beside}
+use Rattle.covers.specs.Cover.{Point, late, raised, beside, leafArrival, leafPoint}
 use Rattle.covers.specs.Choice.{before, lesser}
 use Rattle.covers.specs.Curve.{base, both, lookup, pointOf, wordOf}
 use Rattle.covers.proofs.Points.{point-path, both-assoc, Leq, smaller, earlier, pick-left, pick-right, lesser-none}
 use Rattle.covers.proofs.Basics.{lt-or-le}
-use Rattle.curves.specs.Words.{absent, stored, tableOf}
-use Rattle.curves.specs.Best.{inputBest, inputLate, rowDelay, inputsBest, rowBest, legalBest, rowsBest, RowSafe, Tables, Matches}
+use Rattle.curves.specs.Words.{absent, pointLimit, matchLimit, stored, tableOf, Small, ZeroBelow, WorkArea}
+use Rattle.curves.specs.Best.{rowWords, rowOf, rowArea, rowIllegal, rowCount, inputSize, inputPlace, inputNode, inputBin, inputLoad, rowDelay, inputBest, inputLate, inputsBest, rowBest, legalBest, rowsBest, RowSafe, Tables, Matches}
 use Rattle.curves.specs.Promises.{Worth}
 
 -- ---- words
@@ -35,40 +35,93 @@ worth-none limit end o e = record { missing = λ z. e; point = λ n. absurd (n r
 
 -- ---- stored curves
 
-module _ (work : List ℕ) (end : ℕ) where
-  pub found-end : (at n : ℕ) → getD work at 0 ≡ 0 → lookup end (stored work at (suc n)) ≡ none
-  unfolding stored lookup
-  found-end at n e = rw (eq-eqb (getD work at 0) 0 e)
+-- The arithmetic of slots.
+pub apart : (w : ℕ) {i j : ℕ} → i < j → w * i + w ≤ w * j
+apart w {i} {j} h = omega (arith, mul-suc w i, mul-le-mul-left {m = suc i} {n = j} w (omega arith))
 
-  pub found-here : (at n : ℕ) → (getD work at 0 ≡ 0 → ⊥) → getD work at 0 % base < end → lookup end (stored work at (suc n)) ≡ some (pointOf (getD work at 0))
-  unfolding stored lookup pointOf
-  found-here at n e h = simp (ne-eqb (getD work at 0) 0 e, lt-ltb (getD work at 0 % base) end h)
+-- Every slot is within the work area, and its words are few.
+abbrev pub SlotWithin : ℕ → List ℕ → ℕ → Type 0
+SlotWithin most work at = ((most + 1) * at + (most + 1) ≤ 65536) × ((most + 1) * at + (most + 1) ≤ length work)
 
-  pub found-later : (at n : ℕ) → (getD work at 0 ≡ 0 → ⊥) → end ≤ getD work at 0 % base → lookup end (stored work at (suc n)) ≡ lookup end (stored work (suc at) n)
-  unfolding stored lookup pointOf
-  found-later at n e h = simp (ne-eqb (getD work at 0) 0 e, le-ltb (getD work at 0 % base) end h)
+pub slot-within : {most : ℕ} {work : List ℕ} → WorkArea most work → (at : ℕ) → at < 256 → SlotWithin most work at
+slot-within {most} w at h = let ends = apart (most + 1) {i = at} {j = 256} h in (omega (arith, w .bounded), omega (arith, w .room))
+
+-- Of a part, its length and its words.
+pub part-length : (w a : ℕ) (l : List ℕ) → a + w ≤ length l → length (take w (drop a l)) ≡ w
+part-length w a l h = length-take-le w (drop a l) (omega (arith, length-drop a l))
+
+pub part-word : (w a : ℕ) (l : List ℕ) (k : ℕ) → k < w → getD (take w (drop a l)) k 0 ≡ getD l (a + k) 0
+part-word w a l k h = getD-take w (drop a l) k 0 h ∙ getD-drop a l k 0
+
+pub part-words : (P : ℕ → Type 0) → P 0 → (w a : ℕ) (l : List ℕ) → ((k : ℕ) → P (getD l k 0)) → (k : ℕ) → P (getD (take w (drop a l)) k 0)
+part-words P z w a l all k = go (lt-or-le k w)
+  where
+    go : (k < w) ⊎ (w ≤ k) → P (getD (take w (drop a l)) k 0)
+    go (inl h) = rw (part-word w a l k h) (all (a + k))
+    go (inr h) = rw (List·getD-eq-default (take w (drop a l)) 0 {n = k} (omega (arith, length-take w (drop a l)))) z
+
+pub part-small : (w a : ℕ) (l : List ℕ) → Small l → Small (take w (drop a l))
+part-small = part-words (λ x. x < pointLimit) (omega arith)
+
+pub zero-curves : (most : ℕ) (work : List ℕ) → ((k : ℕ) → getD work k 0 ≡ 0) → (i : ℕ) → ZeroBelow most i work
+zero-curves most work z i j h = part-words (λ x. x ≡ 0) refl (most + 1) ((most + 1) * j) work z
+
+-- From place k on in a curve: a word that ends it, or one for a point.
+module _ (curve : List ℕ) (k : ℕ) where
+  pub stored-end : getD curve k 0 ≡ 0 → stored (drop k curve) ≡ []
+  unfolding stored
+  stored-end e = go (lt-or-le k (length curve))
+    where
+      go : (k < length curve) ⊎ (length curve ≤ k) → stored (drop k curve) ≡ []
+      go (inl h) = unfold stored in rw (drop-cons curve k 0 h, eq-eqb (getD curve k 0) 0 e)
+      go (inr h) = unfold stored in rw (drop-of-length-le curve h)
+
+  pub stored-more : (getD curve k 0 ≡ 0 → ⊥) → stored (drop k curve) ≡ pointOf (getD curve k 0) ∷ stored (drop (k + 1) curve)
+  stored-more n = go (lt-or-le k (length curve))
+    where
+      go : (k < length curve) ⊎ (length curve ≤ k) → stored (drop k curve) ≡ pointOf (getD curve k 0) ∷ stored (drop (k + 1) curve)
+      go (inl h) = unfold stored in rw (drop-cons curve k 0 h, add-one, ne-eqb (getD curve k 0) 0 n)
+      go (inr h) = absurd (n (List·getD-eq-default curve 0 {n = k} h))
+
+-- That word is before the instant, or is not.
+module _ (curve : List ℕ) (end k : ℕ) where
+  pub found-end : getD curve k 0 ≡ 0 → lookup end (stored (drop k curve)) ≡ none
+  unfolding lookup
+  found-end e = ap (lookup end) (stored-end curve k e)
+
+  pub found-here : (getD curve k 0 ≡ 0 → ⊥) → getD curve k 0 % base < end → lookup end (stored (drop k curve)) ≡ some (pointOf (getD curve k 0))
+  unfolding lookup pointOf
+  found-here n t = ap (lookup end) (stored-more curve k n) ∙ rw (lt-ltb (getD curve k 0 % base) end t)
+
+  pub found-later : 0 < end → end ≤ getD curve k 0 % base → lookup end (stored (drop k curve)) ≡ lookup end (stored (drop (k + 1) curve))
+  unfolding lookup pointOf
+  found-later z t = ap (lookup end) (stored-more curve k (λ e. absurd (omega arith))) ∙ rw (le-ltb (getD curve k 0 % base) end t)
+
+pub found-never : (ps : List Point) (end : ℕ) → end ≡ 0 → lookup end ps ≡ none
+unfolding lookup
+found-never [] end e = refl
+found-never (p ∷ ps) end e = rw (le-ltb (p .arrival) end (omega arith)) (found-never ps end e)
 
 pub one-less : (n k : ℕ) → k < n → n - k ≡ suc (n - (k + 1))
 one-less n k h = omega arith
 
 -- ---- an input
 
-module _ (symbols work : List ℕ) (node bin end : ℕ) where
-  pub leaf-timely : 2 ≤ getD symbols node 0 → getD symbols node 0 ≤ 1000002 → getD symbols node 0 - 2 < end →
-      Worth 70368744177664 end (getD symbols node 0 - 2) (inputBest symbols work node bin end)
-  unfolding inputBest before pointOf
-  leaf-timely h l t =
-      let x = getD symbols node 0 - 2 in
-      let low : x % base ≡ x = mod-eq-of-lt (omega arith) in
-      let high : x / base ≡ 0 = div-eq-of-lt (omega arith) in
-      worth-point 70368744177664 end x _ (omega arith) (omega arith) (omega arith)
-      (simp (le-leb 2 (getD symbols node 0) h, lt-ltb x end t) (ap {B = Option Point} some (sym (point-path high low))))
+module _ (most : ℕ) (symbols work : List ℕ) (node bin load end : ℕ) where
+  pub leaf-timely : (x : ℕ) → 2 ≤ getD symbols node 0 → x ≡ leafArrival (getD symbols node 0 - 2) load → x < base → x < end →
+      Worth pointLimit end x (inputBest most symbols work node bin load end)
+  unfolding inputBest before pointOf leafPoint
+  leaf-timely x h e l t =
+      let low : x % base ≡ x = mod-eq-of-lt l in
+      let high : x / base ≡ 0 = div-eq-of-lt l in
+      worth-point pointLimit end x _ (omega arith) (omega arith) (omega arith)
+      (rw (le-leb 2 (getD symbols node 0) h, ← e, lt-ltb x end t) (ap {B = Option Point} some (sym (point-path high low))))
 
-  pub leaf-late : 2 ≤ getD symbols node 0 → end ≤ getD symbols node 0 - 2 → inputBest symbols work node bin end ≡ none
-  unfolding inputBest before
-  leaf-late h t = simp (le-leb 2 (getD symbols node 0) h, le-ltb (getD symbols node 0 - 2) end t)
+  pub leaf-late : (x : ℕ) → 2 ≤ getD symbols node 0 → x ≡ leafArrival (getD symbols node 0 - 2) load → end ≤ x → inputBest most symbols work node bin load end ≡ none
+  unfolding inputBest before leafPoint
+  leaf-late x h e t = rw (le-leb 2 (getD symbols node 0) h, ← e, le-ltb x end t)
 
-  pub gate-best : getD symbols node 0 < 2 → lookup end (tableOf work node bin) ≡ inputBest symbols work node bin end
+  pub gate-best : getD symbols node 0 < 2 → lookup end (tableOf most work node bin) ≡ inputBest most symbols work node bin load end
   unfolding inputBest
   gate-best h = simp (lt-leb 2 (getD symbols node 0) h)
 
@@ -77,67 +130,67 @@ module _ (symbols work : List ℕ) (node bin end : ℕ) where
 pub drive-bound : (d l : ℕ) → d ≤ 255 → l ≤ 255 → d * l ≤ 65025
 drive-bound d l h g = mul-le-mul h g
 
-pub worth-late : (end d w : ℕ) (o : Option Point) → end ≤ base → Worth 70368744177664 (end - d) w o → (w ≡ absent → ⊥) → Worth 70368744177664 end (w + d) (Option·map (late d) o)
+pub worth-late : (end d w : ℕ) (o : Option Point) → end ≤ base → Worth pointLimit (end - d) w o → (w ≡ absent → ⊥) → Worth pointLimit end (w + d) (Option·map (late d) o)
 unfolding late pointOf
 worth-late end d w o h g n =
     let t = g .intime n in
     let l = g .small n in
     let high : (w + d) / base ≡ w / base = omega arith in
     let low : (w + d) % base ≡ w % base + d = omega arith in
-    worth-point 70368744177664 end (w + d) _ (omega arith) (omega arith) (omega arith)
+    worth-point pointLimit end (w + d) _ (omega arith) (omega arith) (omega arith)
     (ap (Option·map (late d)) (g .point n) ∙ ap {B = Option Point} some (sym (point-path high low)))
 
-module _ (symbols work row : List ℕ) (load end at d w : ℕ) (e : d ≡ rowDelay symbols work row at load)
-    (g : Worth 70368744177664 (end - d) w (inputBest symbols work (getD row at 0) (getD row (at + 1) 0) (end - d))) where
-  input-same : Option·map (late d) (inputBest symbols work (getD row at 0) (getD row (at + 1) 0) (end - d)) ≡ inputLate symbols work row load end at
+module _ (most : ℕ) (symbols work row : List ℕ) (load end at d w : ℕ) (e : d ≡ rowDelay row at load)
+    (g : Worth pointLimit (end - d) w (inputBest most symbols work (inputNode row at) (inputBin row at) (inputLoad row at) (end - d))) where
+  input-same : Option·map (late d) (inputBest most symbols work (inputNode row at) (inputBin row at) (inputLoad row at) (end - d)) ≡ inputLate most symbols work row load end at
   unfolding inputLate
-  input-same = ap (λ (k : ℕ). Option·map (late k) (inputBest symbols work (getD row at 0) (getD row (at + 1) 0) (end - k))) e
+  input-same = ap (λ (k : ℕ). Option·map (late k) (inputBest most symbols work (inputNode row at) (inputBin row at) (inputLoad row at) (end - k))) e
 
-  pub input-missing : w ≡ absent → inputLate symbols work row load end at ≡ none
+  pub input-missing : w ≡ absent → inputLate most symbols work row load end at ≡ none
   input-missing z = sym input-same ∙ ap (Option·map (late d)) (g .missing z)
 
-  pub input-found : end ≤ base → (w ≡ absent → ⊥) → Worth 70368744177664 end (w + d) (inputLate symbols work row load end at)
-  input-found h n = subst (Worth 70368744177664 end (w + d)) input-same (worth-late end d w _ h g n)
+  pub input-found : end ≤ base → (w ≡ absent → ⊥) → Worth pointLimit end (w + d) (inputLate most symbols work row load end at)
+  input-found h n = subst (Worth pointLimit end (w + d)) input-same (worth-late end d w _ h g n)
 
 -- ---- a match: its inputs one after another
 
-module _ (symbols work row : List ℕ) (load end : ℕ) where
+module _ (most : ℕ) (symbols work row : List ℕ) (load end : ℕ) where
   abbrev rest : ℕ → ℕ → Option Point
-  rest at k = inputsBest symbols work row load end at k
+  rest at k = inputsBest most symbols work row load end at k
 
-  pub match-turn : (at k : ℕ) (p : Point) (w : ℕ) → inputLate symbols work row load end at ≡ some (pointOf w) →
-      both (some p) (rest at (suc k)) ≡ both (some (record { area = p .area + w / base; arrival = max (p .arrival) (w % base) })) (rest (at + 4) k)
+  pub match-turn : (at k : ℕ) (p : Point) (w : ℕ) → inputLate most symbols work row load end at ≡ some (pointOf w) →
+      both (some p) (rest at (suc k)) ≡ both (some (record { area = p .area + w / base; arrival = max (p .arrival) (w % base) })) (rest (at + inputSize) k)
   unfolding inputsBest both beside pointOf
   match-turn at k p w e =
-      ap (λ (o : Option Point). both (some p) (both o (rest (at + 4) k))) e ∙ sym (both-assoc (some p) (some (pointOf w)) (rest (at + 4) k))
+      ap (λ (o : Option Point). both (some p) (both o (rest (at + inputSize) k))) e ∙ sym (both-assoc (some p) (some (pointOf w)) (rest (at + inputSize) k))
 
-  pub match-stops : (at k : ℕ) (p : Point) → inputLate symbols work row load end at ≡ none → both (some p) (rest at (suc k)) ≡ none
+  pub match-stops : (at k : ℕ) (p : Point) → inputLate most symbols work row load end at ≡ none → both (some p) (rest at (suc k)) ≡ none
   unfolding inputsBest both
-  match-stops at k p e = ap (λ (o : Option Point). both (some p) (both o (rest (at + 4) k))) e
+  match-stops at k p e = ap (λ (o : Option Point). both (some p) (both o (rest (at + inputSize) k))) e
 
   pub match-whole : (at : ℕ) (p : Point) → 0 < end → both (some p) (rest at 0) ≡ some p
   unfolding inputsBest both beside before
   match-whole at p h = rw (lt-ltb 0 end h) (ap {B = Option Point} some (point-path (omega arith) (omega arith)))
 
-  pub row-none : (n : ℕ) → n ≡ getD row 3 0 → rest 4 n ≡ none → rowBest symbols work row load end ≡ none
+  pub row-none : (n : ℕ) → n ≡ rowCount row → rest (inputPlace 0) n ≡ none → rowBest most symbols work row load end ≡ none
   unfolding rowBest
-  row-none n en e = ap (λ (k : ℕ). Option·map (raised (getD row 1 0)) (rest 4 k)) (sym en) ∙ ap (Option·map (raised (getD row 1 0))) e
+  row-none n en e = ap (λ (k : ℕ). Option·map (raised (rowArea row)) (rest (inputPlace 0) k)) (sym en) ∙ ap (Option·map (raised (rowArea row))) e
 
-  pub row-worth : (n : ℕ) (p : Point) → n ≡ getD row 3 0 → rest 4 n ≡ some p → getD row 1 0 ≤ 65535 → p .area ≤ 67108864 → p .arrival < end → end ≤ base →
-      Worth 2251799813685248 end ((getD row 1 0 + p .area) * base + p .arrival) (rowBest symbols work row load end)
+  pub row-worth : (n : ℕ) (p : Point) → n ≡ rowCount row → rest (inputPlace 0) n ≡ some p → rowArea row ≤ 65535 → p .area ≤ 67108864 → p .arrival < end → end ≤ base →
+      Worth matchLimit end ((rowArea row + p .area) * base + p .arrival) (rowBest most symbols work row load end)
   unfolding rowBest raised pointOf
   row-worth n p en e ha hp ht he =
-      let a = getD row 1 0 in
+      let a = rowArea row in
       let w = (a + p .area) * base + p .arrival in
       let high : w / base ≡ a + p .area = omega arith in
       let low : w % base ≡ p .arrival = omega arith in
-      worth-point 2251799813685248 end w _ (omega arith) (omega arith) (omega arith)
-      (ap (λ (k : ℕ). Option·map (raised a) (rest 4 k)) (sym en) ∙ ap (Option·map (raised a)) e ∙ ap {B = Option Point} some (sym (point-path high low)))
+      worth-point matchLimit end w _ (omega arith) (omega arith) (omega arith)
+      (ap (λ (k : ℕ). Option·map (raised a) (rest (inputPlace 0) k)) (sym en) ∙ ap (Option·map (raised a)) e ∙ ap {B = Option Point} some (sym (point-path high low)))
 
-  pub match-nothing : (n : ℕ) → end ≡ 0 → rest 4 n ≡ none
+  pub match-nothing : (n : ℕ) → end ≡ 0 → rest (inputPlace 0) n ≡ none
   unfolding inputsBest before both
   match-nothing zero e = rw (le-ltb 0 end (omega arith))
-  match-nothing (suc n) e = go 4 (suc n)
+  match-nothing (suc n) e = go (inputPlace 0) (suc n)
     where
       none-right : (o : Option Point) → both o none ≡ none
       none-right none = unfold both in refl
@@ -145,7 +198,7 @@ module _ (symbols work row : List ℕ) (load end : ℕ) where
 
       go : (at k : ℕ) → rest at k ≡ none
       go at zero = unfold inputsBest before in rw (le-ltb 0 end (omega arith))
-      go at (suc k) = unfold inputsBest in ap (both (inputLate symbols work row load end at)) (go (at + 4) k) ∙ none-right (inputLate symbols work row load end at)
+      go at (suc k) = unfold inputsBest in ap (both (inputLate most symbols work row load end at)) (go (at + inputSize) k) ∙ none-right (inputLate most symbols work row load end at)
 
 -- ---- the lesser of two
 
@@ -190,27 +243,20 @@ module _ (limit end v w : ℕ) (o o′ : Option Point) (fits : limit ≤ absent)
 
 -- ---- the rows of a node
 
-pub legal-none : (symbols work row : List ℕ) (load end : ℕ) → getD row 2 0 ≤ load → legalBest symbols work row load end ≡ none
+pub legal-none : (most : ℕ) (symbols work row : List ℕ) (load end : ℕ) → rowIllegal row ≤ load → legalBest most symbols work row load end ≡ none
 unfolding legalBest
-legal-none symbols work row load end h = rw (le-ltb load (getD row 2 0) h)
+legal-none most symbols work row load end h = rw (le-ltb load (rowIllegal row) h)
 
-pub legal-some : (symbols work row : List ℕ) (load end : ℕ) → load < getD row 2 0 → rowBest symbols work row load end ≡ legalBest symbols work row load end
+pub legal-some : (most : ℕ) (symbols work row : List ℕ) (load end : ℕ) → load < rowIllegal row → rowBest most symbols work row load end ≡ legalBest most symbols work row load end
 unfolding legalBest
-legal-some symbols work row load end h = rw (lt-ltb load (getD row 2 0) h)
+legal-some most symbols work row load end h = rw (lt-ltb load (rowIllegal row) h)
 
-pub rows-turn : (symbols work found : List ℕ) (load end j v w : ℕ) → Worth 2251799813685248 end v (rowsBest symbols work found load end j) →
-    Worth 2251799813685248 end w (legalBest symbols work (take 68 (drop (68 * j) found)) load end) → Worth 2251799813685248 end (min v w) (rowsBest symbols work found load end (j + 1))
+pub rows-turn : (most : ℕ) (symbols work found : List ℕ) (load end j v w : ℕ) → Worth matchLimit end v (rowsBest most symbols work found load end j) →
+    Worth matchLimit end w (legalBest most symbols work (rowOf found j) load end) → Worth matchLimit end (min v w) (rowsBest most symbols work found load end (j + 1))
 unfolding rowsBest
-rows-turn symbols work found load end j v w a b =
-    rw add-one (lesser-word 2251799813685248 end v w (rowsBest symbols work found load end j) (legalBest symbols work (take 68 (drop (68 * j) found)) load end) (omega arith) a b)
+rows-turn most symbols work found load end j v w a b =
+    rw add-one (lesser-word matchLimit end v w (rowsBest most symbols work found load end j) (legalBest most symbols work (rowOf found j) load end) (omega arith) a b)
 
--- The row of one of the matches, lent as a part of the table.
-pub row-tables : {found : List ℕ} {count : ℕ} {symbols work : List ℕ} → Matches found count symbols work → (j : ℕ) → j < count → (n : ℕ) → n ≡ 68 → Tables (take n (drop (68 * j) found)) symbols work
-row-tables {found} m j h n e = record {
-  safe = subst (λ (k : ℕ). RowSafe (take k (drop (68 * j) found))) (sym e) (m .rows j h);
-  row-length = length-take-le n (drop (68 * j) found) (omega (arith, length-drop (68 * j) found, m .found-length, m .few)) ∙ e;
-  symbols-length = m .symbols-length;
-  work-length = m .work-length;
-  symbols-small = m .symbols-small;
-  work-small = m .work-small;
-}
+-- The tables that the row of one of the matches is read with.
+pub row-tables : {most : ℕ} {found : List ℕ} {count : ℕ} {symbols work : List ℕ} → Matches most found count symbols work → (j : ℕ) → j < count → Tables most (rowOf found j) symbols work
+row-tables {found = found} m j h = record { safe = m .rows j h; row-length = part-length rowWords (rowWords * j) found (omega (arith, m .room)); sources = m .sources }

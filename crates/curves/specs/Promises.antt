@@ -1,5 +1,5 @@
 -- What the functions of this crate promise.
-use Prim.Native.Nat.{ℕ, _%_, _≤_, _<_}
+use Prim.Native.Nat.{ℕ, _+_, _*_, _%_, _≤_, _<_}
 use mathlib.Core.Path.{_≡_}
 use mathlib.Core.List.{List, map}
 use lib.ListN.{length, take}
@@ -7,7 +7,7 @@ use lib.Seq.{sets}
 use mathlib.Core.Option.{Option, none, some}
 use Rattle.covers.specs.Cover.{Point}
 use Rattle.covers.specs.Curve.{base, byDeadline, pointOf, wordOf}
-use Rattle.curves.specs.Words.{absent, Small}
+use Rattle.curves.specs.Words.{absent, areaLimit, Small}
 use Rattle.curves.specs.Best.{rowsBest}
 
 -- A word below the limit for a point that arrives before an instant, or what stands for no point.
@@ -20,20 +20,24 @@ pub record Worth (limit end r : ℕ) (o : Option Point) : Type 0 where
 -- A point fits a word of the work area, which is then not 0.
 pub record Fit (p : Point) : Type 0 where
   pub some-area : 1 ≤ p .area
-  pub area : p .area < 4194304
+  pub area : p .area < areaLimit
   pub arrival : p .arrival < base
 
-module _ (symbols work found : List ℕ) (load count : ℕ) where
+module _ (most : ℕ) (symbols work found : List ℕ) (load count : ℕ) where
   -- The least point of the node before each instant, from the tables.
   abbrev pub bestBefore : ℕ → Option Point
-  bestBefore end = rowsBest symbols work found load end count
+  bestBefore end = rowsBest most symbols work found load end count
 
   -- Every point fits a word of the work area.
   abbrev pub PointsFit : Type 0
   PointsFit = (end : ℕ) (p : Point) → bestBefore end ≡ some p → Fit p
 
-  -- The first 32 points by deadline: how many there are, and the first 31 in the slot.
+  -- The points by deadline, but not more than one too many for a curve.
+  abbrev pub nodePoints : List Point
+  nodePoints = byDeadline (most + 1) bestBefore base
+
+  -- How many of them there are, and as many as are allowed in curve `at`.
   pub record CurveStored (at : ℕ) (work′ : List ℕ) (r : ℕ) : Type 0 where
-    pub counted : r ≡ length (byDeadline 32 bestBefore base)
-    pub laid : work′ ≡ sets work at (map wordOf (take 31 (byDeadline 32 bestBefore base)))
+    pub counted : r ≡ length nodePoints
+    pub laid : work′ ≡ sets work ((most + 1) * at) (map wordOf (take most nodePoints))
     pub small : Small work′

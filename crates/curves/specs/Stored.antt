@@ -8,7 +8,7 @@ use Rattle.covers.specs.Curve.{Filled, curve, gates}
 use Rattle.curves.specs.Words.{tableOf, Small}
 
 -- The curves of every gate below the root under every load bin, and the root's under the root load in the place of bin 0.
-pub record Stored (l : Library) (t : Tree) (work : List ℕ) : Type 0 where
-  pub below : Filled l (t .shape) (tableOf work) 1
-  pub root : 0 < gates (t .shape) → tableOf work 0 0 ≡ curve (covers l (t .load) 0 (t .shape))
+pub record Stored (most : ℕ) (l : Library) (t : Tree) (work : List ℕ) : Type 0 where
+  pub below : Filled l (t .shape) (tableOf most work) 1
+  pub root : 0 < gates (t .shape) → tableOf most work 0 0 ≡ curve (covers l (t .load) 0 (t .shape))
   pub small : Small work

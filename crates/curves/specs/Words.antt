@@ -1,37 +1,59 @@
 -- Points as words, and curves as words in the work area.
-use Prim.Native.Nat.{ℕ, zero, suc, _+_, _*_, _≤_, _<_}
+use Prim.Native.Nat.{ℕ, _+_, _*_, _≤_, _<_}
 use mathlib.Core.Path.{_≡_}
 use mathlib.Core.Bool.{cond}
 use mathlib.Core.List.{List, [], _∷_}
-use lib.ListN.{getD}
+use lib.ListN.{length, getD, take, drop}
 use lib.Dec.{eqb}
 use Rattle.covers.specs.Cover.{Point}
-use Rattle.covers.specs.Curve.{pointOf}
+use Rattle.covers.specs.Curve.{base, pointOf}
 
--- What stands for no point: above every word of a point.
+-- What stands for no point: 2^63, above every word of a point.
 abbrev pub absent : ℕ
 absent = 9223372036854775808
 
--- A curve as it stands from a word on: points, latest first, up to a 0 or to k of them.
-unfoldable pub stored : List ℕ → ℕ → ℕ → List Point
-stored work at zero = []
-stored work at (suc k) = cond (eqb (getD work at 0) 0) [] (pointOf (getD work at 0) ∷ stored work (suc at) k)
+-- The words of the work area: 22 bits hold the area of a cover of a whole tree.
+abbrev pub areaLimit : ℕ
+areaLimit = 4194304
 
--- The first word of the curve of a node under a load bin.
-abbrev pub slot : ℕ → ℕ → ℕ
-slot node bin = 128 * node + 32 * bin
+abbrev pub pointLimit : ℕ
+pointLimit = areaLimit * base
 
--- The curves in the work area, by node and load bin.
-abbrev pub tableOf : List ℕ → ℕ → ℕ → List Point
-tableOf work node bin = stored work (slot node bin) 32
+-- The word of a match: a cell's area and those of sixteen inputs are together below 32 times the limit of one.
+abbrev pub matchLimit : ℕ
+matchLimit = 32 * pointLimit
 
--- No word is too great: an area below 2^22.
+-- No word is too great.
 abbrev pub Small : List ℕ → Type 0
-Small work = (k : ℕ) → getD work k 0 < 70368744177664
+Small work = (k : ℕ) → getD work k 0 < pointLimit
 
--- Two work areas are the same from a word on; every word below one is 0.
-abbrev pub AgreeFrom : ℕ → List ℕ → List ℕ → Type 0
-AgreeFrom m l l′ = (k : ℕ) → m ≤ k → getD l k 0 ≡ getD l′ k 0
+-- The points of a curve's words, latest first: up to a 0, if there is one.
+unfoldable pub stored : List ℕ → List Point
+stored [] = []
+stored (w ∷ ws) = cond (eqb w 0) [] (pointOf w ∷ stored ws)
 
-abbrev pub ZeroBelow : ℕ → List ℕ → Type 0
-ZeroBelow m l = (k : ℕ) → k < m → getD l k 0 ≡ 0
+module _ (most : ℕ) where
+  -- The first word of the curve of a node under a load bin: every curve has room for one word more than a node may have trade-offs.
+  abbrev pub slot : ℕ → ℕ → ℕ
+  slot node bin = (most + 1) * (4 * node + bin)
+
+  -- The words of curve i: that of node n under bin b is curve 4 * n + b.
+  abbrev pub curveAt : List ℕ → ℕ → List ℕ
+  curveAt work i = take (most + 1) (drop ((most + 1) * i) work)
+
+  -- The curves in the work area, by node and load bin.
+  abbrev pub tableOf : List ℕ → ℕ → ℕ → List Point
+  tableOf work node bin = stored (curveAt work (4 * node + bin))
+
+  -- Two work areas have the same curves from one on; every word of the curves below one is 0.
+  abbrev pub AgreeFrom : ℕ → List ℕ → List ℕ → Type 0
+  AgreeFrom i work work′ = (j : ℕ) → i ≤ j → curveAt work j ≡ curveAt work′ j
+
+  abbrev pub ZeroBelow : ℕ → List ℕ → Type 0
+  ZeroBelow i work = (j : ℕ) → j < i → (k : ℕ) → getD (curveAt work j) k 0 ≡ 0
+
+-- A work area with room for the curves of 64 nodes under 4 bins. How many points a curve has is told in a byte.
+pub record WorkArea (most : ℕ) (work : List ℕ) : Type 0 where
+  pub bounded : most ≤ 254
+  pub room : 256 * (most + 1) ≤ length work
+  pub small : Small work

@@ -1,37 +1,68 @@
 // Curves by deadline: the least point of a node before an instant, and the curve of a node under a load.
-use matching::Row;
 use sheets::Limits;
 ghost use mathlib.Core.Path.{_≡_};
 ghost use Prim.Native.Nat.{_+_, _-_, _*_, _<_, _≤_, min, max};
-ghost use lib.ListN.{length, getD};
-ghost use Rattle.covers.specs.Curve.{lookup};
-ghost use Rattle.curves.specs.Words.{stored, slot, Small};
-ghost use Rattle.curves.specs.Best.{inputBest, inputLate, rowBest, legalBest, rowsBest, Tables, InputSafe, Matches, Above};
+ghost use Rattle.covers.specs.Cover.{leafArrival};
+ghost use Rattle.covers.specs.Curve.{base, lookup};
+ghost use Rattle.curves.specs.Words.{pointLimit, matchLimit, stored, curveAt, Small, WorkArea};
+ghost use Rattle.curves.specs.Best.{symbolLimit, rowOf, inputBest, inputLate, rowBest, legalBest, rowsBest, Sources, Tables, InputSafe, Matches, Above};
 ghost use Rattle.curves.specs.Promises.{Worth, PointsFit, CurveStored};
 
-// How points and curves stand in the work area.
+// A match's row: its pattern, its cell's area, the first load that is not legal and how many inputs it has, then five words for each input:
+// its node, and the load bin, the load, the intrinsic delay and the drive of its pin.
+pub struct Row {}
+
+impl Row {
+    pub const PATTERN: usize = 0;
+
+    pub const AREA: usize = 1;
+
+    pub const FIRST_ILLEGAL: usize = 2;
+
+    pub const COUNT: usize = 3;
+
+    pub const INPUTS: usize = 4;
+
+    pub const INPUT: usize = 5;
+
+    // Within an input's words, after its node.
+    pub const BIN: usize = 1;
+
+    pub const LOAD: usize = 2;
+
+    pub const INTRINSIC: usize = 3;
+
+    pub const DRIVE: usize = 4;
+
+    pub const WORDS: usize = 84;
+
+    pub const TABLE: usize = 10752;
+}
+
+// The word for no point, and how many curves a node has: one for each load bin.
 pub struct Words {}
 
 impl Words {
     pub const ABSENT: u64 = 9223372036854775808;
 
-    pub const STRIDE: usize = 32;
-
-    pub const NODE: usize = 128;
+    pub const BINS: usize = 4;
 }
 
-// The first point of a stored curve that arrives before `end`.
-pub fn find(work: &[u64], at: usize, end: u64) -> u64
-    requires { ⌜ (at + 32 ≤ length (now work)) × Small (now work) ⌝ }
-    ensures { λ r. ⌜ Worth 70368744177664 end r (lookup end (stored (now (work .entry)) at 32)) ⌝ }
+// The first point of a curve that arrives before `end`. No word is tested for 0, which ends the curve, unless it passes the other test.
+pub fn find(curve: &[u64], end: u64) -> u64
+    requires { ⌜ Small (now curve) ⌝ }
+    ensures { λ r. ⌜ Worth pointLimit end r (lookup end (stored (now (curve .entry)))) ⌝ }
 {
+    if end == 0 {
+        return Words::ABSENT;
+    }
     let mut k = 0;
-    while k < Words::STRIDE {
-        let w = work[at + k];
-        if w == 0 {
-            return Words::ABSENT;
-        }
+    while k < curve.len() {
+        let w = curve[k];
         if w % Limits::TIMES < end {
+            if w == 0 {
+                return Words::ABSENT;
+            }
             return w;
         }
         k += 1;
@@ -39,20 +70,46 @@ pub fn find(work: &[u64], at: usize, end: u64) -> u64
     Words::ABSENT
 }
 
-// The least point of an input before `end`.
-fn input_best(symbols: &[u32], work: &[u64], node: usize, bin: usize, end: u64) -> u64
-    requires { ⌜ (node < length (now symbols)) × (slot node bin + 32 ≤ length (now work)) × (getD (now symbols) node 0 ≤ 1000002) × Small (now work) ⌝ }
-    ensures { λ r. ⌜ Worth 70368744177664 end r (inputBest (now (symbols .entry)) (now (work .entry)) node bin end) ⌝ }
+// The first point before `end` of the curve with a number: that of node n under bin b has the number 4 * n + b.
+pub fn look_up(work: &[u64], most: usize, at: usize, end: u64) -> u64
+    requires { ⌜ WorkArea most (now work) × (at < 256) ⌝ }
+    ensures { λ r. ⌜ Worth pointLimit end r (lookup end (stored (curveAt most (now (work .entry)) at))) ⌝ }
+{
+    let first = (most + 1) * at;
+    find(&work[first..first + (most + 1)], end)
+}
+
+// When a leaf arrives under the load that it drives: the one place that knows.
+pub fn leaf_arrival(symbol: u32, load: u32) -> u64
+    requires { ⌜ (2 ≤ symbol) × (symbol ≤ symbolLimit) × (load ≤ 255) ⌝ }
+    ensures { λ r. ⌜ (r ≡ leafArrival (symbol - 2) load) × (r < base) ⌝ }
+{
+    (symbol - 2) as u64
+}
+
+// The least point before `end` of an input at a pin with a load.
+fn input_best(
+    symbols: &[u32],
+    work: &[u64],
+    most: usize,
+    node: usize,
+    bin: usize,
+    load: u32,
+    end: u64,
+) -> u64
+    requires { ⌜ Sources most (now symbols) (now work) ⌝ }
+    requires { ⌜ (node < 64) × (bin < 4) × (load ≤ 255) ⌝ }
+    ensures { λ r. ⌜ Worth pointLimit end r (inputBest most (now (symbols .entry)) (now (work .entry)) node bin load end) ⌝ }
 {
     let symbol = symbols[node];
     if 2 <= symbol {
-        let arrival = (symbol - 2) as u64;
+        let arrival = leaf_arrival(symbol, load);
         if arrival < end {
             return arrival;
         }
         return Words::ABSENT;
     }
-    find(work, Words::NODE * node + Words::STRIDE * bin, end)
+    look_up(work, most, Words::BINS * node + bin, end)
 }
 
 fn wide(x: u32) -> u64
@@ -90,18 +147,28 @@ fn later(a: u64, b: u64) -> u64
 }
 
 // The least point before `end` of the input whose words stand from `at` on in a match's row, as the match sees it.
-fn input_word(row: &[u32], symbols: &[u32], work: &[u64], load: u32, end: u64, at: usize) -> u64
-    requires { ⌜ Tables (now row) (now symbols) (now work) ⌝ }
+fn input_word(
+    row: &[u32],
+    symbols: &[u32],
+    work: &[u64],
+    most: usize,
+    load: u32,
+    end: u64,
+    at: usize,
+) -> u64
+    requires { ⌜ Tables most (now row) (now symbols) (now work) ⌝ }
     requires { ⌜ InputSafe (now row) at ⌝ }
-    requires { ⌜ (load ≤ 255) × (end ≤ 16777216) ⌝ }
-    ensures { λ r. ⌜ Worth 70368744177664 end r (inputLate (now (symbols .entry)) (now (work .entry)) (now (row .entry)) load end at) ⌝ }
+    requires { ⌜ (load ≤ 255) × (end ≤ base) ⌝ }
+    ensures { λ r. ⌜ Worth pointLimit end r (inputLate most (now (symbols .entry)) (now (work .entry)) (now (row .entry)) load end at) ⌝ }
 {
     let d = delay(row[at + Row::INTRINSIC], row[at + Row::DRIVE], load);
     let w = input_best(
         symbols,
         work,
+        most,
         row[at] as usize,
         row[at + Row::BIN] as usize,
+        row[at + Row::LOAD],
         less(end, d),
     );
     if w == Words::ABSENT {
@@ -111,10 +178,10 @@ fn input_word(row: &[u32], symbols: &[u32], work: &[u64], load: u32, end: u64, a
 }
 
 // The least point of a match before `end`: its cell on top of its inputs side by side.
-fn best_match(row: &[u32], symbols: &[u32], work: &[u64], load: u32, end: u64) -> u64
-    requires { ⌜ Tables (now row) (now symbols) (now work) ⌝ }
-    requires { ⌜ (load ≤ 255) × (end ≤ 16777216) ⌝ }
-    ensures { λ r. ⌜ Worth 2251799813685248 end r (rowBest (now (symbols .entry)) (now (work .entry)) (now (row .entry)) load end) ⌝ }
+fn best_match(row: &[u32], symbols: &[u32], work: &[u64], most: usize, load: u32, end: u64) -> u64
+    requires { ⌜ Tables most (now row) (now symbols) (now work) ⌝ }
+    requires { ⌜ (load ≤ 255) × (end ≤ base) ⌝ }
+    ensures { λ r. ⌜ Worth matchLimit end r (rowBest most (now (symbols .entry)) (now (work .entry)) (now (row .entry)) load end) ⌝ }
 {
     if end == 0 {
         return Words::ABSENT;
@@ -124,7 +191,15 @@ fn best_match(row: &[u32], symbols: &[u32], work: &[u64], load: u32, end: u64) -
     let mut arrival: u64 = 0;
     let mut k = 0;
     while k < count {
-        let w = input_word(row, symbols, work, load, end, Row::INPUTS + Row::INPUT * k);
+        let w = input_word(
+            row,
+            symbols,
+            work,
+            most,
+            load,
+            end,
+            Row::INPUTS + Row::INPUT * k,
+        );
         if w == Words::ABSENT {
             return Words::ABSENT;
         }
@@ -146,62 +221,95 @@ fn lower(a: u64, b: u64) -> u64
 }
 
 // The least point of a match before `end`, if the match is legal under the load.
-pub fn legal_match(row: &[u32], symbols: &[u32], work: &[u64], load: u32, end: u64) -> u64
-    requires { ⌜ Tables (now row) (now symbols) (now work) ⌝ }
-    requires { ⌜ (load ≤ 255) × (end ≤ 16777216) ⌝ }
-    ensures { λ r. ⌜ Worth 2251799813685248 end r (legalBest (now (symbols .entry)) (now (work .entry)) (now (row .entry)) load end) ⌝ }
+fn legal_match(row: &[u32], symbols: &[u32], work: &[u64], most: usize, load: u32, end: u64) -> u64
+    requires { ⌜ Tables most (now row) (now symbols) (now work) ⌝ }
+    requires { ⌜ (load ≤ 255) × (end ≤ base) ⌝ }
+    ensures { λ r. ⌜ Worth matchLimit end r (legalBest most (now (symbols .entry)) (now (work .entry)) (now (row .entry)) load end) ⌝ }
 {
     if row[Row::FIRST_ILLEGAL] <= load {
         return Words::ABSENT;
     }
-    best_match(row, symbols, work, load, end)
+    best_match(row, symbols, work, most, load, end)
+}
+
+// The least point before `end` of match j of a node, if it is legal under the load.
+pub fn match_best(
+    found: &[u32],
+    j: usize,
+    symbols: &[u32],
+    work: &[u64],
+    most: usize,
+    load: u32,
+    end: u64,
+) -> u64
+    requires { ⌜ Tables most (rowOf (now found) j) (now symbols) (now work) ⌝ }
+    requires { ⌜ (load ≤ 255) × (end ≤ base) ⌝ }
+    ensures { λ r. ⌜ Worth matchLimit end r (legalBest most (now (symbols .entry)) (now (work .entry)) (rowOf (now (found .entry)) j) load end) ⌝ }
+{
+    let first = Row::WORDS * j;
+    legal_match(
+        &found[first..first + Row::WORDS],
+        symbols,
+        work,
+        most,
+        load,
+        end,
+    )
 }
 
 // The least point before `end` of the first `count` matches.
-fn best(found: &[u32], count: usize, symbols: &[u32], work: &[u64], load: u32, end: u64) -> u64
-    requires { ⌜ Matches (now found) count (now symbols) (now work) ⌝ }
-    requires { ⌜ (load ≤ 255) × (end ≤ 16777216) ⌝ }
-    ensures { λ r. ⌜ Worth 2251799813685248 end r (rowsBest (now (symbols .entry)) (now (work .entry)) (now (found .entry)) load end count) ⌝ }
+fn best(
+    found: &[u32],
+    count: usize,
+    symbols: &[u32],
+    work: &[u64],
+    most: usize,
+    load: u32,
+    end: u64,
+) -> u64
+    requires { ⌜ Matches most (now found) count (now symbols) (now work) ⌝ }
+    requires { ⌜ (load ≤ 255) × (end ≤ base) ⌝ }
+    ensures { λ r. ⌜ Worth matchLimit end r (rowsBest most (now (symbols .entry)) (now (work .entry)) (now (found .entry)) load end count) ⌝ }
 {
     let mut least = Words::ABSENT;
     let mut j = 0;
     while j < count {
-        let first = Row::WORDS * j;
-        let w = legal_match(&found[first..first + Row::WORDS], symbols, work, load, end);
+        let w = match_best(found, j, symbols, work, most, load, end);
         least = lower(least, w);
         j += 1;
     }
     least
 }
 
-// The curve of a node under a load, stored in its slot: its points, latest first. Of 32 points or more, 31 are stored and 32 is the answer.
+// The curve of a node under a load, stored as the curve with this number: its points, latest first. Of more than `most` points, `most` are
+// stored and most + 1 is the answer.
 pub fn curve(
-    node: usize,
     found: &[u32],
     count: usize,
     symbols: &[u32],
     work: &mut [u64],
+    most: usize,
     load: u32,
-    bin: usize,
+    at: usize,
 ) -> usize
-    requires { ⌜ Matches (now found) count (now symbols) (now work) ⌝ }
-    requires { ⌜ (node < 64) × (bin < 4) × (load ≤ 255) ⌝ }
-    requires { ⌜ Above node (now found) count ⌝ }
-    requires { ⌜ PointsFit (now symbols) (now work) (now found) load count ⌝ }
-    ensures { λ r. ⌜ CurveStored (now (symbols .entry)) (now (work .entry)) (now (found .entry)) load count (slot node bin) (now (work .exit)) r ⌝ }
+    requires { ⌜ Matches most (now found) count (now symbols) (now work) ⌝ }
+    requires { ⌜ (at < 256) × (load ≤ 255) ⌝ }
+    requires { ⌜ Above at (now found) count ⌝ }
+    requires { ⌜ PointsFit most (now symbols) (now work) (now found) load count ⌝ }
+    ensures { λ r. ⌜ CurveStored most (now (symbols .entry)) (now (work .entry)) (now (found .entry)) load count at (now (work .exit)) r ⌝ }
 {
-    let at = Words::NODE * node + Words::STRIDE * bin;
+    let first = (most + 1) * at;
     let mut end = Limits::TIMES;
     let mut k = 0;
-    while k < Words::STRIDE {
-        let w = best(found, count, symbols, work, load, end);
+    while k <= most {
+        let w = best(found, count, symbols, work, most, load, end);
         if w == Words::ABSENT {
             return k;
         }
-        if k == Limits::POINTS {
-            return Words::STRIDE;
+        if k == most {
+            return most + 1;
         }
-        work[at + k] = w;
+        work[first + k] = w;
         end = w % Limits::TIMES;
         k += 1;
     }

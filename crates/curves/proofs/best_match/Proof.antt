@@ -3,37 +3,32 @@ use Prim.Native.Nat.{ℕ, _+_, _-_, _*_, _/_, _≤_, _<_}
 use native.Mathlib.Nat.{sub-zero}
 use mathlib.Core.Path.{_≡_, refl, sym, ap, ap₂, subst, _∙_}
 use mathlib.Core.Option.{Option, some}
-use lib.ListN.{getD}
 use Rattle.covers.specs.Curve.{base, both}
 use Rattle.covers.proofs.Points.{both-nothing}
 use Rattle.covers.specs.Cover.{Point}
-use Rattle.curves.specs.Best.{inputsBest, rowBest}
+use Rattle.curves.specs.Words.{areaLimit, matchLimit}
+use Rattle.curves.specs.Best.{rowCount, inputSize, inputPlace, inputsBest, rowBest}
 use Rattle.curves.specs.Promises.{Worth}
 use Rattle.curves.proofs.Laws.{worth-none, row-none, match-nothing, match-stops, match-turn, match-whole, row-worth, one-less}
 use Rattle.curves.proofs.best_match.Statement.{statement}
 use Rattle.curves.proofs.best_match.Tie as tie
-use Rattle.curves.proofs.best_match.Reads as reads
-use Rattle.curves.proofs.best_match.Lts as lts
-use Rattle.curves.proofs.input_word.Reads as input-word-reads
-use Rattle.curves.proofs.later.Reads as later-reads
-use Rattle.curves.proofs.wide.Reads as wide-reads
 
 abbrev Inv-loop : tie.InvT-loop
-Inv-loop row symbols work load end count area₀ arrival₀ k₀ area arrival k =
+Inv-loop row symbols work most load end count area₀ arrival₀ k₀ area arrival k =
     (k ≤ count)
-    × (count ≡ getD row 3 0)
-    × (area ≤ 4194304 * k)
+    × (count ≡ rowCount row)
+    × (area ≤ areaLimit * k)
     × (arrival < end)
-    × (inputsBest symbols work row load end 4 count ≡ both (some (record { area = area; arrival = arrival })) (inputsBest symbols work row load end (4 + 4 * k) (count - k)))
+    × (inputsBest most symbols work row load end (inputPlace 0) count ≡ both (some (record { area = area; arrival = arrival })) (inputsBest most symbols work row load end (inputPlace k) (count - k)))
 
 abbrev μ-loop : tie.MeasureT-loop
-μ-loop row symbols work load end count area₀ arrival₀ k₀ area arrival k = count - k
+μ-loop row symbols work most load end count area₀ arrival₀ k₀ area arrival k = count - k
 
 returns : tie.Need-returns Inv-loop μ-loop
 returns c =
     let a = c .before .before .before .before .args in
-    worth-none 2251799813685248 (a .end) _ (row-none (a .symbols .now) (a .work .now) (a .row .now) (a .load) (a .end) (getD (a .row .now) 3 0) refl
-    (match-nothing (a .symbols .now) (a .work .now) (a .row .now) (a .load) (a .end) (getD (a .row .now) 3 0) (c .if1 .taken)))
+    worth-none matchLimit (a .end) _ (row-none (a .most) (a .symbols .now) (a .work .now) (a .row .now) (a .load) (a .end) (rowCount (a .row .now)) refl
+    (match-nothing (a .most) (a .symbols .now) (a .work .now) (a .row .now) (a .load) (a .end) (rowCount (a .row .now)) (c .if1 .taken)))
 
 shared-slice-read-count : tie.Need-shared-slice-read-count Inv-loop μ-loop
 shared-slice-read-count c = omega arith
@@ -47,7 +42,7 @@ loop-holds c = (
   refl,
   omega arith,
   omega (arith, c .before .if1 .left),
-  ap (inputsBest (c .before .before .before .before .before .args .symbols .now) (c .before .before .before .before .before .args .work .now) (c .before .before .before .before .before .args .row .now) (c .before .before .before .before .before .args .load) (c .before .before .before .before .before .args .end) 4) (sym (sub-zero (getD (c .before .before .before .before .before .args .row .now) 3 0))) ∙ sym (both-nothing _),
+  ap (inputsBest (c .before .before .before .before .before .args .most) (c .before .before .before .before .before .args .symbols .now) (c .before .before .before .before .before .args .work .now) (c .before .before .before .before .before .args .row .now) (c .before .before .before .before .before .args .load) (c .before .before .before .before .before .args .end) (inputPlace 0)) (sym (sub-zero (rowCount (c .before .before .before .before .before .args .row .now)))) ∙ sym (both-nothing _),
 )
 
 mul-input-word : tie.Need-mul-input-word Inv-loop μ-loop
@@ -66,9 +61,9 @@ returns-2 c =
     let a = c .before .before .before .before .before .before .before .before .before .args in
     let i = c .before .before .before .loop in
     let p : Point = record { area = i .area; arrival = i .arrival } in
-    worth-none 2251799813685248 (a .end) _ (row-none (a .symbols .now) (a .work .now) (a .row .now) (a .load) (a .end) (getD (a .row .now) 3 0) refl
-    (i .inv .4 ∙ ap (λ (m : ℕ). both (some p) (inputsBest (a .symbols .now) (a .work .now) (a .row .now) (a .load) (a .end) (4 + 4 * i .k) m)) (one-less _ (i .k) (omega arith))
-    ∙ match-stops (a .symbols .now) (a .work .now) (a .row .now) (a .load) (a .end) (4 + 4 * i .k) _ p (c .before .input-word .ensures .missing (c .if2 .taken))))
+    worth-none matchLimit (a .end) _ (row-none (a .most) (a .symbols .now) (a .work .now) (a .row .now) (a .load) (a .end) (rowCount (a .row .now)) refl
+    (i .inv .4 ∙ ap (λ (m : ℕ). both (some p) (inputsBest (a .most) (a .symbols .now) (a .work .now) (a .row .now) (a .load) (a .end) (inputPlace (i .k)) m)) (one-less _ (i .k) (omega arith))
+    ∙ match-stops (a .most) (a .symbols .now) (a .work .now) (a .row .now) (a .load) (a .end) (inputPlace (i .k)) _ p (c .before .input-word .ensures .missing (c .if2 .taken))))
 
 add-area : tie.Need-add-area Inv-loop μ-loop
 add-area c = omega (arith, c .before .input-word .ensures .small (c .if2 .left), c .before .before .before .loop .inv .2, c .before .before .before .before .before .before .before .before .before .pre .0 .safe .few)
@@ -87,19 +82,19 @@ loop-again c =
     let a = c .before .before .before .before .before .before .before .before .before .before .args in
     let i = c .before .before .before .before .loop in
     let p : Point = record { area = i .area; arrival = i .arrival } in
-    let n = getD (a .row .now) 3 0 in
+    let n = rowCount (a .row .now) in
     let w = c .before .before .input-word .result in
     let g = c .before .before .input-word .ensures in
     let z = c .before .if2 .left in
-    let best : ℕ → ℕ → Option Point = λ at m. inputsBest (a .symbols .now) (a .work .now) (a .row .now) (a .load) (a .end) at m in
-    let four : 4 + 4 * i .k + 4 ≡ 4 + 4 * (i .k + 1) = omega arith in (
+    let best : ℕ → ℕ → Option Point = λ at m. inputsBest (a .most) (a .symbols .now) (a .work .now) (a .row .now) (a .load) (a .end) at m in
+    let next : inputPlace (i .k) + inputSize ≡ inputPlace (i .k + 1) = omega arith in (
       omega arith,
       refl,
       omega (arith, g .small z, i .inv .2),
       omega (arith, g .intime z, i .inv .3, c .later .ensures),
-      i .inv .4 ∙ ap (λ (m : ℕ). both (some p) (best (4 + 4 * i .k) m)) (one-less n (i .k) (omega arith))
-          ∙ match-turn (a .symbols .now) (a .work .now) (a .row .now) (a .load) (a .end) (4 + 4 * i .k) (n - (i .k + 1)) p w (g .point z)
-          ∙ ap₂ (λ (t at : ℕ). both (some (record { area = i .area + w / base; arrival = t })) (best at (n - (i .k + 1)))) (sym (c .later .ensures)) four,
+      i .inv .4 ∙ ap (λ (m : ℕ). both (some p) (best (inputPlace (i .k)) m)) (one-less n (i .k) (omega arith))
+          ∙ match-turn (a .most) (a .symbols .now) (a .work .now) (a .row .now) (a .load) (a .end) (inputPlace (i .k)) (n - (i .k + 1)) p w (g .point z)
+          ∙ ap₂ (λ (t at : ℕ). both (some (record { area = i .area + w / base; arrival = t })) (best at (n - (i .k + 1)))) (sym (c .later .ensures)) next,
     )
 
 shared-slice-read-wide : tie.Need-shared-slice-read-wide Inv-loop μ-loop
@@ -122,13 +117,13 @@ returns-3 c =
     let a = c .before .before .before .before .before .before .before .before .before .args in
     let i = c .before .before .before .loop in
     let p : Point = record { area = i .area; arrival = i .arrival } in
-    let n = getD (a .row .now) 3 0 in
+    let n = rowCount (a .row .now) in
     let done : n - i .k ≡ 0 = omega (arith, c .before .before .loop-test .left) in
-    let whole = i .inv .4 ∙ ap (λ (m : ℕ). both (some p) (inputsBest (a .symbols .now) (a .work .now) (a .row .now) (a .load) (a .end) (4 + 4 * i .k) m)) done
-    ∙ match-whole (a .symbols .now) (a .work .now) (a .row .now) (a .load) (a .end) (4 + 4 * i .k) p (omega (arith, i .inv .3)) in
+    let whole = i .inv .4 ∙ ap (λ (m : ℕ). both (some p) (inputsBest (a .most) (a .symbols .now) (a .work .now) (a .row .now) (a .load) (a .end) (inputPlace (i .k)) m)) done
+    ∙ match-whole (a .most) (a .symbols .now) (a .work .now) (a .row .now) (a .load) (a .end) (inputPlace (i .k)) p (omega (arith, i .inv .3)) in
     let safe = c .before .before .before .before .before .before .before .before .before .pre .0 .safe in
-    subst (λ (v : ℕ). Worth 2251799813685248 (a .end) ((v + i .area) * base + i .arrival) (rowBest (a .symbols .now) (a .work .now) (a .row .now) (a .load) (a .end))) (sym (c .wide .ensures))
-    (row-worth (a .symbols .now) (a .work .now) (a .row .now) (a .load) (a .end) n p refl whole (safe .area) (omega (arith, safe .few, i .inv .2)) (i .inv .3) (omega arith))
+    subst (λ (v : ℕ). Worth matchLimit (a .end) ((v + i .area) * base + i .arrival) (rowBest (a .most) (a .symbols .now) (a .work .now) (a .row .now) (a .load) (a .end))) (sym (c .wide .ensures))
+    (row-worth (a .most) (a .symbols .now) (a .work .now) (a .row .now) (a .load) (a .end) n p refl whole (safe .area) (omega (arith, safe .few, i .inv .2)) (i .inv .3) (omega arith))
 
 pub best-match-spec : {M : Type 1} → statement M
 best-match-spec =

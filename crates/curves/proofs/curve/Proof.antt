@@ -5,62 +5,59 @@ use mathlib.Core.List.{List}
 use mathlib.Core.Option.{some}
 use lib.ListN.{length, length-set}
 use Rattle.covers.specs.Curve.{base, pointOf}
-use Rattle.curves.specs.Words.{Small}
+use Rattle.curves.specs.Words.{areaLimit, pointLimit, Small}
 use Rattle.curves.specs.Best.{rowsBest}
 use Rattle.curves.specs.Promises.{bestBefore, PointsFit}
+use Rattle.curves.proofs.Laws.{SlotWithin, slot-within}
 use Rattle.curves.proofs.Frames.{Growing, growing-start, growing-next, growing-done, growing-over, growing-same, small-set}
 use Rattle.curves.proofs.curve.Statement.{statement}
 use Rattle.curves.proofs.curve.Tie as tie
-use Rattle.curves.proofs.curve.Reads as reads
-use Rattle.curves.proofs.curve.Lts as lts
-use Rattle.curves.proofs.best.Reads as best-reads
 
 abbrev Inv-loop : tie.InvT-loop
-Inv-loop node found count symbols work₀ load bin at end₀ k₀ work end k =
-    (k ≤ 31) × (length work ≡ length work₀) × (end ≤ base) × Small work × Growing symbols work₀ found load count (128 * node + 32 * bin) k end work
+Inv-loop found count symbols work₀ most load at first end₀ k₀ work end k =
+    (k ≤ most) × (length work ≡ length work₀) × (end ≤ base) × Small work × Growing most symbols work₀ found load count at k end work
 
 abbrev μ-loop : tie.MeasureT-loop
-μ-loop node found count symbols work₀ load bin at end₀ k₀ work end k = 32 - k
+μ-loop found count symbols work₀ most load at first end₀ k₀ work end k = most + 1 - k
+
+within : (c : tie.After-slice-known Inv-loop μ-loop) → let a = c .before .before .before .args in SlotWithin (a .most) (a .work .now) (a .at)
+within c = slot-within (c .before .before .before .pre .0 .sources .curves) (c .before .before .before .args .at) (c .before .before .before .pre .1 .0 .0)
 
 -- what is read is what was read at the start
 seen : (c : tie.After-best Inv-loop μ-loop) → let a = c .before .before .before .before .before .before .before .args in let i = c .before .before .before .loop in
-    rowsBest (a .symbols .now) (i .work) (a .found .now) (a .load) (i .end) (a .count) ≡ bestBefore (a .symbols .now) (a .work .now) (a .found .now) (a .load) (a .count) (i .end)
+    rowsBest (a .most) (a .symbols .now) (i .work) (a .found .now) (a .load) (i .end) (a .count) ≡ bestBefore (a .most) (a .symbols .now) (a .work .now) (a .found .now) (a .load) (a .count) (i .end)
 seen c =
     let a = c .before .before .before .before .before .before .before .args in
     let i = c .before .before .before .loop in
-    growing-same (a .symbols .now) (a .work .now) (a .found .now) (a .load) (a .count) (128 * a .node + 32 * a .bin) (a .node) (i .k) (i .end) (i .work) (omega (arith, c .before .before .before .before .before .before .before .pre .1 .0)) (i .inv .0) (i .inv .4) (c .before .before .before .before .before .before .before .pre .1 .1 .0) (i .end)
+    growing-same (a .most) (a .symbols .now) (a .work .now) (a .found .now) (a .load) (a .count) (a .at) (i .k) (i .end) (i .work) (i .inv .0) (i .inv .4) (c .before .before .before .before .before .before .before .pre .1 .1 .0) (i .end)
 
 -- a point's area is what its word says
-fits : (symbols work found : List ℕ) (load count : ℕ) → PointsFit symbols work found load count → (e w : ℕ) → bestBefore symbols work found load count e ≡ some (pointOf w) → w / base < 4194304
+fits : (most : ℕ) (symbols work found : List ℕ) (load count : ℕ) → PointsFit most symbols work found load count → (e w : ℕ) → bestBefore most symbols work found load count e ≡ some (pointOf w) → w / base < areaLimit
 unfolding pointOf
-fits symbols work found load count h e w q = h e (pointOf w) q .area
+fits most symbols work found load count h e w q = h e (pointOf w) q .area
 
-mul-at : tie.Need-mul-at Inv-loop μ-loop
-mul-at c = omega arith
-
-mul-at-2 : tie.Need-mul-at-2 Inv-loop μ-loop
-mul-at-2 c = omega arith
-
-add-at : tie.Need-add-at Inv-loop μ-loop
-add-at c = omega arith
+mul-first : tie.Need-mul-first Inv-loop μ-loop
+mul-first c = record { fits = omega (arith, within c .0) }
 
 loop-holds : tie.Need-loop-holds Inv-loop μ-loop
 loop-holds c =
     let a = c .before .before .before .args in
-    (omega arith, refl, omega arith, c .before .before .before .pre .0 .work-small, growing-start (a .symbols .now) (a .work .now) (a .found .now) (a .load) (a .count) (128 * a .node + 32 * a .bin))
+    (omega arith, refl, omega arith, c .before .before .before .pre .0 .sources .curves .small, growing-start (a .most) (a .symbols .now) (a .work .now) (a .found .now) (a .load) (a .count) (a .at))
 
 best-requires : tie.Need-best-requires Inv-loop μ-loop
 best-requires c κs =
     let i = c .before .before .loop in
-    let m = c .before .before .before .before .before .before .pre .0 in (
+    let m = c .before .before .before .before .before .before .pre .0 in
+    let s = m .sources in
+    let room = s .curves .room in (
       record {
         rows = m .rows;
-        found-length = m .found-length;
-        few = m .few;
-        symbols-length = m .symbols-length;
-        work-length = omega (arith, i .inv .1, m .work-length);
-        symbols-small = m .symbols-small;
-        work-small = i .inv .3;
+        room = m .room;
+        sources = record {
+          symbols-length = s .symbols-length;
+          symbols-small = s .symbols-small;
+          curves = record { bounded = s .curves .bounded; room = omega (arith, i .inv .1); small = i .inv .3 };
+        };
       },
       (omega arith, i .inv .2),
     )
@@ -72,27 +69,54 @@ returns : tie.Need-returns Inv-loop μ-loop
 returns c =
     let a = c .before .before .before .before .before .before .before .before .args in
     let i = c .before .before .before .before .loop in
-    growing-done (a .symbols .now) (a .work .now) (a .found .now) (a .load) (a .count) (128 * a .node + 32 * a .bin) (i .k) (i .end) (i .work) (i .inv .0) (i .inv .3) (i .inv .4) (sym (seen (c .before)) ∙ c .before .best .ensures .missing (c .if1 .taken))
+    growing-done (a .most) (a .symbols .now) (a .work .now) (a .found .now) (a .load) (a .count) (a .at) (i .k) (i .end) (i .work) (i .inv .0) (i .inv .3) (i .inv .4) (sym (seen (c .before)) ∙ c .before .best .ensures .missing (c .if1 .taken))
 
 same-length-2 : tie.Need-same-length-2 Inv-loop μ-loop
 same-length-2 c = c .before .before .before .before .before .loop .inv .1
+
+add-result : tie.Need-add-result Inv-loop μ-loop
+add-result c = omega (arith, c .before .before .before .before .before .before .before .before .before .pre .0 .sources .curves .bounded)
 
 returns-2 : tie.Need-returns-2 Inv-loop μ-loop
 returns-2 c =
     let a = c .before .before .before .before .before .before .before .before .before .args in
     let i = c .before .before .before .before .before .loop in
-    growing-over (a .symbols .now) (a .work .now) (a .found .now) (a .load) (a .count) (128 * a .node + 32 * a .bin) (i .end) (i .work) (c .before .before .best .result) (i .inv .3)
-    (subst (λ (k : ℕ). Growing (a .symbols .now) (a .work .now) (a .found .now) (a .load) (a .count) (128 * a .node + 32 * a .bin) k (i .end) (i .work)) (c .if2 .taken) (i .inv .4))
+    growing-over (a .most) (a .symbols .now) (a .work .now) (a .found .now) (a .load) (a .count) (a .at) (i .end) (i .work) (c .before .before .best .result) (i .inv .3)
+    (subst (λ (k : ℕ). Growing (a .most) (a .symbols .now) (a .work .now) (a .found .now) (a .load) (a .count) (a .at) k (i .end) (i .work)) (c .if2 .taken) (i .inv .4))
     (sym (seen (c .before .before)) ∙ c .before .before .best .ensures .point (c .before .if1 .left))
 
 add-work : tie.Need-add-work Inv-loop μ-loop
-add-work c = omega arith
+add-work c = let i = c .before .before .before .before .before .loop in omega (arith, within (c .before .before .before .before .before .before) .0, i .inv .0)
 
 mul-work : tie.Need-mul-work Inv-loop μ-loop
-mul-work c = omega arith
+mul-work c = let i = c .before .before .before .before .before .loop in record { fits = omega (arith, within (c .before .before .before .before .before .before) .0, i .inv .0) }
 
 slice-write-work : tie.Need-slice-write-work Inv-loop μ-loop
-slice-write-work c = omega (arith, c .before .before .before .before .before .loop .inv .1, c .before .before .before .before .before .before .before .before .before .pre .0 .work-length, c .before .before .before .before .before .before .before .before .before .pre .1 .0)
+slice-write-work c = let i = c .before .before .before .before .before .loop in omega (arith, i .inv .0, i .inv .1, within (c .before .before .before .before .before .before) .1)
+
+loop-again : tie.Need-loop-again Inv-loop μ-loop
+loop-again c =
+    let a = c .before .before .before .before .before .before .before .before .before .args in
+    let i = c .before .before .before .before .before .loop in
+    let w = c .before .before .best .result in
+    let found = sym (seen (c .before .before)) ∙ c .before .before .best .ensures .point (c .before .if1 .left) in
+    let small : w < pointLimit = omega (arith, fits (a .most) (a .symbols .now) (a .work .now) (a .found .now) (a .load) (a .count) (c .before .before .before .before .before .before .before .before .before .pre .1 .1 .1) (i .end) w found) in
+    let more : i .k < a .most = omega (arith, i .inv .0, c .if2 .left) in (
+      omega arith,
+      length-set (i .work) ((a .most + 1) * a .at + i .k) w ∙ i .inv .1,
+      omega arith,
+      small-set (i .work) ((a .most + 1) * a .at + i .k) w (i .inv .3) small,
+      growing-next (a .most) (a .symbols .now) (a .work .now) (a .found .now) (a .load) (a .count) (a .at) (i .k) (i .end) (i .work) w more (i .inv .4) found,
+    )
+
+same-length-3 : tie.Need-same-length-3 Inv-loop μ-loop
+same-length-3 c = c .before .loop .inv .1
+
+returns-3 : tie.Need-returns-3 Inv-loop μ-loop
+returns-3 c = absurd (omega (arith, c .before .loop .inv .0, c .loop-test .left))
+
+add-first : tie.Need-add-first Inv-loop μ-loop
+add-first c = omega arith
 
 add-k : tie.Need-add-k Inv-loop μ-loop
 add-k c = omega arith
@@ -100,40 +124,19 @@ add-k c = omega arith
 loop-less : tie.Need-loop-less Inv-loop μ-loop
 loop-less c = omega arith
 
-loop-again : tie.Need-loop-again Inv-loop μ-loop
-loop-again c =
-    let a = c .before .before .before .before .before .before .before .before .before .args in
-    let i = c .before .before .before .before .before .loop in
-    let w = c .before .before .best .result in
-    let z = c .before .if1 .left in
-    let found = sym (seen (c .before .before)) ∙ c .before .before .best .ensures .point z in
-    let small : w < 70368744177664 = omega (arith, fits (a .symbols .now) (a .work .now) (a .found .now) (a .load) (a .count) (c .before .before .before .before .before .before .before .before .before .pre .1 .1 .1) (i .end) w found) in (
-      omega (arith, c .if2 .left),
-      length-set (i .work) (128 * a .node + 32 * a .bin + i .k) w ∙ i .inv .1,
-      omega arith,
-      small-set (i .work) (128 * a .node + 32 * a .bin + i .k) w (i .inv .3) small,
-      growing-next (a .symbols .now) (a .work .now) (a .found .now) (a .load) (a .count) (128 * a .node + 32 * a .bin) (i .k) (i .end) (i .work) w (omega arith) (i .inv .4) found,
-    )
-
-same-length-3 : tie.Need-same-length-3 Inv-loop μ-loop
-same-length-3 c = c .before .loop .inv .1
-
-returns-3 : tie.Need-returns-3 Inv-loop μ-loop
-returns-3 c = absurd (omega arith)
-
 pub curve-spec : {M : Type 1} → statement M
 curve-spec =
     tie.close
     (tie.spec
     Inv-loop
     μ-loop
-    mul-at
-    mul-at-2
-    add-at
+    add-first
+    mul-first
     loop-holds
     best-requires
     same-length
     returns
+    add-result
     same-length-2
     returns-2
     add-work

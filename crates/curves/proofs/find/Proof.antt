@@ -1,27 +1,50 @@
 use native.Mathlib.Omega.{arith}
-use Prim.Native.Nat.{ℕ, suc, _+_, _-_, _≤_}
-use native.Mathlib.Nat.{add-zero}
-use mathlib.Core.Path.{_≡_, sym, ap, _∙_}
-use lib.ListN.{getD}
+use Prim.Native.Nat.{_-_, _≤_}
+use mathlib.Core.Path.{_≡_, refl, _∙_}
+use lib.ListN.{length, getD, drop, List·getD-eq-default}
 use Rattle.covers.specs.Curve.{lookup}
-use Rattle.curves.specs.Words.{stored}
-use Rattle.curves.proofs.Laws.{worth-none, worth-point, found-end, found-here, found-later, one-less}
+use Rattle.curves.specs.Words.{pointLimit, stored}
+use Rattle.curves.proofs.Laws.{worth-none, worth-point, found-end, found-here, found-later, found-never}
 use Rattle.curves.proofs.find.Statement.{statement}
 use Rattle.curves.proofs.find.Tie as tie
-use Rattle.curves.proofs.find.Reads as reads
-use Rattle.curves.proofs.find.Lts as lts
 
 abbrev Inv-loop : tie.InvT-loop
-Inv-loop work at end k₀ k = (k ≤ 32) × (lookup end (stored work at 32) ≡ lookup end (stored work (at + k) (32 - k)))
+Inv-loop curve end k₀ k = (k ≤ length curve) × (lookup end (stored curve) ≡ lookup end (stored (drop k curve)))
 
 abbrev μ-loop : tie.MeasureT-loop
-μ-loop work at end k₀ k = 32 - k
+μ-loop curve end k₀ k = length curve - k
+
+returns : tie.Need-returns Inv-loop μ-loop
+returns c = let a = c .before .args in worth-none pointLimit (a .end) _ (found-never (stored (a .curve .now)) (a .end) (c .if1 .taken))
 
 loop-holds : tie.Need-loop-holds Inv-loop μ-loop
-loop-holds c = (omega arith, ap (λ (i : ℕ). lookup (c .args .end) (stored (c .args .work .now) i 32)) (sym (add-zero (c .args .at))))
+loop-holds c = (omega arith, refl)
 
-add-w : tie.Need-add-w Inv-loop μ-loop
-add-w c = omega arith
+returns-2 : tie.Need-returns-2 Inv-loop μ-loop
+returns-2 c =
+    let a = c .before .before .before .before .before .before .args in
+    let i = c .before .before .before .before .loop in
+    worth-none pointLimit (a .end) _ (i .inv .1 ∙ found-end (a .curve .now) (a .end) (i .k) (c .if3 .taken))
+
+returns-3 : tie.Need-returns-3 Inv-loop μ-loop
+returns-3 c =
+    let a = c .before .before .before .before .before .before .args in
+    let i = c .before .before .before .before .loop in
+    let small = c .before .before .before .before .before .before .pre (i .k) in
+    worth-point pointLimit (a .end) (getD (a .curve .now) (i .k) 0) _ small (omega arith) (c .before .if2 .taken)
+    (i .inv .1 ∙ found-here (a .curve .now) (a .end) (i .k) (c .if3 .left) (c .before .if2 .taken))
+
+loop-again : tie.Need-loop-again Inv-loop μ-loop
+loop-again c =
+    let a = c .before .before .before .before .before .args in
+    let i = c .before .before .before .loop in
+    (omega arith, i .inv .1 ∙ found-later (a .curve .now) (a .end) (i .k) (omega (arith, c .before .before .before .before .if1 .left)) (c .if2 .left))
+
+returns-4 : tie.Need-returns-4 Inv-loop μ-loop
+returns-4 c =
+    let a = c .before .before .before .args in
+    let i = c .before .loop in
+    worth-none pointLimit (a .end) _ (i .inv .1 ∙ found-end (a .curve .now) (a .end) (i .k) (List·getD-eq-default (a .curve .now) 0 {n = i .k} (c .loop-test .left)))
 
 mul-w : tie.Need-mul-w Inv-loop μ-loop
 mul-w c = omega arith
@@ -29,44 +52,11 @@ mul-w c = omega arith
 shared-slice-read-w : tie.Need-shared-slice-read-w Inv-loop μ-loop
 shared-slice-read-w c = omega arith
 
-returns : tie.Need-returns Inv-loop μ-loop
-returns c =
-    let a = c .before .before .before .before .args in
-    let i = c .before .before .before .loop in
-    worth-none 70368744177664 (a .end) _ (i .inv .1 ∙ ap (λ (n : ℕ). lookup (a .end) (stored (a .work .now) (a .at + i .k) n)) (one-less 32 (i .k) (omega arith)) ∙ found-end (a .work .now) (a .end) (a .at + i .k) (32 - (i .k + 1)) (c .if1 .taken))
-
-returns-2 : tie.Need-returns-2 Inv-loop μ-loop
-returns-2 c =
-    let a = c .before .before .before .before .before .args in
-    let i = c .before .before .before .before .loop in
-    worth-point 70368744177664 (a .end) (getD (a .work .now) (a .at + i .k) 0) _ (c .before .before .before .before .before .pre .1 (a .at + i .k)) (omega (arith, c .before .before .before .before .before .pre .1 (a .at + i .k))) (c .if2 .taken)
-    (i .inv .1 ∙ ap (λ (n : ℕ). lookup (a .end) (stored (a .work .now) (a .at + i .k) n)) (one-less 32 (i .k) (omega arith))
-    ∙ found-here (a .work .now) (a .end) (a .at + i .k) (32 - (i .k + 1)) (c .before .if1 .left) (c .if2 .taken))
-
 add-k : tie.Need-add-k Inv-loop μ-loop
 add-k c = omega arith
 
 loop-less : tie.Need-loop-less Inv-loop μ-loop
 loop-less c = omega arith
-
-loop-again : tie.Need-loop-again Inv-loop μ-loop
-loop-again c =
-    let a = c .before .before .before .before .before .args in
-    let i = c .before .before .before .before .loop in
-    let on : suc (a .at + i .k) ≡ a .at + (i .k + 1) = omega arith in (
-      omega arith,
-      i .inv .1 ∙ ap (λ (n : ℕ). lookup (a .end) (stored (a .work .now) (a .at + i .k) n)) (one-less 32 (i .k) (omega arith))
-          ∙ found-later (a .work .now) (a .end) (a .at + i .k) (32 - (i .k + 1)) (c .before .if1 .left) (c .if2 .left)
-          ∙ ap (λ (q : ℕ). lookup (a .end) (stored (a .work .now) q (32 - (i .k + 1)))) on,
-    )
-
-returns-3 : tie.Need-returns-3 Inv-loop μ-loop
-unfolding stored lookup
-returns-3 c =
-    let a = c .before .before .args in
-    let i = c .before .loop in
-    let done : 32 - i .k ≡ 0 = omega arith in
-    worth-none 70368744177664 (a .end) _ (i .inv .1 ∙ ap (λ (n : ℕ). lookup (a .end) (stored (a .work .now) (a .at + i .k) n)) done)
 
 pub find-spec : {M : Type 1} → statement M
 find-spec =
@@ -74,13 +64,13 @@ find-spec =
     (tie.spec
     Inv-loop
     μ-loop
+    returns
     loop-holds
-    add-w
     mul-w
     shared-slice-read-w
-    returns
     returns-2
+    returns-3
     add-k
     loop-less
     loop-again
-    returns-3)
+    returns-4)

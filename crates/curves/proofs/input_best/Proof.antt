@@ -1,13 +1,34 @@
 use borrow.Author.Needs.{needs}
 use native.Mathlib.Omega.{arith}
 use mathlib.Core.Path.{subst}
+use Rattle.curves.specs.Words.{pointLimit}
 use Rattle.curves.specs.Promises.{Worth}
 use Rattle.curves.proofs.Laws.{leaf-timely, leaf-late, gate-best, worth-none}
 use Rattle.curves.proofs.input_best.Statement.{statement}
 use Rattle.curves.proofs.input_best.Tie as tie
-use Rattle.curves.proofs.input_best.Reads as reads
-use Rattle.curves.proofs.input_best.Lts as lts
-use Rattle.curves.proofs.find.Reads as find-reads
+
+leaf-arrival-requires : tie.Need-leaf-arrival-requires
+leaf-arrival-requires c κs = let a = c .before .before .before .before .args in (c .if1 .taken, c .before .before .before .before .pre .0 .symbols-small (a .node), c .before .before .before .before .pre .1 .2)
+
+returns : tie.Need-returns
+returns c =
+    let a = c .before .before .before .before .before .before .args in
+    let e = c .before .leaf-arrival .ensures in
+    leaf-timely (a .most) (a .symbols .now) (a .work .now) (a .node) (a .bin) (a .load) (a .end) (c .before .leaf-arrival .result) (c .before .before .if1 .taken) (e .0) (e .1) (c .if2 .taken)
+
+returns-2 : tie.Need-returns-2
+returns-2 c =
+    let a = c .before .before .before .before .before .before .args in
+    worth-none pointLimit (a .end) _
+    (leaf-late (a .most) (a .symbols .now) (a .work .now) (a .node) (a .bin) (a .load) (a .end) (c .before .leaf-arrival .result) (c .before .before .if1 .taken) (c .before .leaf-arrival .ensures .0) (c .if2 .left))
+
+look-up-requires : tie.Need-look-up-requires
+look-up-requires c κs = (c .before .before .before .before .pre .0 .curves, omega arith)
+
+returns-3 : tie.Need-returns-3
+returns-3 c =
+    let a = c .before .before .before .before .before .args in
+    subst (Worth pointLimit (a .end) (c .look-up .result)) (gate-best (a .most) (a .symbols .now) (a .work .now) (a .node) (a .bin) (a .load) (a .end) (omega (arith, c .before .if1 .left))) (c .look-up .ensures)
 
 mul-symbol : tie.Need-mul-symbol
 mul-symbol c = search needs
@@ -15,35 +36,11 @@ mul-symbol c = search needs
 shared-slice-read-symbol : tie.Need-shared-slice-read-symbol
 shared-slice-read-symbol c = search needs
 
-cast-arrival : tie.Need-cast-arrival
-cast-arrival c = search needs
+mul-look-up : tie.Need-mul-look-up
+mul-look-up c = search needs
 
-returns : tie.Need-returns
-returns c =
-    let a = c .before .before .before .before .before .args in
-    leaf-timely (a .symbols .now) (a .work .now) (a .node) (a .bin) (a .end) (c .before .if1 .taken) (omega arith) (c .if2 .taken)
-
-returns-2 : tie.Need-returns-2
-returns-2 c =
-    let a = c .before .before .before .before .before .args in
-    worth-none 70368744177664 (a .end) _ (leaf-late (a .symbols .now) (a .work .now) (a .node) (a .bin) (a .end) (c .before .if1 .taken) (c .if2 .left))
-
-mul-find : tie.Need-mul-find
-mul-find c = search needs
-
-mul-find-2 : tie.Need-mul-find-2
-mul-find-2 c = search needs
-
-add-find : tie.Need-add-find
-add-find c = search needs
-
-find-requires : tie.Need-find-requires
-find-requires c κs = search needs
-
-returns-3 : tie.Need-returns-3
-returns-3 c =
-    let a = c .before .before .before .before .before .args in
-    subst (Worth 70368744177664 (a .end) (c .find .result)) (gate-best (a .symbols .now) (a .work .now) (a .node) (a .bin) (a .end) (omega (arith, c .before .if1 .left))) (c .find .ensures)
+add-look-up : tie.Need-add-look-up
+add-look-up c = search needs
 
 pub input-best-spec : {M : Type 1} → statement M
 input-best-spec =
@@ -51,11 +48,10 @@ input-best-spec =
     (tie.spec
     mul-symbol
     shared-slice-read-symbol
-    cast-arrival
+    leaf-arrival-requires
     returns
     returns-2
-    mul-find
-    mul-find-2
-    add-find
-    find-requires
+    mul-look-up
+    add-look-up
+    look-up-requires
     returns-3)
