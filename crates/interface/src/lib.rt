@@ -1,20 +1,20 @@
 // The C interface: see include/treecover.h. A refusal is number × 2^32 + place.
-use mapper::Reply;
+use operations::Reply;
 use sheets::LibraryJudged;
 use sheets::TreeJudged;
 ghost use mathlib.Core.Path.{_≡_};
-ghost use Prim.Native.Nat.{_+_, _*_, _<_, _≤_, _^_};
+ghost use Prim.Native.Nat.{_+_, _*_, _<_, _≤_};
 ghost use lib.ListN.{length};
-ghost use Rattle.sheets.specs.Report.{word, libraryReport, treeReport};
-ghost use Rattle.covers.specs.Outcome.{told, mapOutcome, listOutcome};
-ghost use Rattle.covers.specs.Outcome.{word as wordOf};
-ghost use Rattle.mapper.specs.Said.{ofReply, Limited};
-ghost use Rattle.operations.specs.Promises.{Leaves};
+ghost use Rattle.fields.specs.Answer.{onSuccess, places, word, ofWord, Bounded};
+ghost use Rattle.sheets.specs.Report.{libraryWord, libraryReport, treeReport};
+ghost use Rattle.covers.specs.Outcome.{mapBytes, listBytes, told, observed, mapOutcome, listOutcome};
+ghost use Rattle.covers.specs.Demands.{MapDemands, ListDemands, WhereSound};
+ghost use Rattle.operations.specs.Public.{ofReply, Leaves};
 
 // A refusal in one word.
 fn refusal(number: u32, place: usize) -> u64
-    requires { ⌜ (number ≤ 16) × (place < 2 ^ 20) ⌝ }
-    ensures { λ r. ⌜ r ≡ number * 2 ^ 32 + place ⌝ }
+    requires { ⌜ (number ≤ 255) × (place < places) ⌝ }
+    ensures { λ r. ⌜ r ≡ number * places + place ⌝ }
 {
     number as u64 * 4294967296 + place as u64
 }
@@ -22,12 +22,12 @@ fn refusal(number: u32, place: usize) -> u64
 // Judges a library: cells × 256 + patterns, or the refusal.
 #[no_mangle]
 pub extern "C" fn treecover_judge_library(library: &[u8]) -> u64
-    ensures { λ r. ⌜ r ≡ word (libraryReport (now (library .entry))) ⌝ }
+    ensures { λ r. ⌜ r ≡ word (onSuccess libraryWord (libraryReport (now (library .entry)))) ⌝ }
 {
     let judged = sheets::judge_library(library);
     match judged {
         LibraryJudged::Sound(cells, patterns) => (cells * 256 + patterns) as u64,
-        LibraryJudged::Refused(fault, place) => refusal(sheets::library_number(fault), place),
+        LibraryJudged::Refused(number, place) => refusal(number, place),
     }
 }
 
@@ -39,14 +39,14 @@ pub extern "C" fn treecover_judge_tree(tree: &[u8]) -> u64
     let judged = sheets::judge_tree(tree);
     match judged {
         TreeJudged::Sound(nodes) => nodes as u64,
-        TreeJudged::Refused(fault, place) => refusal(sheets::tree_number(fault), place),
+        TreeJudged::Refused(number, place) => refusal(number, place),
     }
 }
 
 // A reply in one word.
 fn reply_word(reply: Reply) -> u64
-    requires { ⌜ Limited reply ⌝ }
-    ensures { λ r. ⌜ r ≡ wordOf (ofReply reply) ⌝ }
+    requires { ⌜ Bounded (ofReply reply) ⌝ }
+    ensures { λ r. ⌜ r ≡ word (ofReply reply) ⌝ }
 {
     match reply {
         Reply::Refused(number, place) => refusal(number, place),
@@ -62,8 +62,9 @@ pub extern "C" fn treecover_map(
     output: &mut [u8],
     work: &mut [u64],
 ) -> u64
-    ensures { λ r. ⌜ r ≡ wordOf (told (mapOutcome (now (library .entry)) (now (tree .entry)) (length (now (output .entry))) (length (now (work .entry))))) ⌝ }
+    ensures { λ r. ⌜ r ≡ word (told (mapOutcome (now (library .entry)) (now (tree .entry)) (length (now (output .entry))) (length (now (work .entry))))) ⌝ }
     ensures { λ r. ⌜ Leaves (mapOutcome (now (library .entry)) (now (tree .entry)) (length (now (output .entry))) (length (now (work .entry)))) (now (output .entry)) (now (output .exit)) (now (work .entry)) (now (work .exit)) ⌝ }
+    ensures { λ r. ⌜ WhereSound MapDemands mapBytes (now (library .entry)) (now (tree .entry)) (length (now (output .entry))) (length (now (work .entry))) (observed (ofWord r) (now (output .exit))) ⌝ }
 {
     let reply = operations::map(library, tree, output, work);
     reply_word(reply)
@@ -77,8 +78,9 @@ pub extern "C" fn treecover_list(
     output: &mut [u8],
     work: &mut [u64],
 ) -> u64
-    ensures { λ r. ⌜ r ≡ wordOf (told (listOutcome (now (library .entry)) (now (tree .entry)) (length (now (output .entry))) (length (now (work .entry))))) ⌝ }
+    ensures { λ r. ⌜ r ≡ word (told (listOutcome (now (library .entry)) (now (tree .entry)) (length (now (output .entry))) (length (now (work .entry))))) ⌝ }
     ensures { λ r. ⌜ Leaves (listOutcome (now (library .entry)) (now (tree .entry)) (length (now (output .entry))) (length (now (work .entry)))) (now (output .entry)) (now (output .exit)) (now (work .entry)) (now (work .exit)) ⌝ }
+    ensures { λ r. ⌜ WhereSound ListDemands listBytes (now (library .entry)) (now (tree .entry)) (length (now (output .entry))) (length (now (work .entry))) (observed (ofWord r) (now (output .exit))) ⌝ }
 {
     let reply = operations::list(library, tree, output, work);
     reply_word(reply)

@@ -1,85 +1,44 @@
--- The whole answer for a sound library and a sound tree: what was filled, then what was written.
-use Prim.Native.Nat.{ℕ, _<_, _^_}
-use mathlib.Core.Path.{_≡_, refl, sym, ap, subst, _∙_}
+-- From what was filled to what the core answers.
+use Prim.Native.Nat.{ℕ}
+use mathlib.Core.Path.{_≡_, sym, ap, _∙_}
 use mathlib.Core.List.{List}
-use mathlib.Core.Option.{Option, none, some, Option·map}
+use mathlib.Core.Option.{Option, some}
 use native.Mathlib.Omega.{arith}
 use lib.ListN.{length}
-use Rattle.sheets.specs.declared.CellRecord.{CellRecord}
+use Rattle.sheets.specs.declared.Bins.{Bins}
+use Rattle.sheets.specs.declared.TreeRecord.{TreeRecord}
 use Rattle.sheets.specs.Model.{Library, Tree}
 use Rattle.covers.specs.Choice.{choice}
-use Rattle.covers.specs.Tradeoff.{tradeoffs, nodes, overfull, overfullNode}
-use Rattle.covers.proofs.Ascending.{ascending-range}
-use Rattle.covers.proofs.Overfull.{LastOf, at, nodes-ascend, overfull-named}
-use Rattle.sheets.specs.Sound.{SoundTree}
-use Rattle.covers.specs.Answer.{answered, onSheet, mapped, mapAnswer, nonempty, listed, listAnswer}
-use Rattle.covers.specs.Outcome.{bytes, told, outputAfter, capacity, answering}
-use Rattle.covers.specs.CoverSheet.{coverSheet, listSheet}
+use Rattle.covers.specs.Tradeoff.{tradeoffs}
+use Rattle.covers.specs.Answer.{answered, mapped, nonempty, listed}
 use Rattle.filling.specs.declared.Filling.the-variants.{Whole, Overfull}
 use Rattle.filling.specs.Promises.{FillStart, FillingIs}
-use Rattle.mapper.specs.declared.Chosen.{Chosen}
-use Rattle.mapper.specs.declared.Task.{Task}
-use Rattle.mapper.specs.declared.Task.the-variants.{Cover, Tradeoffs}
-use Rattle.mapper.specs.declared.Reply.{Reply}
-use Rattle.mapper.specs.declared.Reply.the-variants.{Refused}
-use Rattle.mapper.specs.Said.{ofReply, Limited}
-use Rattle.mapper.specs.Promises.{Put, kept, put, Asked, Curved, taskAnswer, replyTo, Replied, Start}
+use Rattle.mapper.specs.declared.Finding.the-variants.{Refused}
+use Rattle.mapper.specs.Found.{ofFinding, ofMapped, ofListed, bareCover, refusedWith}
+use Rattle.mapper.specs.Promises.{Curved, Asked, MappedIs, ListedIs}
 
--- A node is numbered below the tree's size.
-node-small : (most : ℕ) (l : Library) {t : Tree} {n : ℕ} → SoundTree t → overfullNode most l t ≡ some n → n < 2 ^ 20
-node-small most l {t} {n} g e = go (subst (LastOf (overfull most l t) (nodes 0 (t .shape))) e (overfull-named most l t))
-  where
-    go : LastOf (overfull most l t) (nodes 0 (t .shape)) (some n) → n < 2 ^ 20
-    go (at h) = omega (arith, ascending-range (nodes-ascend 0 (t .shape)) (h .among), h .number, g .size)
-
-module _ {A : Type 0} (f : A → List ℕ) {entry exit : List ℕ} where
-  overfull-replied : {o : Option ℕ} {n : ℕ} (a : Option A) → o ≡ some n → exit ≡ entry → n < 2 ^ 20 → Replied entry exit (answering (onSheet f (answered o a))) (Refused 7 n)
-  unfolding answering onSheet answered told outputAfter ofReply Limited
-  overfull-replied {n = n} a e h b = subst (λ (q : Option ℕ). Replied entry exit (answering (onSheet f (answered q a))) (Refused 7 n)) (sym e) (record { reply-is = refl; output-is = h; limited = (omega arith, b) })
-
-  put-replied : {o : Option ℕ} (a : Option A) {chosen : Chosen} {r : Reply} → o ≡ none → Put entry exit (Option·map f a) chosen → r ≡ replyTo chosen → Replied entry exit (answering (onSheet f (answered o a))) r
-  unfolding answering onSheet answered replyTo told outputAfter ofReply Limited
-  put-replied {o} a {chosen} e p q = subst (Replied entry exit (answering (onSheet f (answered o a)))) (sym q) (subst (λ (o : Option ℕ). Replied entry exit (answering (onSheet f (answered o a))) (replyTo chosen)) (sym e) (go a p))
-    where
-      go : (b : Option A) {ch : Chosen} → Put entry exit (Option·map f b) ch → Replied entry exit (answering (onSheet f (answered none b))) (replyTo ch)
-      go none (kept h) = record { reply-is = refl; output-is = h; limited = (omega arith, omega arith) }
-      go (some c) (put w) = record { reply-is = ap bytes (w .bytes); output-is = w .output; limited = tt }
-
-module _ {rows : List ℕ} {total : ℕ} {cells : List CellRecord} {loads : List ℕ} {bins : ℕ} {ss zs : List ℕ} {count load : ℕ} {found work : List ℕ} {l : Library} {t : Tree} where
-  pub core-asked : {time : ℕ} → Start rows total cells loads bins ss zs count load time found work l t → (found′ work′ : List ℕ) → length found′ ≡ length found → length work′ ≡ length work → FillingIs l t work′ Whole →
-      Asked l t rows total cells loads ss zs load time work′ (length found′)
-  core-asked s found′ work′ hf hw w = record {
-    prepared = record {
-      decoded = s .fill .decoded;
-      room-is = hf ∙ s .fill .room;
-      work-long = omega (arith, hw, s .fill .work-length);
-      curves = w .1;
-    };
-    loads-are = s .fill .loads-are;
-    load-is = s .fill .load-is;
-    time-is = s .time-is;
-  }
-
-  pub core-curved : FillStart rows total cells loads bins ss zs count load found work l t → (work′ : List ℕ) → length work′ ≡ length work → FillingIs l t work′ Whole → Curved l t ss work′
-  core-curved s work′ hw w = record {
-    tree = s .decoded .tree;
-    symbols-are = s .decoded .symbols-are;
-    work-long = omega (arith, hw, s .work-length);
+module _ {l : Library} {t : Tree} {rows : List ℕ} {bins : Bins} {tree : TreeRecord} {most : ℕ} {found work : List ℕ} (s : FillStart l t rows bins tree most found work) (work′ : List ℕ) where
+  pub core-curved : length work′ ≡ length work → FillingIs most l t work′ Whole → Curved most l t tree work′
+  core-curved e w = record {
+    sound = s .decoded .tree;
+    tree-is = s .tree-is;
+    area = record { bounded = s .bounded; room = omega (arith, e, s .work-length); small = w .1 .small };
     curves = w .1;
+    some-most = s .some-most;
     not-overfull = w .0;
   }
 
-module _ (l : Library) (t : Tree) (work entry exit : List ℕ) where
-  pub task-overfull : (task : Task) (n : ℕ) → SoundTree t → FillingIs l t work (Overfull n) → exit ≡ entry → Replied entry exit (answering (taskAnswer task capacity l t)) (Refused 7 n)
-  unfolding taskAnswer mapAnswer mapped listAnswer listed
-  task-overfull Cover n g e h = overfull-replied coverSheet (choice l (t .load) 0 (t .shape) (t .required)) e h (node-small capacity l g e)
-  task-overfull Tradeoffs n g e h = overfull-replied listSheet (nonempty (tradeoffs l (t .load) 0 (t .shape))) e h (node-small capacity l g e)
+  pub core-asked : (found′ : List ℕ) → length found′ ≡ length found → length work′ ≡ length work → FillingIs most l t work′ Whole → Asked most l t rows tree (length found′) work′
+  core-asked found′ f e w = let c = core-curved e w in record {
+    curved = c;
+    prepared = record { decoded = s .decoded; room-is = f ∙ s .room; area = c .area; curves = c .curves };
+  }
 
-  module _ (task : Task) (chosen : Chosen) (r : Reply) (w : FillingIs l t work Whole) where
-    pub map-replied : task ≡ Cover → Put entry exit (Option·map coverSheet (choice l (t .load) 0 (t .shape) (t .required))) chosen → r ≡ replyTo chosen → Replied entry exit (answering (taskAnswer task capacity l t)) r
-    unfolding taskAnswer mapAnswer mapped
-    map-replied e p q = subst (λ (k : Task). Replied entry exit (answering (taskAnswer k capacity l t)) r) (sym e) (put-replied coverSheet (choice l (t .load) 0 (t .shape) (t .required)) (w .0) p q)
+module _ (most : ℕ) (l : Library) (t : Tree) (work : List ℕ) (n : ℕ) (e : FillingIs most l t work (Overfull n)) where
+  pub map-overfull : MappedIs most l t (refusedWith 7 n)
+  unfolding ofMapped ofFinding refusedWith bareCover mapped answered
+  map-overfull = record { answer-is = sym (ap (λ (o : Option ℕ). answered o (choice l (t .load) 0 (t .shape) (t .required))) e); few = omega arith }
 
-    pub list-replied : task ≡ Tradeoffs → Put entry exit (Option·map listSheet (nonempty (tradeoffs l (t .load) 0 (t .shape)))) chosen → r ≡ replyTo chosen → Replied entry exit (answering (taskAnswer task capacity l t)) r
-    unfolding taskAnswer listAnswer listed
-    list-replied e p q = subst (λ (k : Task). Replied entry exit (answering (taskAnswer k capacity l t)) r) (sym e) (put-replied listSheet (nonempty (tradeoffs l (t .load) 0 (t .shape))) (w .0) p q)
+  pub list-overfull : ListedIs most l t work (record { finding = Refused 7 n; count = 0 })
+  unfolding ofListed ofFinding listed answered
+  list-overfull = record { answer-is = sym (ap (λ (o : Option ℕ). answered o (nonempty (tradeoffs l (t .load) 0 (t .shape)))) e); few = omega arith; small = λ k h. absurd (omega arith) }

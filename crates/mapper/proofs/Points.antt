@@ -1,34 +1,64 @@
--- The root's curve as the words at the front of the work area, and its trade-offs on their sheet.
-use Prim.Native.Nat.{ℕ, zero, suc, _+_, _-_, _≤_, _<_}
+-- The root's curve as the words at the front of the work area, and its trade-offs.
+use Prim.Native.Nat.{ℕ, zero, suc, _+_, _-_, _*_, _≤_, _<_}
 use mathlib.Core.Path.{_≡_, refl, sym, ap, subst, _∙_}
 use mathlib.Core.Logic.{⊎-elim}
 use mathlib.Core.Bool.{Bool, cond, false≢true}
-use mathlib.Core.List.{List, [], _∷_, _++_, map, map-append, append-assoc, append-nil, reverse, reverse-reverse, List·Memᴰ, List·Memᴰ·head}
-use mathlib.Core.Option.{Option, none, Option·map, Option·none-ne-some}
+use mathlib.Core.List.{List, [], _∷_, _++_, map, map-append, append-assoc, append-nil, reverse, reverse-reverse, List·Memᴰ·head}
+use mathlib.Core.Option.{Option, none, some, Option·none-ne-some}
+use native.Mathlib.Numerals.{add-one}
 use native.Mathlib.Nat.{le-refl}
 use native.Mathlib.Omega.{arith}
 use borrow.Author.Tests.{eq-eqb, ne-eqb, le-leb}
-use lib.ListN.{length, getD, take, length-map, length-reverse}
-use lib.Seq.{take-suc, length-take-le}
-use Rattle.sheets.specs.Model.{Shape, leaf, leaves, Library, Tree}
+use lib.ListN.{length, getD, take, drop, set, length-map, length-reverse}
+use lib.Seq.{take-suc, length-take-le, drop-cons, drop-length, getD-set-same, getD-set-other}
+use Rattle.fields.specs.Answer.{Answer, success}
+use Rattle.sheets.specs.declared.TreeRecord.{TreeRecord}
+use Rattle.sheets.specs.Model.{Shape, leaf, Library, Tree}
 use Rattle.covers.specs.Lists.{any, select}
 use Rattle.covers.specs.Cover.{Point, Cover, leafArrival, leafPoint, leafCover}
 use Rattle.covers.specs.Enumeration.{coversStep}
 use Rattle.covers.specs.Tradeoff.{same, beats, beaten, insert, tradeoffsOf, points, tradeoffs, Node, nodes, considered, overfull}
-use Rattle.covers.specs.Answer.{nonempty}
-use Rattle.covers.specs.Outcome.{capacity}
-use Rattle.covers.specs.CoverSheet.{listSheet}
+use Rattle.covers.specs.Answer.{answered, nonempty, listed}
 use Rattle.covers.proofs.Basics.{lt-or-le}
-use Rattle.covers.specs.Curve.{curve, pointOf}
+use Rattle.covers.specs.Curve.{base, curve, pointOf}
 use Rattle.covers.proofs.Nodes.{root-in}
 use Rattle.covers.proofs.Overfull.{LastOf, nowhere, at, overfull-listed, overfull-named}
 use Rattle.covers.proofs.Points.{point-path}
 use Rattle.covers.proofs.Unroll.{covers-unroll}
-use Rattle.curves.specs.Words.{stored}
-use Rattle.writing.specs.Written.{pointsOf, Written}
-use Rattle.mapper.specs.declared.Chosen.the-variants.{NoCover, Bytes}
-use Rattle.mapper.specs.Promises.{Put, kept, put, Curved}
-use Rattle.mapper.proofs.Root.{symbols-room, leaf-symbol, gate-symbol}
+use Rattle.curves.specs.Words.{pointLimit, stored, curveAt}
+use Rattle.results.specs.Public.{pointsOf}
+use Rattle.mapper.specs.declared.Finding.the-variants.{Refused, Found}
+use Rattle.mapper.specs.Found.{ofFinding, ofListed}
+use Rattle.mapper.specs.Promises.{Curved, ListedIs}
+use Rattle.mapper.proofs.Root.{load-is, gate-root, leaf-root}
+
+-- ---- counting
+
+-- The first k words are points of the curve, and the rest of it stands after them.
+abbrev pub Counted : List ℕ → ℕ → Type 0
+Counted ws k = stored ws ≡ map pointOf (take k ws) ++ stored (drop k ws)
+
+-- The curve from a word on: the word's point, unless it is 0.
+from-word : (ws : List ℕ) (k : ℕ) → k < length ws → stored (drop k ws) ≡ cond (lib.Dec.eqb (getD ws k 0) 0) [] (pointOf (getD ws k 0) ∷ stored (drop (k + 1) ws))
+unfolding stored
+from-word ws k h = ap stored (drop-cons ws k 0 h ∙ ap (λ (j : ℕ). getD ws k 0 ∷ drop j ws) (sym (add-one k)))
+
+pub counted-more : (ws : List ℕ) (k : ℕ) → k < length ws → (getD ws k 0 ≡ 0 → ⊥) → Counted ws k → Counted ws (k + 1)
+counted-more ws k h there c =
+    let here = pointOf (getD ws k 0) in
+    let front : map pointOf (take (k + 1) ws) ≡ map pointOf (take k ws) ++ (here ∷ []) =
+    ap (λ (j : ℕ). map pointOf (take j ws)) (add-one k) ∙ ap (map pointOf) (take-suc ws k 0 h) ∙ map-append pointOf (take k ws) (getD ws k 0 ∷ []) in
+    let rest : stored (drop k ws) ≡ here ∷ stored (drop (k + 1) ws) =
+    from-word ws k h ∙ ap (λ (b : Bool). cond b [] (here ∷ stored (drop (k + 1) ws))) (ne-eqb _ _ there) in
+    c ∙ ap (λ (ps : List Point). map pointOf (take k ws) ++ ps) rest ∙ sym (append-assoc (map pointOf (take k ws)) (here ∷ []) (stored (drop (k + 1) ws))) ∙ ap (λ (ps : List Point). ps ++ stored (drop (k + 1) ws)) (sym front)
+
+pub counted-end : (ws : List ℕ) (k : ℕ) → k < length ws → getD ws k 0 ≡ 0 → Counted ws k → stored ws ≡ map pointOf (take k ws)
+counted-end ws k h e c =
+    c ∙ ap (λ (ps : List Point). map pointOf (take k ws) ++ ps) (from-word ws k h ∙ ap (λ (b : Bool). cond b [] (pointOf (getD ws k 0) ∷ stored (drop (k + 1) ws))) (eq-eqb _ _ e)) ∙ append-nil (map pointOf (take k ws))
+
+pub counted-all : (ws : List ℕ) (k : ℕ) → length ws ≡ k → Counted ws k → stored ws ≡ map pointOf (take k ws)
+unfolding stored
+counted-all ws k e c = c ∙ ap (λ (vs : List ℕ). map pointOf (take k ws) ++ stored vs) (ap (λ (j : ℕ). drop j ws) (sym e) ∙ drop-length ws) ∙ append-nil (map pointOf (take k ws))
 
 -- ---- a leaf
 
@@ -40,112 +70,90 @@ leaf-tradeoffs : (l : Library) (load x : ℕ) → tradeoffs l load 0 (leaf x) �
 unfolding tradeoffs points coversStep leafCover
 leaf-tradeoffs l load x = ap (λ (cs : List Cover). tradeoffsOf (points cs)) (covers-unroll l load 0 (leaf x)) ∙ one-point (leafPoint x load)
 
-pub one-word : (w : ℕ) → w < 70368744177664 → (k : ℕ) → k < 1 → getD (w ∷ []) k 0 < 70368744177664
-one-word w h zero g = h
-one-word w h (suc k) g = absurd (omega arith)
+-- A time as the word of a point of no area.
+leaf-word : (a : ℕ) → a < base → pointOf a ≡ record { area = 0; arrival = a }
+unfolding pointOf
+leaf-word a h = point-path (omega arith) (omega arith)
 
--- ---- counting
-
--- The first k words are points of the curve, and the rest of it stands after them.
-abbrev pub Counted : List ℕ → ℕ → Type 0
-Counted work k = stored work 0 32 ≡ map pointOf (take k work) ++ stored work k (32 - k)
-
-pub counted-more : (work : List ℕ) (k : ℕ) → k < 32 → 32 ≤ length work → (getD work k 0 ≡ 0 → ⊥) → Counted work k → Counted work (k + 1)
-unfolding stored
-counted-more work k h long there c =
-    let here = pointOf (getD work k 0) in
-    let left : 32 - k ≡ suc (32 - (k + 1)) = omega arith in
-    let next : suc k ≡ k + 1 = omega arith in
-    let front : map pointOf (take (k + 1) work) ≡ map pointOf (take k work) ++ (here ∷ []) =
-    ap (λ (j : ℕ). map pointOf (take j work)) (sym next) ∙ ap (map pointOf) (take-suc work k 0 (omega arith)) ∙ map-append pointOf (take k work) (getD work k 0 ∷ []) in
-    let rest : stored work k (32 - k) ≡ here ∷ stored work (k + 1) (32 - (k + 1)) =
-    ap (stored work k) left ∙ ap (λ (b : Bool). cond b [] (here ∷ stored work (suc k) (32 - (k + 1)))) (ne-eqb _ _ there) ∙ ap (λ (j : ℕ). here ∷ stored work j (32 - (k + 1))) next in
-    c ∙ ap (λ (ps : List Point). map pointOf (take k work) ++ ps) rest ∙ sym (append-assoc (map pointOf (take k work)) (here ∷ []) (stored work (k + 1) (32 - (k + 1)))) ∙ ap (λ (ps : List Point). ps ++ stored work (k + 1) (32 - (k + 1))) (sym front)
-
-pub counted-end : (work : List ℕ) (k : ℕ) → k < 32 → getD work k 0 ≡ 0 → Counted work k → stored work 0 32 ≡ map pointOf (take k work)
-unfolding stored
-counted-end work k h e c =
-    let left : 32 - k ≡ suc (32 - (k + 1)) = omega arith in
-    c ∙ ap (λ (ps : List Point). map pointOf (take k work) ++ ps) (ap (stored work k) left ∙ ap (λ (b : Bool). cond b [] (pointOf (getD work k 0) ∷ stored work (suc k) (32 - (k + 1)))) (eq-eqb _ _ e)) ∙ append-nil (map pointOf (take k work))
-
-pub counted-all : (work : List ℕ) (k : ℕ) → 32 ≤ k → Counted work k → stored work 0 32 ≡ map pointOf (take k work)
-unfolding stored
-counted-all work k h c =
-    let left : 32 - k ≡ 0 = omega arith in
-    c ∙ ap (λ (n : ℕ). map pointOf (take k work) ++ stored work k n) left ∙ append-nil (map pointOf (take k work))
-
--- ---- a sheet, or none
-
-listed-none : {entry exit : List ℕ} {ps : List Point} → ps ≡ [] → exit ≡ entry → Put entry exit (Option·map listSheet (nonempty ps)) NoCover
-unfolding nonempty
-listed-none {entry} {exit} e h = subst (λ (qs : List Point). Put entry exit (Option·map listSheet (nonempty qs)) NoCover) (sym e) (kept h)
-
-listed-some : {entry exit : List ℕ} {qs : List Point} {r : ℕ} (ps : List Point) → 0 < length ps → qs ≡ ps → Written (listSheet qs) entry exit r → Put entry exit (Option·map listSheet (nonempty ps)) (Bytes r)
-unfolding nonempty
-listed-some [] h e w = absurd (omega arith)
-listed-some {entry} {exit} {qs} {r} (p ∷ ps) h e w = put (subst (λ (xs : List Point). Written (listSheet xs) entry exit r) e w)
+first-set : (ws : List ℕ) (a : ℕ) → 0 < length ws → take 1 (set ws 0 a) ≡ a ∷ []
+first-set [] a h = absurd (omega arith)
+first-set (w ∷ ws) a h = refl
 
 -- ---- the root
 
-module _ {l : Library} {t : Tree} {ss work : List ℕ} (given : Curved l t ss work) where
+module _ {most : ℕ} {l : Library} {t : Tree} {tree : TreeRecord} {work : List ℕ} (given : Curved most l t tree work) where
   abbrev all : List Point
   all = tradeoffs l (t .load) 0 (t .shape)
 
-  pub symbol-here : 0 < length ss
-  symbol-here = symbols-room (t .shape) ss (given .symbols-are)
+  -- No node is overfull, so the answer is the list, if there is something in it.
+  listed-is : (o : Option (List Point)) → nonempty all ≡ o → answered none o ≡ listed most l t
+  unfolding listed
+  listed-is o e = ap (answered none) (sym e) ∙ ap (λ (q : Option ℕ). answered q (nonempty all)) (sym (given .not-overfull))
 
-  few : length all ≤ 31
+  few : length all ≤ most
   unfolding considered
-  few = ⊎-elim (λ (m : 31 < length all). absurd (go (given .not-overfull) (overfull-named capacity l t) m)) (λ h. h) (lt-or-le 31 (length all))
+  few = ⊎-elim (λ (m : most < length all). absurd (go (given .not-overfull) (overfull-named most l t) m)) (λ h. h) (lt-or-le most (length all))
     where
-      go : {o : Option ℕ} → o ≡ none → LastOf (overfull capacity l t) (nodes 0 (t .shape)) o → 31 < length all → ⊥
+      go : {o : Option ℕ} → o ≡ none → LastOf (overfull most l t) (nodes 0 (t .shape)) o → most < length all → ⊥
       go e (nowhere a) m =
           let root : Node = record { number = 0; shape = t .shape } in
-          false≢true (sym (a root (root-in 0 (t .shape))) ∙ overfull-listed capacity l t root .1 (t .load, List·Memᴰ·head refl, m))
+          false≢true (sym (a root (root-in 0 (t .shape))) ∙ overfull-listed most l t root .1 (t .load, List·Memᴰ·head refl, m))
       go e (at {k = k} h) m = Option·none-ne-some k (sym e)
 
-  module _ (leaf-root : 2 ≤ getD ss 0 0) where
-    arrival-small : getD ss 0 0 - 2 ≤ 1000000
-    arrival-small = at-leaf (t .shape) (leaf-symbol (t .shape) ss (given .tree .size) (given .symbols-are) leaf-root) (given .tree .leaves)
-      where
-        at-leaf : (s : Shape) → s ≡ leaf (getD ss 0 0 - 2) → ((x : ℕ) → List·Memᴰ x (leaves s) → x ≤ 1000000) → getD ss 0 0 - 2 ≤ 1000000
-        at-leaf s e h = subst (λ (q : Shape). ((x : ℕ) → List·Memᴰ x (leaves q) → x ≤ 1000000) → getD ss 0 0 - 2 ≤ 1000000) (sym e) (λ k. k (getD ss 0 0 - 2) (unfold leaves in List·Memᴰ·head refl)) h
+  pub leaf-listed : 2 ≤ getD (tree .symbols) 0 0 → (a : ℕ) → a ≡ leafArrival (getD (tree .symbols) 0 0 - 2) (tree .load) → a < base → ListedIs most l t (set work 0 a) (record { finding = Found; count = 1 })
+  unfolding ofListed ofFinding answered nonempty pointsOf leafPoint
+  leaf-listed h a e small =
+      let there : 0 < length work = omega (arith, given .area .room) in
+      let one : all ≡ record { area = 0; arrival = a } ∷ [] =
+      ap (tradeoffs l (t .load) 0) (leaf-root given h) ∙ leaf-tradeoffs l (t .load) (getD (tree .symbols) 0 0 - 2)
+      ∙ ap (λ (b : ℕ). record { area = 0; arrival = b } ∷ []) (ap (leafArrival (getD (tree .symbols) 0 0 - 2)) (sym (load-is given)) ∙ sym e) in
+      record {
+        answer-is =
+            ap (λ (ws : List ℕ). success (reverse (map pointOf ws))) (first-set work a there)
+            ∙ ap (λ (p : Point). success (p ∷ [])) (leaf-word a small)
+            ∙ listed-is (some (record { area = 0; arrival = a } ∷ [])) (ap nonempty one);
+        few = given .some-most;
+        small = one-word;
+      }
+    where
+      one-word : (k : ℕ) → k < 1 → getD (set work 0 a) k 0 < pointLimit
+      one-word zero k = rw (getD-set-same work 0 a 0 (omega (arith, given .area .room))) (omega arith)
+      one-word (suc k) h = absurd (omega arith)
 
-    pub leaf-word : getD ss 0 0 - 2 < 70368744177664
-    leaf-word = omega (arith, arrival-small)
+  module _ (gate : getD (tree .symbols) 0 0 < 2) (count : ℕ) (within : count ≤ length (take (most + 1) work)) (counted : stored (take (most + 1) work) ≡ map pointOf (take count (take (most + 1) work))) where
+    room : length (take (most + 1) work) ≡ most + 1
+    room = length-take-le (most + 1) work (omega (arith, given .area .room))
 
-    leaf-one : all ≡ leafPoint (getD ss 0 0 - 2) (t .load) ∷ []
-    leaf-one = ap (tradeoffs l (t .load) 0) (leaf-symbol (t .shape) ss (given .tree .size) (given .symbols-are) leaf-root) ∙ leaf-tradeoffs l (t .load) (getD ss 0 0 - 2)
+    front : take count (take (most + 1) work) ≡ take count work
+    front = lib.Seq.take-take-le count (most + 1) work (omega (arith, within, room))
 
-    pub leaf-listed : (entry exit : List ℕ) (r : ℕ) → Written (listSheet (pointsOf 1 ((getD ss 0 0 - 2) ∷ []))) entry exit r → Put entry exit (Option·map listSheet (nonempty all)) (Bytes r)
-    unfolding pointsOf pointOf leafPoint leafArrival
-    leaf-listed entry exit r w =
-        listed-some all (omega (arith, ap length leaf-one))
-        (ap (λ (p : Point). p ∷ []) (point-path (omega (arith, arrival-small)) (omega (arith, arrival-small))) ∙ sym leaf-one) w
-
-  module _ (gate : getD ss 0 0 < 2) (count : ℕ) (counted : stored work 0 32 ≡ map pointOf (take count work)) (within : count ≤ 32) where
     words-are : map pointOf (take count work) ≡ reverse all
     unfolding curve tradeoffs
-    words-are = sym counted ∙ given .curves .root (gate-symbol (t .shape) ss (given .tree .size) (given .symbols-are) gate)
+    words-are = ap (map pointOf) (sym front) ∙ sym counted ∙ given .curves .root (gate-root given gate)
 
     many : count ≡ length all
-    many =
-        sym (length-take-le count work (omega (arith, given .work-long))) ∙ sym (length-map (take count work) pointOf) ∙ ap length words-are ∙ length-reverse all
+    many = sym (length-take-le count work (omega (arith, within, room, given .area .room))) ∙ sym (length-map (take count work) pointOf) ∙ ap length words-are ∙ length-reverse all
 
-    pub gate-fits : count ≤ 31
-    gate-fits = omega (arith, many, few)
-
-    pub gate-empty : (entry exit : List ℕ) → count ≡ 0 → exit ≡ entry → Put entry exit (Option·map listSheet (nonempty all)) NoCover
-    gate-empty entry exit e h = listed-none (go all (omega (arith, many))) h
+    pub gate-empty : count ≡ 0 → ListedIs most l t work (record { finding = Refused 8 0; count = count })
+    unfolding ofListed ofFinding answered nonempty
+    gate-empty e = record { answer-is = listed-is none (go all (omega (arith, many))); few = omega (arith, e); small = λ k h. absurd (omega (arith, e)) }
       where
-        go : (ps : List Point) → length ps ≡ 0 → ps ≡ []
+        go : (ps : List Point) → length ps ≡ 0 → nonempty ps ≡ none
         go [] z = refl
         go (p ∷ ps) z = absurd (omega arith)
 
-    pub gate-listed : (entry exit : List ℕ) (r : ℕ) → (count ≡ 0 → ⊥) → Written (listSheet (pointsOf count work)) entry exit r → Put entry exit (Option·map listSheet (nonempty all)) (Bytes r)
-    unfolding pointsOf pointOf
-    gate-listed entry exit r some-there w = listed-some all (positive count many some-there) (ap reverse words-are ∙ reverse-reverse all) w
+    pub gate-listed : (count ≡ 0 → ⊥) → ListedIs most l t work (record { finding = Found; count = count })
+    unfolding ofListed ofFinding answered nonempty pointsOf
+    gate-listed there = record {
+      answer-is = ap success (ap reverse words-are ∙ reverse-reverse all) ∙ listed-is (some all) (go all (positive count many there));
+      few = omega (arith, many, few);
+      small = λ k h. given .area .small k;
+    }
       where
         positive : (k : ℕ) → k ≡ length all → (k ≡ 0 → ⊥) → 0 < length all
         positive zero e h = absurd (h refl)
         positive (suc k) e h = omega arith
+
+        go : (ps : List Point) → 0 < length ps → nonempty ps ≡ some ps
+        go [] z = absurd (omega arith)
+        go (p ∷ ps) z = refl

@@ -1,23 +1,24 @@
--- The root's cover and its sheet.
+-- The root's cover.
 use Prim.Native.Nat.{ℕ, suc, _+_, _-_, _/_, _%_, _≤_, _<_}
 use mathlib.Core.Path.{_≡_, refl, sym, ap, ap₂, subst, _∙_}
 use mathlib.Core.Bool.{Bool, cond}
-use mathlib.Core.List.{List, [], _∷_, map}
+use mathlib.Core.List.{List, [], _∷_, map, List·Memᴰ, List·Memᴰ·head}
 use mathlib.Core.Option.{Option, none, some, Option·map, Option·none-ne-some, Option·some-injective}
 use native.Mathlib.Numerals.{add-one}
 use native.Mathlib.Nat.{zero-add}
 use native.Mathlib.Omega.{arith}
 use borrow.Author.Tests.{le-leb, lt-leb}
 use lib.ListN.{length, getD, take, drop, replicate, length-map, length-replicate}
-use lib.Seq.{sets, sets-eq, length-sets, take-append-seam}
+use lib.Seq.{sets, sets-eq, take-append-seam}
+use Rattle.fields.specs.Answer.{Answer, refused, success}
 use Rattle.shapes.specs.Shape.{symbols, sizes}
-use Rattle.sheets.specs.declared.CellRecord.{CellRecord}
-use Rattle.sheets.specs.Model.{Shape, leaf, inv, nand, size, Library, Tree}
-use Rattle.sheets.specs.Layout.{padded}
+use Rattle.sheets.specs.declared.TreeRecord.{TreeRecord}
+use Rattle.sheets.specs.Model.{Shape, leaf, inv, nand, leaves, Library, Tree}
+use Rattle.sheets.specs.Layout.{padded, treeLaid}
 use Rattle.covers.specs.Cover.{Point, Placed, Cover, leafArrival, leafPoint, leafCover}
 use Rattle.covers.specs.Enumeration.{covers}
 use Rattle.covers.specs.Choice.{least, choiceStep, choice}
-use Rattle.covers.specs.CoverSheet.{coverSheet}
+use Rattle.covers.specs.Answer.{answered, mapped}
 use Rattle.covers.specs.Curve.{base, gates, lookup, pointOf}
 use Rattle.covers.proofs.Curve.{curve-is, lookup-is-least}
 use Rattle.covers.proofs.Handed.{choice-point, choice-handed}
@@ -26,166 +27,160 @@ use Rattle.covers.proofs.Matching.{gates-lt-size}
 use Rattle.covers.proofs.Nodes.{root-in}
 use Rattle.covers.proofs.Unroll.{choice-unroll}
 use Rattle.matching.specs.Standing.{Stands}
-use Rattle.curves.specs.Words.{absent, tableOf}
-use Rattle.curves.specs.Promises.{Worth}
-use Rattle.choosing.specs.Promises.{at-root, Driven, Chooses, Listed}
-use Rattle.choosing.proofs.Gate.{chosen-there}
 use Rattle.matching.proofs.Standing.{stands-everywhere}
-use Rattle.writing.specs.Written.{placedOf, coverOf, Written}
-use Rattle.mapper.specs.declared.Chosen.{Chosen}
-use Rattle.mapper.specs.declared.Chosen.the-variants.{NoCover, Bytes}
-use Rattle.mapper.specs.Promises.{Put, kept, put, Asked}
-
--- ---- a sheet, or none
-
-put-none : {entry exit : List ℕ} {o : Option Cover} → o ≡ none → exit ≡ entry → Put entry exit (Option·map coverSheet o) NoCover
-put-none {entry} {exit} e h = subst (λ (q : Option Cover). Put entry exit (Option·map coverSheet q) NoCover) (sym e) (kept h)
-
-put-some : {entry exit : List ℕ} {o : Option Cover} {c d : Cover} {r : ℕ} → o ≡ some c → d ≡ c → Written (coverSheet d) entry exit r → Put entry exit (Option·map coverSheet o) (Bytes r)
-put-some {entry} {exit} {r = r} e f h = subst (λ (q : Option Cover). Put entry exit (Option·map coverSheet q) (Bytes r)) (sym (e ∙ ap some (sym f))) (put h)
+use Rattle.curves.specs.Words.{absent, pointLimit, stored, curveAt}
+use Rattle.curves.specs.Best.{symbolLimit}
+use Rattle.curves.specs.Promises.{Worth}
+use Rattle.choosing.specs.declared.Goal.{Goal}
+use Rattle.choosing.specs.Promises.{at-root, Chooses, appended}
+use Rattle.choosing.proofs.Gate.{chosen-there}
+use Rattle.results.specs.declared.CoverRecord.{CoverRecord}
+use Rattle.results.specs.Public.{placedOf, coverOf}
+use Rattle.mapper.specs.declared.Finding.the-variants.{Found}
+use Rattle.mapper.specs.declared.Mapped.{Mapped}
+use Rattle.mapper.specs.Found.{ofFinding, ofMapped, bareCover, refusedWith}
+use Rattle.mapper.specs.Promises.{Curved, Asked, MappedIs}
 
 -- ---- a leaf
 
+-- The answer to a leaf, which is in time or not.
 module _ (l : Library) (load x time : ℕ) where
   leaf-is : choice l load 0 (leaf x) time ≡ choiceStep l (choice l) load 0 (leaf x) time
   leaf-is = ap (λ (f : ℕ → Option Cover). f time) (choice-unroll l load 0 (leaf x))
 
-  pub leaf-late : (entry exit : List ℕ) → time < x → exit ≡ entry → Put entry exit (Option·map coverSheet (choice l load 0 (leaf x) time)) NoCover
-  unfolding choiceStep leafArrival leafPoint leafCover
-  leaf-late entry exit h e = put-none (leaf-is ∙ ap (λ (b : Bool). cond b (some (leafCover x load)) none) (lt-leb _ _ h)) e
+  pub leaf-late : time < leafArrival x load → ofMapped (refusedWith 8 0) ≡ answered none (choice l load 0 (leaf x) time)
+  unfolding ofMapped ofFinding refusedWith answered choiceStep
+  leaf-late h = sym (ap (answered none) (leaf-is ∙ ap (λ (b : Bool). cond b (some (leafCover x load)) none) (lt-leb _ _ h)))
 
-  pub leaf-timely : (entry exit : List ℕ) (r : ℕ) → x ≤ time → Written (coverSheet (coverOf 0 x (placedOf [] []))) entry exit r →
-      Put entry exit (Option·map coverSheet (choice l load 0 (leaf x) time)) (Bytes r)
-  unfolding choiceStep leafArrival leafPoint leafCover placedOf
-  leaf-timely entry exit r h w = put-some {c = leafCover x load} (leaf-is ∙ ap (λ (b : Bool). cond b (some (leafCover x load)) none) (le-leb _ _ h)) refl w
+  pub leaf-timely : (a : ℕ) → a ≡ leafArrival x load → a ≤ time → ofMapped (record { finding = Found; cover = bareCover 0 a }) ≡ answered none (choice l load 0 (leaf x) time)
+  unfolding ofMapped ofFinding bareCover coverOf placedOf answered choiceStep leafCover leafPoint
+  leaf-timely a e h =
+      ap (λ (b : ℕ). success (record { point = record { area = 0; arrival = b }; placed = [] })) e
+      ∙ sym (ap (answered none) (leaf-is ∙ ap (λ (b : Bool). cond b (some (leafCover x load)) none) (le-leb _ _ (rw (← e) h))))
 
--- ---- the matches of a cover from their nodes and patterns
+-- ---- a cover from its record
 
 placed-back : (xs : List Placed) → placedOf (map (λ (x : Placed). x .node) xs) (map (λ (x : Placed). x .pattern) xs) ≡ xs
 unfolding placedOf
 placed-back [] = refl
 placed-back (x ∷ xs) = ap (λ (ys : List Placed). x ∷ ys) (placed-back xs)
 
-laid-front : (vs ns : List ℕ) → length vs ≤ length ns → take (length vs) (sets ns 0 vs) ≡ vs
-laid-front vs ns h = ap (take (length vs)) (sets-eq vs ns 0 (omega arith)) ∙ take-append-seam vs (drop (0 + length vs) ns)
-
--- ---- the root's symbol
-
-module _ (s : Shape) (ss : List ℕ) where
-  pub symbols-room : ss ≡ padded 64 0 (symbols s) → 0 < length ss
-  symbols-room e = omega (arith, ap length e ∙ length-sets (replicate 64 0) 0 (symbols s) ∙ length-replicate {A = ℕ} 64 0)
-
-  module _ (small : size s ≤ 64) (are : ss ≡ padded 64 0 (symbols s)) where
-    abbrev zs : List ℕ
-    zs = padded 64 0 (sizes s)
-
-    root-stands : Stands ss zs 0 s
-    root-stands = stands-everywhere ss zs s small are refl (record { number = 0; shape = s }) (root-in 0 s)
-
-    pub gate-symbol : getD ss 0 0 < 2 → 0 < gates s
-    gate-symbol = go s root-stands
-      where
-        go : (x : Shape) → Stands ss zs 0 x → getD ss 0 0 < 2 → 0 < gates x
-        go (leaf y) h g = absurd (omega (arith, h .0))
-        go (inv a) h g = unfold gates in omega arith
-        go (nand a b) h g = unfold gates in omega arith
-
-    pub leaf-symbol : 2 ≤ getD ss 0 0 → s ≡ leaf (getD ss 0 0 - 2)
-    leaf-symbol = go s root-stands
-      where
-        go : (x : Shape) → Stands ss zs 0 x → 2 ≤ getD ss 0 0 → x ≡ leaf (getD ss 0 0 - 2)
-        go (leaf y) h g = ap leaf (omega (arith, h .0))
-        go (inv a) h g = absurd (omega (arith, h .0))
-        go (nand a b) h g = absurd (omega (arith, h .0))
+-- What is appended to a cover with no match is all that it lists.
+whole-cover : (area arrival : ℕ) (xs : List Placed) → length xs ≤ 64 → coverOf (appended (bareCover area arrival) xs) ≡ record { point = record { area = area; arrival = arrival }; placed = xs }
+unfolding coverOf appended bareCover
+whole-cover area arrival xs h =
+    ap (λ (ys : List Placed). record { point = record { area = area; arrival = arrival }; placed = ys })
+    (ap₂ placedOf (front (λ x. x .node)) (front (λ x. x .pattern)) ∙ placed-back xs)
+  where
+    front : (f : Placed → ℕ) → take (0 + length xs) (sets (replicate 64 0) 0 (map f xs)) ≡ map f xs
+    front f =
+        let many = length-map xs f in
+        ap (take (0 + length xs)) (sets-eq (map f xs) (replicate 64 0) 0 (omega (arith, many, length-replicate {A = ℕ} 64 0)))
+        ∙ ap (λ (k : ℕ). take k (map f xs ++ drop (0 + length (map f xs)) (replicate 64 0))) (zero-add (length xs) ∙ sym many)
+        ∙ take-append-seam (map f xs) (drop (0 + length (map f xs)) (replicate 64 0))
 
 -- ---- the root
 
-module _ {l : Library} {t : Tree} {rows : List ℕ} {total : ℕ} {cells : List CellRecord} {loads ss zs : List ℕ} {load time : ℕ} {work : List ℕ} {room : ℕ} (asked : Asked l t rows total cells loads ss zs load time work room) where
-  pub root-room : 0 < length ss
-  root-room = symbols-room (t .shape) ss (asked .prepared .decoded .symbols-are)
+module _ {most : ℕ} {l : Library} {t : Tree} {tree : TreeRecord} {work : List ℕ} (given : Curved most l t tree work) where
+  abbrev first : ℕ
+  first = getD (tree .symbols) 0 0
 
-  abbrev asks : Option Cover
-  asks = choice l (t .load) 0 (t .shape) (t .required)
+  symbols-are : tree .symbols ≡ padded 64 0 (symbols (t .shape))
+  unfolding treeLaid
+  symbols-are = ap (λ (r : TreeRecord). r .symbols) (given .tree-is)
 
-  asks-are : choice l load 0 (t .shape) time ≡ asks
-  asks-are = ap₂ (λ (a b : ℕ). choice l a 0 (t .shape) b) (asked .load-is) (asked .time-is)
+  pub load-is : tree .load ≡ t .load
+  unfolding treeLaid
+  load-is = ap (λ (r : TreeRecord). r .load) (given .tree-is)
 
-  -- The cover of a root that is a leaf.
-  pub leaf-put : 2 ≤ getD ss 0 0 → (entry exit : List ℕ) (r : Chosen) → Put entry exit (Option·map coverSheet (choice l (t .load) 0 (leaf (getD ss 0 0 - 2)) time)) r → Put entry exit (Option·map coverSheet asks) r
-  leaf-put h entry exit r = subst (λ (o : Option Cover). Put entry exit (Option·map coverSheet o) r) (ap₂ (λ (s : Shape) (b : ℕ). choice l (t .load) 0 s b) (sym (leaf-symbol (t .shape) ss (asked .prepared .decoded .tree .size) (asked .prepared .decoded .symbols-are) h)) (asked .time-is))
+  pub time-is : tree .required ≡ t .required
+  unfolding treeLaid
+  time-is = ap (λ (r : TreeRecord). r .required) (given .tree-is)
 
-  module _ (gate : getD ss 0 0 < 2) (w : ℕ) (worth : Worth 70368744177664 (time + 1) w (lookup (time + 1) (tableOf work 0 0))) where
-    looked : lookup (time + 1) (tableOf work 0 0) ≡ least (suc time) (covers l load 0 (t .shape))
+  root-stands : Stands (tree .symbols) (padded 64 0 (sizes (t .shape))) 0 (t .shape)
+  root-stands = stands-everywhere (tree .symbols) _ (t .shape) (given .sound .size) symbols-are refl (record { number = 0; shape = t .shape }) (root-in 0 (t .shape))
+
+  pub gate-root : first < 2 → 0 < gates (t .shape)
+  gate-root = go (t .shape) root-stands
+    where
+      go : (x : Shape) → Stands (tree .symbols) _ 0 x → first < 2 → 0 < gates x
+      go (leaf y) h g = absurd (omega (arith, h .0))
+      go (inv a) h g = unfold gates in omega arith
+      go (nand a b) h g = unfold gates in omega arith
+
+  pub leaf-root : 2 ≤ first → t .shape ≡ leaf (first - 2)
+  leaf-root = go (t .shape) root-stands
+    where
+      go : (x : Shape) → Stands (tree .symbols) _ 0 x → 2 ≤ first → x ≡ leaf (first - 2)
+      go (leaf y) h g = ap leaf (omega (arith, h .0))
+      go (inv a) h g = absurd (omega (arith, h .0))
+      go (nand a b) h g = absurd (omega (arith, h .0))
+
+  pub leaf-small : 2 ≤ first → first ≤ symbolLimit
+  leaf-small h = omega (arith, at-leaf (t .shape) (leaf-root h) (given .sound .leaves))
+    where
+      at-leaf : (s : Shape) → s ≡ leaf (first - 2) → ((x : ℕ) → List·Memᴰ x (leaves s) → x ≤ 1000000) → first - 2 ≤ 1000000
+      at-leaf s e h = subst (λ (q : Shape). ((x : ℕ) → List·Memᴰ x (leaves q) → x ≤ 1000000) → first - 2 ≤ 1000000) (sym e) (λ k. k (first - 2) (unfold leaves in List·Memᴰ·head refl)) h
+
+  -- No node is overfull, so the answer is the choice.
+  chosen-is : (o : Option Cover) → choice l (tree .load) 0 (t .shape) (tree .required) ≡ o → answered none o ≡ mapped most l t
+  unfolding mapped
+  chosen-is o e =
+      ap (answered none) (sym e ∙ ap₂ (λ (a b : ℕ). choice l a 0 (t .shape) b) load-is time-is)
+      ∙ ap (λ (q : Option ℕ). answered q (choice l (t .load) 0 (t .shape) (t .required))) (sym (given .not-overfull))
+
+  pub leaf-mapped : 2 ≤ first → {r : Mapped} → ofMapped r ≡ answered none (choice l (tree .load) 0 (leaf (first - 2)) (tree .required)) → ofMapped r ≡ mapped most l t
+  leaf-mapped h e = e ∙ ap (λ (s : Shape). answered none (choice l (tree .load) 0 s (tree .required))) (sym (leaf-root h)) ∙ chosen-is _ refl
+
+  module _ (gate : first < 2) (w : ℕ) (worth : Worth pointLimit (tree .required + 1) w (lookup (tree .required + 1) (stored (curveAt most work 0)))) where
+    looked : lookup (tree .required + 1) (stored (curveAt most work 0)) ≡ least (suc (tree .required)) (covers l (tree .load) 0 (t .shape))
     looked =
-        ap (lookup (time + 1)) (asked .prepared .curves .root (gate-symbol (t .shape) ss (asked .prepared .decoded .tree .size) (asked .prepared .decoded .symbols-are) gate)) ∙ lookup-is-least (time + 1) (curve-is (covers l (t .load) 0 (t .shape)))
-        ∙ ap₂ (λ (k a : ℕ). least k (covers l a 0 (t .shape))) (add-one time) (sym (asked .load-is))
+        ap (lookup (tree .required + 1)) (given .curves .root (gate-root gate)) ∙ lookup-is-least (tree .required + 1) (curve-is (covers l (t .load) 0 (t .shape)))
+        ∙ ap₂ (λ (k a : ℕ). least k (covers l a 0 (t .shape))) (add-one (tree .required)) (sym load-is)
 
-    pub gate-none : (entry exit : List ℕ) → w ≡ absent → exit ≡ entry → Put entry exit (Option·map coverSheet asks) NoCover
-    gate-none entry exit e h = put-none (sym asks-are ∙ go (choice l load 0 (t .shape) time) (choice-point l load 0 (t .shape) time ∙ sym looked ∙ worth .missing e)) h
+    pub gate-none : w ≡ absent → MappedIs most l t (refusedWith 8 0)
+    unfolding ofMapped ofFinding refusedWith bareCover answered
+    gate-none e = record {
+      answer-is = chosen-is none (go (choice l (tree .load) 0 (t .shape) (tree .required)) (choice-point l (tree .load) 0 (t .shape) (tree .required) ∙ sym looked ∙ worth .missing e));
+      few = omega arith;
+    }
       where
         go : (o : Option Cover) → Option·map (λ (c : Cover). c .point) o ≡ none → o ≡ none
         go none e = refl
         go (some c) e = absurd (Option·none-ne-some (c .point) (sym e))
 
     module _ (there : w ≡ absent → ⊥) where
-      least-here : least (suc time) (covers l load 0 (t .shape)) ≡ some (pointOf w)
+      least-here : least (suc (tree .required)) (covers l (tree .load) 0 (t .shape)) ≡ some (pointOf w)
       least-here = sym looked ∙ worth .point there
 
-      pub gate-driven : Driven l t 0 load 0 time (t .shape)
-      gate-driven = record {
-        node = root-in 0 (t .shape);
-        drives = at-root refl (asked .load-is) refl;
-        time-small = omega (arith, asked .time-is, asked .prepared .decoded .tree .required);
-        some-cover = (pointOf w, least-here);
-      }
-
-      pub gate-chooses : (places : ℕ) → places ≡ 64 → Chooses l t rows total cells loads ss zs room work 0 load 0 time places 0 (t .shape)
-      gate-chooses places e = record {
-        prepared = asked .prepared;
-        driven = gate-driven;
-        loads-are = asked .loads-are;
-        fits = omega (arith, gates-lt-size (t .shape), asked .prepared .decoded .tree .size);
-      }
-
-      pub gate-small : w < 70368744177664
+      pub gate-small : w < pointLimit
       gate-small = worth .small there
 
-      module _ (ns ps ns′ ps′ : List ℕ) (count : ℕ) (hn : length ns ≡ 64) (hp : length ps ≡ 64)
-          (listed : (c : Cover) → choice l load 0 (t .shape) time ≡ some c → Listed (c .placed) 0 ns ps ns′ ps′ count) where
-        chosen : (c : Cover) × (choice l load 0 (t .shape) time ≡ some c)
-        chosen = chosen-there l load 0 (t .shape) time (least-here)
+      chosen : (c : Cover) × (choice l (tree .load) 0 (t .shape) (tree .required) ≡ some c)
+      chosen = chosen-there l (tree .load) 0 (t .shape) (tree .required) least-here
 
-        few : length (chosen .0 .placed) ≤ 63
-        few = omega (arith, few-matches (choice-handed l load 0 (t .shape) time (chosen .1) .legal), gates-lt-size (t .shape), asked .prepared .decoded .tree .size)
+      few-placed : length (chosen .0 .placed) ≤ 63
+      few-placed = omega (arith, few-matches (choice-handed l (tree .load) 0 (t .shape) (tree .required) (chosen .1) .legal), gates-lt-size (t .shape), given .sound .size)
 
-        here : Listed (chosen .0 .placed) 0 ns ps ns′ ps′ count
-        here = listed (chosen .0) (chosen .1)
+      pub gate-found : (cover : CoverRecord) → ((c : Cover) → choice l (tree .load) 0 (t .shape) (tree .required) ≡ some c → cover ≡ appended (bareCover (w / base) (w % base)) (c .placed)) → MappedIs most l t (record { finding = Found; cover = cover })
+      unfolding ofMapped ofFinding answered appended bareCover pointOf
+      gate-found cover h =
+          let c = chosen .0 in
+          let is = h c (chosen .1) in
+          let p : pointOf w ≡ c .point = Option·some-injective _ _ (sym least-here ∙ sym (choice-point l (tree .load) 0 (t .shape) (tree .required)) ∙ ap (Option·map (λ (d : Cover). d .point)) (chosen .1)) in
+          let whole : coverOf cover ≡ c = ap coverOf is ∙ whole-cover (w / base) (w % base) (c .placed) (omega (arith, few-placed)) ∙ ap (λ (q : Point). record { point = q; placed = c .placed }) p in
+          record { answer-is = ap success whole ∙ chosen-is (some c) (chosen .1); few = omega (arith, ap (λ (r : CoverRecord). r .count) is, few-placed) }
 
-        count-is : count ≡ length (chosen .0 .placed)
-        count-is = here .next ∙ zero-add _
-
-        kept-long : (xs xs′ ys : List ℕ) → length xs ≡ 64 → xs′ ≡ sets xs 0 ys → length xs′ ≡ 64
-        kept-long xs xs′ ys h e = ap length e ∙ length-sets xs 0 ys ∙ h
-
-        pub count-fits : (count ≤ 63) × (count ≤ length ns′) × (count ≤ length ps′)
-        count-fits = (
-          omega (arith, few, count-is),
-          omega (arith, few, count-is, kept-long ns ns′ (map (λ x. x .node) (chosen .0 .placed)) hn (here .nodes-are)),
-          omega (arith, few, count-is, kept-long ps ps′ (map (λ x. x .pattern) (chosen .0 .placed)) hp (here .patterns-are)),
-        )
-
-        front : (f : Placed → ℕ) (xs xs′ : List ℕ) → length xs ≡ 64 → xs′ ≡ sets xs 0 (map f (chosen .0 .placed)) → take count xs′ ≡ map f (chosen .0 .placed)
-        front f xs xs′ h e =
-            let many = length-map (chosen .0 .placed) f in
-            ap₂ take (count-is ∙ sym many) e ∙ laid-front (map f (chosen .0 .placed)) xs (omega (arith, many, few))
-
-        whole : coverOf (w / base) (w % base) (placedOf (take count ns′) (take count ps′)) ≡ chosen .0
-        unfolding pointOf
-        whole =
-            let c = chosen .0 in
-            let p : pointOf w ≡ c .point = Option·some-injective _ _ (sym (least-here) ∙ sym (choice-point l load 0 (t .shape) time) ∙ ap (Option·map (λ (d : Cover). d .point)) (chosen .1)) in
-            let q : placedOf (take count ns′) (take count ps′) ≡ c .placed = ap₂ placedOf (front (λ x. x .node) ns ns′ hn (here .nodes-are)) (front (λ x. x .pattern) ps ps′ hp (here .patterns-are)) ∙ placed-back (c .placed) in
-            ap₂ (λ (a : Point) (xs : List Placed). record { point = a; placed = xs }) p q
-
-        pub gate-put : (entry exit : List ℕ) (r : ℕ) → Written (coverSheet (coverOf (w / base) (w % base) (placedOf (take count ns′) (take count ps′)))) entry exit r → Put entry exit (Option·map coverSheet asks) (Bytes r)
-        gate-put entry exit r h = put-some (sym asks-are ∙ chosen .1) whole h
+      -- What the choice is lent.
+      pub gate-chooses : {rows : List ℕ} {room : ℕ} → Asked most l t rows tree room work → Chooses most l t rows (tree .symbols) (tree .sizes) room work (record { node = 0; load = tree .load; bin = 0; time = tree .required }) (bareCover (w / base) (w % base)) (t .shape)
+      unfolding bareCover
+      gate-chooses asked = record {
+        prepared = asked .prepared;
+        driven = record {
+          node = root-in 0 (t .shape);
+          drives = at-root refl load-is refl;
+          time-small = omega (arith, time-is, given .sound .required);
+          some-cover = (pointOf w, least-here);
+        };
+        fits = omega (arith, gates-lt-size (t .shape), given .sound .size);
+      }

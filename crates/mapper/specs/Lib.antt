@@ -1,3 +1,3 @@
 -- What the contracts of `mapper` say.
-pub mod Said
+pub mod Found
 pub mod Promises

@@ -1,39 +1,45 @@
-// What map and list answer for a sound library and a sound tree: every curve is filled, then the sheet is written from them.
+// The core: what map and list find for a sound library and a sound tree, as decoded. Every curve is filled; then the cover is chosen, or
+// the root's trade-offs are counted. What is found is handed back, and nothing but the work area is written.
+use choosing::Goal;
 use curves::Words;
 use filling::Filling;
-use sheets::CellRecord;
+use matching::Row;
+use results::CoverRecord;
+use sheets::Bins;
 use sheets::Limits;
+use sheets::TreeRecord;
 ghost use mathlib.Core.Path.{_≡_};
 ghost use mathlib.Core.List.{map};
-ghost use mathlib.Core.Option.{Option·map};
-ghost use Prim.Native.Nat.{ℕ, _≤_};
-ghost use lib.ListN.{length, take};
+ghost use mathlib.Core.Option.{none};
+ghost use Prim.Native.Nat.{_-_, _<_, _≤_};
+ghost use lib.ListN.{length, take, replicate};
 ghost use Rattle.sheets.specs.Model.{leaf, Library, Tree};
+ghost use Rattle.covers.specs.Answer.{answered};
 ghost use Rattle.covers.specs.Choice.{choice};
-ghost use Rattle.covers.specs.Tradeoff.{tradeoffs};
-ghost use Rattle.covers.specs.Answer.{nonempty};
-ghost use Rattle.covers.specs.Outcome.{capacity, answering};
-ghost use Rattle.covers.specs.CoverSheet.{coverSheet, listSheet};
 ghost use Rattle.covers.specs.Curve.{pointOf};
+ghost use Rattle.matching.specs.Found.{tableWords};
 ghost use Rattle.curves.specs.Words.{stored};
-ghost use Rattle.mapper.specs.Promises.{Put, Asked, Curved, replyTo, leastOutput, taskAnswer, Replied, Start};
+ghost use Rattle.curves.specs.Best.{symbolLimit};
+ghost use Rattle.filling.specs.Promises.{FillStart};
+ghost use Rattle.mapper.specs.Found.{bareCover, refusedWith, ofMapped};
+ghost use Rattle.mapper.specs.Promises.{Curved, Asked, MappedIs, ListedIs};
 
-// What is asked for: the cover that map hands over, or the list of the root's trade-offs, for which the required time does not count.
-pub enum Task {
-    Cover,
-    Tradeoffs,
-}
-
-// What is handed over: no cover, or a sheet of so many bytes in the output.
-pub enum Chosen {
-    NoCover,
-    Bytes(usize),
-}
-
-// A refusal's number and place, or a sheet of so many bytes in the output.
-pub enum Reply {
+// A refusal's number and place, or that what was asked for is found.
+pub enum Finding {
     Refused(u32, usize),
-    Sheet(usize),
+    Found,
+}
+
+// The cover that map hands over, if it is found.
+pub struct Mapped {
+    pub finding: Finding,
+    pub cover: CoverRecord,
+}
+
+// How many trade-offs the root has, if they are found: their points are the first words of the work area, the latest first.
+pub struct Listed {
+    pub finding: Finding,
+    pub count: usize,
 }
 
 // Document 01's numbers of refusals that no sheet causes: too little lent, an overfull node, no cover.
@@ -47,76 +53,110 @@ impl Numbers {
     pub const NO_COVER: u32 = 8;
 }
 
-// A leaf's own cover, which has no match, if it arrives in time.
-fn write_leaf(arrival: u32, time: u32, output: &mut [u8]) -> Chosen
-    requires { ⌜ 109 ≤ length (now output) ⌝ }
-    ensures { λ r. ⌜ ((l : Library) (load : ℕ) → Put (now (output .entry)) (now (output .exit)) (Option·map coverSheet (choice l load 0 (leaf arrival) time)) r) ⌝ }
+// A cover with no match yet.
+fn bare(area: u32, arrival: u32) -> CoverRecord
+    ensures { λ r. ⌜ r ≡ bareCover area arrival ⌝ }
 {
-    if time < arrival {
-        return Chosen::NoCover;
+    CoverRecord {
+        area,
+        arrival,
+        count: 0,
+        nodes: [0u8; 64],
+        patterns: [0u8; 64],
     }
-    let none = [0u8; 64];
-    Chosen::Bytes(writing::write_cover(output, 0, arrival, &none, &none, 0))
 }
 
-// The cover that map hands over, on its sheet.
-fn write_chosen<'a>(
-    rows: &'a [u32],
-    total: usize,
-    cells: [CellRecord; 64],
-    loads: [u8; 4],
-    symbols: &'a [u32],
-    sizes: &'a [u8],
-    load: u32,
-    time: u32,
+// No cover, but a refusal.
+fn refuse(number: u32, place: usize) -> Mapped
+    ensures { λ r. ⌜ r ≡ refusedWith number place ⌝ }
+{
+    let cover = bare(0, 0);
+    Mapped {
+        finding: Finding::Refused(number, place),
+        cover,
+    }
+}
+
+// A leaf's own cover, which has no match, if it arrives in time.
+fn map_leaf(symbol: u32, load: u32, time: u32) -> Mapped
+    requires { ⌜ (2 ≤ symbol) × (symbol ≤ symbolLimit) × (load ≤ 255) ⌝ }
+    ensures { λ r. ⌜ ((l : Library) → ofMapped r ≡ answered none (choice l load 0 (leaf (symbol - 2)) time)) ⌝ }
+    ensures { λ r. ⌜ r .cover .count ≡ 0 ⌝ }
+{
+    let arrival = curves::leaf_arrival(symbol, load) as u32;
+    if time < arrival {
+        return refuse(Numbers::NO_COVER, 0);
+    }
+    let cover = bare(0, arrival);
+    Mapped {
+        finding: Finding::Found,
+        cover,
+    }
+}
+
+// The root's cover under its required time, from the curves.
+fn map_root(
+    rows: &[u32],
+    tree: TreeRecord,
+    most: usize,
     found: &mut [u32],
     work: &[u64],
-    output: &mut [u8],
-) -> Chosen
-    requires { ⌜ (109 ≤ length (now output)) × ((l : Library) × ((t : Tree) × Asked l t (now rows) total cells loads (now symbols) (now sizes) load time (now work) (length (now found)))) ⌝ }
-    ensures { λ r. ⌜ ((l : Library) (t : Tree) → Asked l t (now (rows .entry)) total cells loads (now (symbols .entry)) (now (sizes .entry)) load time (now (work .entry)) (length (now (found .entry))) →
-        Put (now (output .entry)) (now (output .exit)) (Option·map coverSheet (choice l (t .load) 0 (t .shape) (t .required))) r) ⌝ }
+) -> Mapped
+    requires { ⌜ ((l : Library) × ((t : Tree) × Asked most l t (now rows) tree (length (now found)) (now work))) ⌝ }
+    ensures { λ r. ⌜ ((l : Library) (t : Tree) → Asked most l t (now (rows .entry)) tree (length (now (found .entry))) (now (work .entry)) → MappedIs most l t r) ⌝ }
 {
+    let symbols = tree.symbols;
+    let sizes = tree.sizes;
+    let load = tree.load as u32;
+    let time = tree.required;
     let symbol = symbols[0];
     if 2 <= symbol {
-        return write_leaf(symbol - 2, time, output);
+        return map_leaf(symbol, load, time);
     }
-    let w = curves::find(work, 0, (time + 1) as u64);
+    let w = curves::look_up(work, most, 0, time as u64 + 1);
     if w == Words::ABSENT {
-        return Chosen::NoCover;
+        return refuse(Numbers::NO_COVER, 0);
     }
-    let mut nodes = [0u8; 64];
-    let mut patterns = [0u8; 64];
-    let count = choosing::choose(
-        rows,
-        total,
-        cells,
-        loads,
-        symbols,
-        sizes,
-        found,
-        work,
-        0,
+    let goal = Goal {
+        node: 0,
         load,
-        0,
+        bin: 0,
         time,
-        &mut nodes,
-        &mut patterns,
-        0,
-    );
-    let area = (w / Limits::TIMES) as u32;
-    let arrival = (w % Limits::TIMES) as u32;
-    Chosen::Bytes(writing::write_cover(output, area, arrival, &nodes, &patterns, count))
+    };
+    let none = bare((w / Limits::TIMES) as u32, (w % Limits::TIMES) as u32);
+    let cover = choosing::choose(rows, &symbols, &sizes, found, work, most, goal, none);
+    Mapped {
+        finding: Finding::Found,
+        cover,
+    }
 }
 
-// How many points stand in the root's curve: its words up to a 0.
-fn count_points(work: &[u64]) -> usize
-    requires { ⌜ 32 ≤ length (now work) ⌝ }
-    ensures { λ r. ⌜ (r ≤ 32) × (stored (now (work .entry)) 0 32 ≡ map pointOf (take r (now (work .entry)))) ⌝ }
+// The cover that map hands over, for a sound library and a sound tree as decoded, where a node may have `most` trade-offs under a load.
+pub fn map_tree(
+    rows: &[u32],
+    bins: Bins,
+    tree: TreeRecord,
+    most: usize,
+    work: &mut [u64],
+) -> Mapped
+    requires { ⌜ ((l : Library) × ((t : Tree) × FillStart l t (now rows) bins tree most (replicate tableWords 0) (now work))) ⌝ }
+    ensures { λ r. ⌜ ((l : Library) (t : Tree) → FillStart l t (now (rows .entry)) bins tree most (replicate tableWords 0) (now (work .entry)) → MappedIs most l t r) ⌝ }
+{
+    let mut found = [0u32; Row::TABLE];
+    let filling = filling::fill(rows, bins, tree, most, &mut found, work);
+    match filling {
+        Filling::Overfull(node) => refuse(Numbers::OVERFULL, node),
+        Filling::Whole => map_root(rows, tree, most, &mut found, work),
+    }
+}
+
+// How many points a curve has: its words up to a 0.
+fn count_points(curve: &[u64]) -> usize
+    ensures { λ r. ⌜ (r ≤ length (now (curve .entry))) × (stored (now (curve .entry)) ≡ map pointOf (take r (now (curve .entry)))) ⌝ }
 {
     let mut k: usize = 0;
-    while k < Words::STRIDE {
-        if work[k] == 0 {
+    while k < curve.len() {
+        if curve[k] == 0 {
             break;
         }
         k += 1;
@@ -124,85 +164,51 @@ fn count_points(work: &[u64]) -> usize
     k
 }
 
-// The root's trade-offs, on their sheet. A leaf has one, of no area.
-fn write_points(symbols: &[u32], work: &[u64], output: &mut [u8]) -> Chosen
-    requires { ⌜ (179 ≤ length (now output)) × ((l : Library) × ((t : Tree) × Curved l t (now symbols) (now work))) ⌝ }
-    ensures { λ r. ⌜ ((l : Library) (t : Tree) → Curved l t (now (symbols .entry)) (now (work .entry)) →
-        Put (now (output .entry)) (now (output .exit)) (Option·map listSheet (nonempty (tradeoffs l (t .load) 0 (t .shape)))) r) ⌝ }
+// The root's trade-offs, from its curve. A leaf has one, of no area, which is put in the curve's place.
+fn list_root(tree: TreeRecord, most: usize, work: &mut [u64]) -> Listed
+    requires { ⌜ ((l : Library) × ((t : Tree) × Curved most l t tree (now work))) ⌝ }
+    ensures { λ r. ⌜ ((l : Library) (t : Tree) → Curved most l t tree (now (work .entry)) → ListedIs most l t (now (work .exit)) r) ⌝ }
 {
+    let symbols = tree.symbols;
     let symbol = symbols[0];
     if 2 <= symbol {
-        let point = [(symbol - 2) as u64];
-        return Chosen::Bytes(writing::write_list(output, &point, 1));
+        work[0] = curves::leaf_arrival(symbol, tree.load as u32);
+        return Listed {
+            finding: Finding::Found,
+            count: 1,
+        };
     }
-    let count = count_points(work);
+    let count = count_points(&work[..most + 1]);
     if count == 0 {
-        return Chosen::NoCover;
+        return Listed {
+            finding: Finding::Refused(Numbers::NO_COVER, 0),
+            count,
+        };
     }
-    Chosen::Bytes(writing::write_list(output, work, count))
-}
-
-// What is answered when no node is overfull.
-fn answer(chosen: Chosen) -> Reply
-    ensures { λ r. ⌜ r ≡ replyTo chosen ⌝ }
-{
-    match chosen {
-        Chosen::NoCover => Reply::Refused(Numbers::NO_COVER, 0),
-        Chosen::Bytes(bytes) => Reply::Sheet(bytes),
-    }
-}
-
-// The answer to a task for a sound library and a sound tree, as decoded, under a root load and a required time.
-pub fn answer_task<'a>(
-    task: Task,
-    rows: &'a [u32],
-    total: usize,
-    cells: [CellRecord; 64],
-    loads: [u8; 4],
-    bins: usize,
-    symbols: &'a [u32],
-    sizes: &'a [u8],
-    count: usize,
-    load: u8,
-    time: u32,
-    found: &mut [u32],
-    work: &mut [u64],
-    output: &mut [u8],
-) -> Reply
-    requires { ⌜ (leastOutput task ≤ length (now output)) × ((l : Library) × ((t : Tree) × Start (now rows) total cells loads bins (now symbols) (now sizes) count load time (now found) (now work) l t)) ⌝ }
-    ensures { λ r. ⌜ ((l : Library) (t : Tree) → Start (now (rows .entry)) total cells loads bins (now (symbols .entry)) (now (sizes .entry)) count load time (now (found .entry)) (now (work .entry)) l t →
-        Replied (now (output .entry)) (now (output .exit)) (answering (taskAnswer task capacity l t)) r) ⌝ }
-{
-    let filling = filling::fill(
-        rows,
-        total,
-        cells,
-        loads,
-        bins,
-        symbols,
-        sizes,
+    Listed {
+        finding: Finding::Found,
         count,
-        load,
-        found,
-        work,
-    );
-    if let Filling::Overfull(node) = filling {
-        return Reply::Refused(Numbers::OVERFULL, node);
     }
-    match task {
-        Task::Cover => answer(write_chosen(
-            rows,
-            total,
-            cells,
-            loads,
-            symbols,
-            sizes,
-            load as u32,
-            time,
-            found,
-            work,
-            output,
-        )),
-        Task::Tradeoffs => answer(write_points(symbols, work, output)),
+}
+
+// Every trade-off of the root, for a sound library and a sound tree as decoded; the required time does not count.
+pub fn list_tree(
+    rows: &[u32],
+    bins: Bins,
+    tree: TreeRecord,
+    most: usize,
+    work: &mut [u64],
+) -> Listed
+    requires { ⌜ ((l : Library) × ((t : Tree) × FillStart l t (now rows) bins tree most (replicate tableWords 0) (now work))) ⌝ }
+    ensures { λ r. ⌜ ((l : Library) (t : Tree) → FillStart l t (now (rows .entry)) bins tree most (replicate tableWords 0) (now (work .entry)) → ListedIs most l t (now (work .exit)) r) ⌝ }
+{
+    let mut found = [0u32; Row::TABLE];
+    let filling = filling::fill(rows, bins, tree, most, &mut found, work);
+    match filling {
+        Filling::Overfull(node) => Listed {
+            finding: Finding::Refused(Numbers::OVERFULL, node),
+            count: 0,
+        },
+        Filling::Whole => list_root(tree, most, work),
     }
 }

@@ -1,72 +1,88 @@
--- From the records that the readers hand over to what the core is given, and the work area after it.
+-- From the records that the readers hand over to what the core is given, and from what it answers to the reply, the output and the work area.
 use mathlib.Core.Path.{_≡_, refl, sym, ap, ap₂, subst, _∙_}
+use mathlib.Core.Bool.{Bool, true, false}
 use mathlib.Core.List.{List, _++_}
-use Prim.Native.Nat.{ℕ, _-_, _≤_, _<_, _^_}
+use mathlib.Core.Option.{Option, none, some}
+use Prim.Native.Nat.{ℕ, _+_, _-_, _*_, _≤_, _<_, _^_}
 use native.Mathlib.Omega.{arith}
-use lib.ListN.{length, getD, take, drop, replicate, length-replicate, List·getD-append}
-use lib.Seq.{getD-take, drop-append-seam}
+use lib.ListN.{length, getD, take, drop, replicate, length-replicate, List·getD-append, length-append}
+use lib.Seq.{take-append-seam, drop-append-seam}
 use borrow.Rule.Slice.PartMut.{midOf, putMid, mid-len, drop-put}
-use Rattle.sheets.specs.declared.LibraryRecord.{LibraryRecord}
-use Rattle.sheets.specs.declared.TreeRecord.{TreeRecord}
-use Rattle.sheets.specs.Model.{Library, Tree}
-use Rattle.sheets.specs.Layout.{libraryLaid, treeLaid}
-use Rattle.filling.specs.Promises.{FillStart}
-use Rattle.fields.proofs.Lists.{zeros-at}
 use borrow.Author.Tests.{le-leb, lt-leb}
 use Rattle.bits.specs.declared.Cursor.{Cursor}
 use Rattle.fields.specs.declared.Fault.{Fault}
 use Rattle.fields.specs.declared.Fault.the-variants.{Truncated, Tail, Range, Drawing, Size}
 use Rattle.fields.specs.declared.Scan.{Scan}
 use Rattle.fields.specs.declared.Scan.the-variants.{At, Refused}
+use Rattle.fields.specs.Reading.{start, place}
 use Rattle.fields.specs.Promises.{Live}
+use Rattle.fields.specs.Answer.{Answer, refused, success, onSuccess, places, Bounded}
+use Rattle.fields.proofs.Lists.{zeros-at}
+use Rattle.sheets.specs.declared.LibraryRecord.{LibraryRecord}
+use Rattle.sheets.specs.declared.TreeRecord.{TreeRecord}
 use Rattle.sheets.specs.declared.LibraryRead.{LibraryRead}
 use Rattle.sheets.specs.declared.TreeRead.{TreeRead}
+use Rattle.sheets.specs.Model.{Library, Tree, patterns}
+use Rattle.sheets.specs.Layout.{rowWords, patternTable, libraryLaid, treeLaid}
 use Rattle.sheets.specs.LibrarySheet.{library as libraryOf}
 use Rattle.sheets.specs.TreeSheet.{tree as treeOf}
 use Rattle.sheets.specs.Promises.{LibraryIs, TreeIs}
 use Rattle.sheets.specs.Report.{libraryNumber, treeNumber}
-use Rattle.fields.specs.Reading.{start}
-use Rattle.sheets.specs.Report as Report
+use Rattle.sheets.specs.Sound.{SoundTree}
 use Rattle.sheets.proofs.Sound.{library-limits, tree-limits}
-use Rattle.sheets.proofs.Whole.{library-refused-limited, tree-refused-limited}
-use Rattle.covers.specs.Answer.{Answer, overfullAt, noCover, success}
-use Rattle.covers.specs.Outcome.{Outcome, refused, told, outputAfter, observed, cleared, workAfter, answering, withTree, withLibrary, lent, operation}
+use Rattle.covers.specs.Cover.{Point, Cover}
+use Rattle.covers.specs.Tradeoff.{nodes, overfull, overfullNode, tradeoffs}
+use Rattle.covers.specs.Choice.{choice}
+use Rattle.covers.specs.CoverSheet.{coverSheet, listSheet}
+use Rattle.covers.specs.Capacity.{capacity, workWords}
+use Rattle.covers.specs.Answer.{answered, nonempty, mapped, listed, mapAnswer, listAnswer}
+use Rattle.covers.specs.Outcome.{told, outputAfter, observed, cleared, leavesZero, workAfter, withTree, withLibrary, lent, operation}
+use Rattle.covers.proofs.Ascending.{ascending-range}
+use Rattle.covers.proofs.Overfull.{LastOf, at, nodes-ascend, overfull-named}
+use Rattle.covers.proofs.SheetLengths.{cover-sheet-fits, list-sheet-fits}
 use Rattle.covers.proofs.Demands.{observed-is}
-use Rattle.mapper.specs.declared.Reply.{Reply}
-use Rattle.mapper.specs.declared.Reply.the-variants as Reply
-use Rattle.mapper.specs.Said.{ofReply, Limited}
-use Rattle.mapper.specs.Promises.{Replied}
-use Rattle.operations.specs.Promises.{Laid, LibraryLaid, Operated}
+use Rattle.matching.specs.Found.{tableWords}
+use Rattle.filling.specs.Promises.{FillStart}
+use Rattle.results.specs.Public.{coverOf, pointsOf, Written}
+use Rattle.mapper.specs.declared.Finding.{Finding}
+use Rattle.mapper.specs.declared.Finding.the-variants as Finding
+use Rattle.mapper.specs.declared.Mapped.{Mapped}
+use Rattle.mapper.specs.declared.Listed.{Listed}
+use Rattle.mapper.specs.Found.{ofFinding, ofMapped, ofListed}
+use Rattle.operations.specs.declared.Task.{Task}
+use Rattle.operations.specs.declared.Task.the-variants.{Cover, Tradeoffs}
+use Rattle.operations.specs.declared.Reply.{Reply}
+use Rattle.operations.specs.declared.Reply.the-variants as Reply
+use Rattle.operations.specs.Public.{ofReply, Operated}
+use Rattle.operations.specs.Inside.{leastOutput, taskAnswer, Replied, LibraryLaid, Laid}
+
+-- ---- what the core is given
 
 -- The first n words of a work area that begins with n zeros.
-zeros-first : (n : ℕ) (rest work : List ℕ) → work ≡ replicate n 0 ++ rest → (k : ℕ) → k < n → getD (take n work) k 0 ≡ 0
-zeros-first n rest work e k h = getD-take n work k 0 h ∙ ap (λ (q : List ℕ). getD q k 0) e ∙ List·getD-append (replicate n 0) rest 0 k (omega (arith, length-replicate {A = ℕ} n 0)) ∙ zeros-at n k
+zeros-first : (n : ℕ) (rest work : List ℕ) → work ≡ replicate n 0 ++ rest → take n work ≡ replicate n 0
+zeros-first n rest work e = ap (take n) e ∙ subst (λ (k : ℕ). take k (replicate n 0 ++ rest) ≡ replicate n 0) (length-replicate {A = ℕ} n 0) (take-append-seam (replicate n 0) rest)
 
-pub start-of : {l : Library} {t : Tree} {library : LibraryRecord} {tree : TreeRecord} → Laid l t library tree → (work work′ found : List ℕ) → 8192 ≤ length work → work′ ≡ replicate 8192 0 ++ drop 8192 work → length found ≡ 8704 → length (take 8192 work′) ≡ 8192 →
-    FillStart (library .rows) (library .total) (library .cells) (library .loads) (library .bins) (tree .symbols) (tree .sizes) (tree .count) (tree .load) found (take 8192 work′) l t
-unfolding libraryLaid treeLaid
-start-of {library = library} {tree} g work work′ found long e room len = record {
-  decoded = record {
-    library = g .sound;
-    tree = g .tree-sound;
-    rows-are = ap (λ (r : LibraryRecord). r .rows) (g .library-is);
-    total-is = ap (λ (r : LibraryRecord). r .total) (g .library-is);
-    cells-are = ap (λ (r : LibraryRecord). r .cells) (g .library-is);
-    symbols-are = ap (λ (r : TreeRecord). r .symbols) (g .tree-is);
-    sizes-are = ap (λ (r : TreeRecord). r .sizes) (g .tree-is);
-  };
-  loads-are = ap (λ (r : LibraryRecord). r .loads) (g .library-is);
-  bins-is = ap (λ (r : LibraryRecord). r .bins) (g .library-is);
-  count-is = ap (λ (r : TreeRecord). r .count) (g .tree-is);
-  load-is = ap (λ (r : TreeRecord). r .load) (g .tree-is);
-  room = room;
-  work-length = len;
-  zero = zeros-first 8192 (drop 8192 work) work′ e;
-}
-
-pub time-of : {l : Library} {t : Tree} {library : LibraryRecord} {tree : TreeRecord} → Laid l t library tree → tree .required ≡ t .required
-unfolding treeLaid
-time-of g = ap (λ (r : TreeRecord). r .required) (g .tree-is)
+pub start-of : {l : Library} {t : Tree} {library : LibraryRecord} {tree : TreeRecord} → Laid l t library tree → (work work′ : List ℕ) → work′ ≡ replicate (workWords capacity) 0 ++ drop (workWords capacity) work →
+    FillStart l t (take (rowWords * library .total) (library .rows)) (library .bins) tree capacity (replicate tableWords 0) (take (workWords capacity) work′)
+unfolding libraryLaid treeLaid patternTable
+start-of {l} {t} {library} {tree} g work work′ e =
+    let zeros = zeros-first (workWords capacity) (drop (workWords capacity) work) work′ e in
+    record {
+      decoded = record {
+        library = g .read .sound;
+        tree = g .tree-sound;
+        rows-are = ap (λ (r : LibraryRecord). take (rowWords * r .total) (r .rows)) (g .read .library-is);
+        symbols-are = ap (λ (r : TreeRecord). r .symbols) (g .tree-is);
+        sizes-are = ap (λ (r : TreeRecord). r .sizes) (g .tree-is);
+      };
+      bins-are = ap (λ (r : LibraryRecord). r .bins) (g .read .library-is);
+      tree-is = g .tree-is;
+      room = length-replicate {A = ℕ} tableWords 0;
+      work-length = ap length zeros ∙ length-replicate {A = ℕ} (workWords capacity) 0;
+      zero = λ k. ap (λ (ws : List ℕ). getD ws k 0) zeros ∙ zeros-at (workWords capacity) k;
+      some-most = omega arith;
+      bounded = omega arith;
+    }
 
 -- Cleared a second time, after the words in front were lent: those beyond are as they were.
 pub cleared-again : (n : ℕ) (work before part after : List ℕ) → before ≡ replicate n 0 ++ drop n work → length part ≡ length (midOf 0 (n - 0) before) → n ≤ length before → after ≡ replicate n 0 ++ drop n (putMid 0 (n - 0) before part) → after ≡ cleared n work
@@ -77,90 +93,150 @@ cleared-again n work before part after e len long f =
     beyond : drop n (replicate n 0 ++ drop n work) ≡ drop n work
     beyond = subst (λ (k : ℕ). drop k (replicate n 0 ++ drop n work) ≡ drop n work) (length-replicate {A = ℕ} n 0) (drop-append-seam (replicate n 0) (drop n work))
 
+-- ---- what the core answers, as a reply
+
+-- A node is numbered below the tree's size.
+node-small : (l : Library) {t : Tree} {n : ℕ} → SoundTree t → overfullNode capacity l t ≡ some n → n < 64
+node-small l {t} {n} g e = go (subst (LastOf (overfull capacity l t) (nodes 0 (t .shape))) e (overfull-named capacity l t))
+  where
+    go : LastOf (overfull capacity l t) (nodes 0 (t .shape)) (some n) → n < 64
+    go (at h) = omega (arith, ascending-range (nodes-ascend 0 (t .shape)) (h .among), h .number, g .size)
+
+-- What the core refuses fits a word.
+refused-bounded : {A : Type 0} (o : Option ℕ) (a : Option A) {n p : ℕ} → ((k : ℕ) → o ≡ some k → k < 64) → answered o a ≡ refused n p → Bounded (refused n p)
+unfolding answered Bounded
+refused-bounded (some k) a {n} {p} h e = let en : n ≡ 7 = cc in let ep : p ≡ k = cc in (omega arith, omega arith, omega (arith, h k refl))
+refused-bounded none none {n} {p} h e = let en : n ≡ 8 = cc in let ep : p ≡ 0 = cc in (omega arith, omega arith, omega arith)
+refused-bounded none (some a) h e = let z : _≡_ {A = ℕ} 0 1 = cc in absurd (omega arith)
+
+module _ {A : Type 0} (f : A → List ℕ) {a : Answer A} {entry exit : List ℕ} where
+  refusal-replied : {n p : ℕ} → refused n p ≡ a → Bounded (refused n p) → exit ≡ entry → Replied (onSuccess f a) entry exit (Reply.Refused n p)
+  unfolding onSuccess told outputAfter ofReply
+  refusal-replied {n} {p} e b k = subst (λ (q : Answer A). Replied (onSuccess f q) entry exit (Reply.Refused n p)) e (record { reply-is = refl; output-is = k; bounded = b })
+
+  sheet-replied : {x : A} {n : ℕ} → success x ≡ a → Written (f x) entry exit n → n < places → Replied (onSuccess f a) entry exit (Reply.Sheet n)
+  unfolding onSuccess told outputAfter ofReply Bounded
+  sheet-replied {x} {n} e w b = subst (λ (q : Answer A). Replied (onSuccess f q) entry exit (Reply.Sheet n)) e (record { reply-is = ap success (w .bytes); output-is = w .output; bounded = b })
+
+module _ (l : Library) (t : Tree) (g : SoundTree t) (entry exit : List ℕ) where
+  pub map-refused : (r : Mapped) (n p : ℕ) → ofMapped r ≡ mapped capacity l t → r .finding ≡ Finding.Refused n p → exit ≡ entry → Replied (mapAnswer capacity l t) entry exit (Reply.Refused n p)
+  unfolding mapAnswer mapped ofMapped ofFinding
+  map-refused r n p h e k =
+      let said : refused n p ≡ mapped capacity l t = ap (ofFinding (coverOf (r .cover))) (sym e) ∙ h in
+      refusal-replied coverSheet said (refused-bounded (overfullNode capacity l t) (choice l (t .load) 0 (t .shape) (t .required)) (λ j f. node-small l g f) (sym said)) k
+
+  pub list-refused : (work : List ℕ) (r : Listed) (n p : ℕ) → ofListed work r ≡ listed capacity l t → r .finding ≡ Finding.Refused n p → exit ≡ entry → Replied (listAnswer capacity l t) entry exit (Reply.Refused n p)
+  unfolding listAnswer listed ofListed ofFinding
+  list-refused work r n p h e k =
+      let said : refused n p ≡ listed capacity l t = ap (ofFinding (pointsOf (r .count) work)) (sym e) ∙ h in
+      refusal-replied listSheet said (refused-bounded (overfullNode capacity l t) (nonempty (tradeoffs l (t .load) 0 (t .shape))) (λ j f. node-small l g f) (sym said)) k
+
+pub map-found : (l : Library) (t : Tree) {entry exit : List ℕ} (r : Mapped) (n : ℕ) → ofMapped r ≡ mapped capacity l t → r .finding ≡ Finding.Found → r .cover .count ≤ 63 → Written (coverSheet (coverOf (r .cover))) entry exit n → Replied (mapAnswer capacity l t) entry exit (Reply.Sheet n)
+unfolding mapAnswer ofMapped ofFinding
+map-found l t r n h e few w = sheet-replied coverSheet (ap (ofFinding (coverOf (r .cover))) (sym e) ∙ h) w (omega (arith, w .bytes, cover-sheet-fits (coverOf (r .cover)) (omega (arith, few, cover-few (r .cover)))))
+
+pub list-found : (l : Library) (t : Tree) {entry exit : List ℕ} (work : List ℕ) (r : Listed) (n : ℕ) → ofListed work r ≡ listed capacity l t → r .finding ≡ Finding.Found → r .count ≤ capacity → Written (listSheet (pointsOf (r .count) work)) entry exit n → Replied (listAnswer capacity l t) entry exit (Reply.Sheet n)
+unfolding listAnswer ofListed ofFinding
+list-found l t work r n h e few w = sheet-replied listSheet (ap (ofFinding (pointsOf (r .count) work)) (sym e) ∙ h) w (omega (arith, w .bytes, list-sheet-fits (pointsOf (r .count) work) (omega (arith, few, points-few (r .count) work))))
+
+-- ---- the work area after an outcome
+
 -- After the core the work area is cleared, whatever it answered.
-worked : (a : Answer (List ℕ)) (work : List ℕ) → workAfter (answering a) work ≡ cleared 8192 work
-unfolding workAfter answering
-worked (overfullAt n) work = refl
-worked noCover work = refl
-worked (success s) work = refl
+worked : {A : Type 0} (f : A → List ℕ) (o : Option ℕ) (a : Option A) (work : List ℕ) → workAfter (onSuccess f (answered o a)) work ≡ cleared (workWords capacity) work
+unfolding workAfter leavesZero onSuccess answered
+worked f (some n) a work = refl
+worked f none none work = refl
+worked f none (some a) work = refl
+
+task-worked : (task : Task) (l : Library) (t : Tree) (work : List ℕ) → workAfter (taskAnswer task capacity l t) work ≡ cleared (workWords capacity) work
+unfolding taskAnswer mapAnswer mapped listAnswer listed
+task-worked Cover l t work = worked coverSheet (overfullNode capacity l t) (choice l (t .load) 0 (t .shape) (t .required)) work
+task-worked Tradeoffs l t work = worked listSheet (overfullNode capacity l t) (nonempty (tradeoffs l (t .load) 0 (t .shape))) work
 
 -- After a refusal of a sheet it is as it was.
-library-spared : (f : Fault) (p : ℕ) (work : List ℕ) → workAfter (refused (libraryNumber f) p) work ≡ work
-unfolding workAfter libraryNumber
-library-spared Truncated p work = refl
-library-spared Tail p work = refl
-library-spared Range p work = refl
-library-spared Drawing p work = refl
-library-spared Size p work = refl
+library-spared : (f : Fault) → leavesZero (libraryNumber f) ≡ false
+unfolding leavesZero libraryNumber
+library-spared Truncated = refl
+library-spared Tail = refl
+library-spared Range = refl
+library-spared Drawing = refl
+library-spared Size = refl
 
-tree-spared : (f : Fault) (p : ℕ) (work : List ℕ) → workAfter (refused (treeNumber f) p) work ≡ work
-unfolding workAfter treeNumber libraryNumber
-tree-spared Truncated p work = refl
-tree-spared Tail p work = refl
-tree-spared Range p work = refl
-tree-spared Drawing p work = refl
-tree-spared Size p work = refl
+tree-spared : (f : Fault) → leavesZero (treeNumber f) ≡ false
+unfolding leavesZero treeNumber libraryNumber
+tree-spared Truncated = refl
+tree-spared Tail = refl
+tree-spared Range = refl
+tree-spared Drawing = refl
+tree-spared Size = refl
 
 -- A refusal that leaves the work area as it was: output and work area are untouched.
-untouched : (output work : List ℕ) (number place n : ℕ) → n ≡ number → workAfter (refused number place) work ≡ work → number ≤ 16 → place < 2 ^ 20 → Operated (refused number place) output output work work (Reply.Refused n place)
-unfolding told outputAfter ofReply Limited
-untouched output work number place n k spared few near =
+untouched : (output work : List ℕ) (number place n : ℕ) → n ≡ number → leavesZero number ≡ false → Bounded (refused number place) → Operated (refused number place) output output work work (Reply.Refused n place)
+unfolding told onSuccess outputAfter workAfter ofReply
+untouched output work number place n k spared bounded =
     subst (λ (m : ℕ). Operated (refused number place) output output work work (Reply.Refused m place)) (sym k)
-    (record { reply-is = refl; leaves = record { output-is = refl; work-is = sym spared }; limited = (few, near) })
+    (record { reply-is = refl; leaves = record { output-is = refl; work-is = rw spared refl }; bounded = bounded })
+
+-- ---- a tree, sound or not
 
 module _ (ts : List ℕ) (read : TreeRead) (h : TreeIs ts read) where
   pub tree-laid : {l : Library} {library : LibraryRecord} → LibraryLaid l library → (c : Cursor) → read .scan ≡ At c → Laid l (treeOf ts start .0) library (read .tree)
-  tree-laid g c e = record { sound = g .sound; library-is = g .library-is; tree-sound = tree-limits ts (subst Live (sym e ∙ h .scan-is) tt); tree-is = h .laid (subst Live (sym e) tt) }
+  tree-laid g c e = record { read = g; tree-sound = tree-limits ts (subst Live (sym e ∙ h .scan-is) tt); tree-is = h .laid (subst Live (sym e) tt) }
 
-  module _ (answer : Tree → Answer (List ℕ)) {output output′ work work′ : List ℕ} {r : Reply} where
-    pub tree-answered : (c : Cursor) → read .scan ≡ At c → Replied output output′ (answering (answer (treeOf ts start .0))) r → work′ ≡ cleared 8192 work → Operated (withTree answer (treeOf ts start)) output output′ work work′ r
-    unfolding withTree
-    tree-answered c e p w =
-        subst (λ (o : Outcome). Operated o output output′ work work′ r) (ap (λ (q : Scan). withTree answer (treeOf ts start .0, q)) (sym e ∙ h .scan-is))
-        (record { reply-is = p .reply-is; leaves = record { output-is = p .output-is; work-is = w ∙ sym (worked (answer (treeOf ts start .0)) work) }; limited = p .limited })
+  pub tree-answered : (task : Task) (l : Library) {output output′ work work′ : List ℕ} {r : Reply} (c : Cursor) → read .scan ≡ At c → Replied (taskAnswer task capacity l (treeOf ts start .0)) output output′ r → work′ ≡ cleared (workWords capacity) work → Operated (withTree (taskAnswer task capacity l) (treeOf ts start)) output output′ work work′ r
+  unfolding withTree
+  tree-answered task l {output} {output′} {work} {work′} {r} c e p w =
+      subst (λ (o : Answer (List ℕ)). Operated o output output′ work work′ r) (ap (λ (q : Scan). withTree (taskAnswer task capacity l) (treeOf ts start .0, q)) (sym e ∙ h .scan-is))
+      (record { reply-is = p .reply-is; leaves = record { output-is = p .output-is; work-is = w ∙ sym (task-worked task l (treeOf ts start .0) work) }; bounded = p .bounded })
 
-  pub tree-not-sound : (answer : Tree → Answer (List ℕ)) (output work : List ℕ) (f : Fault) (p n : ℕ) → read .scan ≡ Refused f p → (n ≡ treeNumber f) × (n ≤ 16) → Operated (withTree answer (treeOf ts start)) output output work work (Reply.Refused n p)
-  unfolding withTree Report.Limited
+  pub tree-not-sound : (answer : Tree → Answer (List ℕ)) (output work : List ℕ) (f : Fault) (p n : ℕ) → read .scan ≡ Refused f p → (n ≡ treeNumber f) × (1 ≤ n) × (n ≤ 16) → Operated (withTree answer (treeOf ts start)) output output work work (Reply.Refused n p)
+  unfolding withTree Bounded
   tree-not-sound answer output work f p n e k =
-      subst (λ (o : Outcome). Operated o output output work work (Reply.Refused n p)) (ap (λ (q : Scan). withTree answer (treeOf ts start .0, q)) (sym e ∙ h .scan-is))
-      (untouched output work (treeNumber f) p n (k .0) (tree-spared f p work) (omega (arith, k)) (tree-refused-limited ts read h f p e))
+      subst (λ (o : Answer (List ℕ)). Operated o output output work work (Reply.Refused n p)) (ap (λ (q : Scan). withTree answer (treeOf ts start .0, q)) (sym e ∙ h .scan-is))
+      (untouched output work (treeNumber f) p n (k .0) (tree-spared f) (omega (arith, k), omega (arith, k), omega (arith, h .near, ap place e)))
+
+-- ---- a library, sound or not
 
 module _ (ls : List ℕ) (read : LibraryRead) (h : LibraryIs ls read) where
   pub library-laid : (c : Cursor) → read .scan ≡ At c → LibraryLaid (libraryOf ls start .0) (read .library)
   library-laid c e = record { sound = library-limits ls (subst Live (sym e ∙ h .scan-is) tt); library-is = h .laid (subst Live (sym e) tt) }
 
 -- What is lent is enough, or it is not.
-enough : (least o w : ℕ) (r : Outcome) → least ≤ o → 8192 ≤ w → lent least o w r ≡ r
-unfolding lent
-enough least o w r h g = rw (le-leb least o h, le-leb 8192 w g)
+module _ {A : Type 0} (least o w : ℕ) (r : Answer A) where
+  enough : least ≤ o → workWords capacity ≤ w → lent least o w r ≡ r
+  unfolding lent
+  enough h g = rw (le-leb least o h, le-leb (workWords capacity) w g)
 
-pub short-output : (least o w : ℕ) (r : Outcome) → o < least → lent least o w r ≡ refused 1 0
-unfolding lent
-short-output least o w r h = rw (lt-leb least o h)
+  pub short-output : o < least → lent least o w r ≡ refused 1 0
+  unfolding lent
+  short-output h = rw (lt-leb least o h)
 
-pub short-work : (least o w : ℕ) (r : Outcome) → least ≤ o → w < 8192 → lent least o w r ≡ refused 1 0
-unfolding lent
-short-work least o w r h g = rw (le-leb least o h, lt-leb 8192 w g)
+  pub short-work : least ≤ o → w < workWords capacity → lent least o w r ≡ refused 1 0
+  unfolding lent
+  short-work h g = rw (le-leb least o h, lt-leb (workWords capacity) w g)
 
-module _ (least : ℕ) (answer : Library → Tree → Answer (List ℕ)) (ls ts output work : List ℕ) where
-  pub lent-short : lent least (length output) (length work) (withLibrary answer (libraryOf ls start) (treeOf ts start)) ≡ refused 1 0 → Operated (operation least answer ls ts (length output) (length work)) output output work work (Reply.Refused 1 0)
-  unfolding operation workAfter
-  lent-short e = subst (λ (o : Outcome). Operated o output output work work (Reply.Refused 1 0)) (sym e) (untouched output work 1 0 1 refl refl (omega arith) (omega arith))
+module _ (least : ℕ) (answer : ℕ → Library → Tree → Answer (List ℕ)) (ls ts output work : List ℕ) where
+  abbrev pub inner : Answer (List ℕ)
+  inner = withLibrary (answer capacity) (libraryOf ls start) (treeOf ts start)
 
-  module _ (long : least ≤ length output) (room : 8192 ≤ length work) (read : LibraryRead) (h : LibraryIs ls read) where
-    pub library-answered : {output′ work′ : List ℕ} {r : Reply} (c : Cursor) → read .scan ≡ At c → Operated (withTree (answer (libraryOf ls start .0)) (treeOf ts start)) output output′ work work′ r → Operated (operation least answer ls ts (length output) (length work)) output output′ work work′ r
+  pub lent-short : lent least (length output) (length work) inner ≡ refused 1 0 → Operated (operation least answer ls ts (length output) (length work)) output output work work (Reply.Refused 1 0)
+  unfolding operation leavesZero Bounded
+  lent-short e = subst (λ (o : Answer (List ℕ)). Operated o output output work work (Reply.Refused 1 0)) (sym e) (untouched output work 1 0 1 refl refl (omega arith, omega arith, omega arith))
+
+  module _ (long : least ≤ length output) (room : workWords capacity ≤ length work) (read : LibraryRead) (h : LibraryIs ls read) where
+    pub library-answered : {output′ work′ : List ℕ} {r : Reply} (c : Cursor) → read .scan ≡ At c → Operated (withTree (answer capacity (libraryOf ls start .0)) (treeOf ts start)) output output′ work work′ r → Operated (operation least answer ls ts (length output) (length work)) output output′ work work′ r
     unfolding operation withLibrary
     library-answered {output′} {work′} {r} c e p =
-        subst (λ (o : Outcome). Operated o output output′ work work′ r)
-        (ap (λ (q : Scan). withLibrary answer (libraryOf ls start .0, q) (treeOf ts start)) (sym e ∙ h .scan-is) ∙ sym (enough least (length output) (length work) (withLibrary answer (libraryOf ls start) (treeOf ts start)) long room)) p
+        subst (λ (o : Answer (List ℕ)). Operated o output output′ work work′ r)
+        (ap (λ (q : Scan). withLibrary (answer capacity) (libraryOf ls start .0, q) (treeOf ts start)) (sym e ∙ h .scan-is) ∙ sym (enough least (length output) (length work) inner long room)) p
 
-    pub library-not-sound : (f : Fault) (p n : ℕ) → read .scan ≡ Refused f p → (n ≡ libraryNumber f) × (n ≤ 6) → Operated (operation least answer ls ts (length output) (length work)) output output work work (Reply.Refused n p)
-    unfolding operation withLibrary Report.Limited
+    pub library-not-sound : (f : Fault) (p n : ℕ) → read .scan ≡ Refused f p → (n ≡ libraryNumber f) × (1 ≤ n) × (n ≤ 6) → Operated (operation least answer ls ts (length output) (length work)) output output work work (Reply.Refused n p)
+    unfolding operation withLibrary Bounded
     library-not-sound f p n e k =
-        subst (λ (o : Outcome). Operated o output output work work (Reply.Refused n p))
-        (ap (λ (q : Scan). withLibrary answer (libraryOf ls start .0, q) (treeOf ts start)) (sym e ∙ h .scan-is) ∙ sym (enough least (length output) (length work) (withLibrary answer (libraryOf ls start) (treeOf ts start)) long room))
-        (untouched output work (libraryNumber f) p n (k .0) (library-spared f p work) (omega (arith, k)) (library-refused-limited ls read h f p e))
+        subst (λ (o : Answer (List ℕ)). Operated o output output work work (Reply.Refused n p))
+        (ap (λ (q : Scan). withLibrary (answer capacity) (libraryOf ls start .0, q) (treeOf ts start)) (sym e ∙ h .scan-is) ∙ sym (enough least (length output) (length work) inner long room))
+        (untouched output work (libraryNumber f) p n (k .0) (library-spared f) (omega (arith, k), omega (arith, k), omega (arith, h .near, ap place e)))
 
 -- The caller sees the outcome, and so what is demanded of it.
-pub seen : {o : Outcome} {output output′ work work′ : List ℕ} {r : Reply} → Operated o output output′ work work′ r → observed (ofReply r) output′ ≡ o
+pub seen : {o : Answer (List ℕ)} {output output′ work work′ : List ℕ} {r : Reply} → Operated o output output′ work work′ r → observed (ofReply r) output′ ≡ o
 seen {o} {output} h = ap₂ observed (h .reply-is) (h .leaves .output-is) ∙ observed-is o output

@@ -1,2 +1,3 @@
--- What the contracts of `operations` say.
-pub mod Promises
+-- What the contracts of `operations` say: what callers rely on, and what its functions promise each other.
+pub mod Public
+pub mod Inside

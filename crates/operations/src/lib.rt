@@ -1,23 +1,38 @@
-// Map and list from the bytes of a library and a tree.
-use mapper::Numbers;
-use mapper::Reply;
-use mapper::Task;
-use matching::Row;
+// Map and list from the bytes of a library and a tree. What the core finds is written here, and nowhere below.
 use fields::Scan;
+use mapper::Finding;
+use mapper::Numbers;
+use sheets::Bins;
 use sheets::LibraryRecord;
 use sheets::Limits;
+use sheets::PatternRow;
 use sheets::TreeRecord;
 ghost use mathlib.Core.Path.{_≡_};
 ghost use Prim.Native.Nat.{_≤_};
-ghost use lib.ListN.{length};
+ghost use lib.ListN.{length, replicate};
+ghost use Rattle.fields.specs.Reading.{start};
 ghost use Rattle.sheets.specs.Model.{Library, Tree};
 ghost use Rattle.sheets.specs.TreeSheet.{tree as treeOf};
-ghost use Rattle.fields.specs.Reading.{start};
-ghost use Rattle.covers.specs.Outcome.{capacity, answering, observed, cleared, withTree, operation, mapOutcome, listOutcome};
+ghost use Rattle.covers.specs.Capacity.{capacity, workWords};
+ghost use Rattle.covers.specs.Answer.{mapAnswer, listAnswer};
+ghost use Rattle.covers.specs.Outcome.{mapBytes, listBytes, observed, cleared, withTree, operation, mapOutcome, listOutcome};
 ghost use Rattle.covers.specs.Demands.{MapDemands, ListDemands, WhereSound};
-ghost use Rattle.mapper.specs.Said.{ofReply};
-ghost use Rattle.mapper.specs.Promises.{leastOutput, taskAnswer, Replied};
-ghost use Rattle.operations.specs.Promises.{Laid, LibraryLaid, Operated};
+ghost use Rattle.matching.specs.Found.{tableWords};
+ghost use Rattle.filling.specs.Promises.{FillStart};
+ghost use Rattle.operations.specs.Public.{ofReply, Operated};
+ghost use Rattle.operations.specs.Inside.{leastOutput, taskAnswer, Replied, Laid, LibraryLaid};
+
+// A refusal's number and place, or a sheet of so many bytes in the output.
+pub enum Reply {
+    Refused(u32, usize),
+    Sheet(usize),
+}
+
+// What is asked for: the cover that map hands over, or the list of the root's trade-offs, for which the required time does not count.
+pub enum Task {
+    Cover,
+    Tradeoffs,
+}
 
 // The least output that is lent for a task.
 fn least_output(task: Task) -> usize
@@ -29,7 +44,66 @@ fn least_output(task: Task) -> usize
     }
 }
 
-// A task with a sound library and a sound tree: the work area is zero before the curves and after them.
+// The cover that the core finds, on its sheet.
+fn write_mapped(
+    rows: &[u32],
+    bins: Bins,
+    tree: TreeRecord,
+    output: &mut [u8],
+    work: &mut [u64],
+) -> Reply
+    requires { ⌜ (mapBytes ≤ length (now output)) × ((l : Library) × ((t : Tree) × FillStart l t (now rows) bins tree capacity (replicate tableWords 0) (now work))) ⌝ }
+    ensures { λ r. ⌜ ((l : Library) (t : Tree) → FillStart l t (now (rows .entry)) bins tree capacity (replicate tableWords 0) (now (work .entry)) →
+        Replied (mapAnswer capacity l t) (now (output .entry)) (now (output .exit)) r) ⌝ }
+{
+    let mapped = mapper::map_tree(rows, bins, tree, Limits::POINTS, work);
+    let finding = mapped.finding;
+    match finding {
+        Finding::Refused(number, place) => Reply::Refused(number, place),
+        Finding::Found => Reply::Sheet(results::write_cover(output, mapped.cover)),
+    }
+}
+
+// The trade-offs that the core finds, on their sheet.
+fn write_listed(
+    rows: &[u32],
+    bins: Bins,
+    tree: TreeRecord,
+    output: &mut [u8],
+    work: &mut [u64],
+) -> Reply
+    requires { ⌜ (listBytes ≤ length (now output)) × ((l : Library) × ((t : Tree) × FillStart l t (now rows) bins tree capacity (replicate tableWords 0) (now work))) ⌝ }
+    ensures { λ r. ⌜ ((l : Library) (t : Tree) → FillStart l t (now (rows .entry)) bins tree capacity (replicate tableWords 0) (now (work .entry)) →
+        Replied (listAnswer capacity l t) (now (output .entry)) (now (output .exit)) r) ⌝ }
+{
+    let listed = mapper::list_tree(rows, bins, tree, Limits::POINTS, work);
+    let finding = listed.finding;
+    match finding {
+        Finding::Refused(number, place) => Reply::Refused(number, place),
+        Finding::Found => Reply::Sheet(results::write_list(output, work, listed.count)),
+    }
+}
+
+// A task with a sound library and a sound tree, in a work area of zeros.
+fn write_task(
+    task: Task,
+    rows: &[u32],
+    bins: Bins,
+    tree: TreeRecord,
+    output: &mut [u8],
+    work: &mut [u64],
+) -> Reply
+    requires { ⌜ (leastOutput task ≤ length (now output)) × ((l : Library) × ((t : Tree) × FillStart l t (now rows) bins tree capacity (replicate tableWords 0) (now work))) ⌝ }
+    ensures { λ r. ⌜ ((l : Library) (t : Tree) → FillStart l t (now (rows .entry)) bins tree capacity (replicate tableWords 0) (now (work .entry)) →
+        Replied (taskAnswer task capacity l t) (now (output .entry)) (now (output .exit)) r) ⌝ }
+{
+    match task {
+        Task::Cover => write_mapped(rows, bins, tree, output, work),
+        Task::Tradeoffs => write_listed(rows, bins, tree, output, work),
+    }
+}
+
+// The same in any work area that is long enough: its first words are zero before and after.
 fn with_records(
     task: Task,
     library: LibraryRecord,
@@ -37,34 +111,23 @@ fn with_records(
     output: &mut [u8],
     work: &mut [u64],
 ) -> Reply
-    requires { ⌜ (leastOutput task ≤ length (now output)) × (8192 ≤ length (now work)) × ((l : Library) × ((t : Tree) × Laid l t library tree)) ⌝ }
-    ensures { λ r. ⌜ now (work .exit) ≡ cleared 8192 (now (work .entry)) ⌝ }
-    ensures { λ r. ⌜ ((l : Library) (t : Tree) → Laid l t library tree → Replied (now (output .entry)) (now (output .exit)) (answering (taskAnswer task capacity l t)) r) ⌝ }
+    requires { ⌜ (leastOutput task ≤ length (now output)) × (workWords capacity ≤ length (now work)) × ((l : Library) × ((t : Tree) × Laid l t library tree)) ⌝ }
+    ensures { λ r. ⌜ now (work .exit) ≡ cleared (workWords capacity) (now (work .entry)) ⌝ }
+    ensures { λ r. ⌜ ((l : Library) (t : Tree) → Laid l t library tree → Replied (taskAnswer task capacity l t) (now (output .entry)) (now (output .exit)) r) ⌝ }
 {
     let rows = library.rows;
-    let cells = library.cells;
-    let loads = library.loads;
-    let symbols = tree.symbols;
-    let sizes = tree.sizes;
-    let mut found = [0u32; Row::TABLE];
-    writing::clear_work(work);
-    let reply = mapper::answer_task(
+    let words = PatternRow::WORDS * library.total;
+    let bins = library.bins;
+    results::clear_work(work, Limits::WORK);
+    let reply = write_task(
         task,
-        &rows,
-        library.total,
-        cells,
-        loads,
-        library.bins as usize,
-        &symbols,
-        &sizes,
-        tree.count,
-        tree.load,
-        tree.required,
-        &mut found,
-        &mut work[0..Limits::WORK],
+        &rows[..words],
+        bins,
+        tree,
         output,
+        &mut work[0..Limits::WORK],
     );
-    writing::clear_work(work);
+    results::clear_work(work, Limits::WORK);
     reply
 }
 
@@ -76,7 +139,7 @@ fn with_library(
     output: &mut [u8],
     work: &mut [u64],
 ) -> Reply
-    requires { ⌜ (leastOutput task ≤ length (now output)) × (8192 ≤ length (now work)) × ((l : Library) × LibraryLaid l library) ⌝ }
+    requires { ⌜ (leastOutput task ≤ length (now output)) × (workWords capacity ≤ length (now work)) × ((l : Library) × LibraryLaid l library) ⌝ }
     ensures { λ r. ⌜ ((l : Library) → LibraryLaid l library →
         Operated (withTree (taskAnswer task capacity l) (treeOf (now (tree .entry)) start)) (now (output .entry)) (now (output .exit)) (now (work .entry)) (now (work .exit)) r) ⌝ }
 {
@@ -90,7 +153,7 @@ fn with_library(
 
 // A task with any library and any tree, lent anything.
 fn operate(task: Task, library: &[u8], tree: &[u8], output: &mut [u8], work: &mut [u64]) -> Reply
-    ensures { λ r. ⌜ Operated (operation (leastOutput task) (taskAnswer task capacity) (now (library .entry)) (now (tree .entry)) (length (now (output .entry))) (length (now (work .entry)))) (now (output .entry)) (now (output .exit)) (now (work .entry)) (now (work .exit)) r ⌝ }
+    ensures { λ r. ⌜ Operated (operation (leastOutput task) (taskAnswer task) (now (library .entry)) (now (tree .entry)) (length (now (output .entry))) (length (now (work .entry)))) (now (output .entry)) (now (output .exit)) (now (work .entry)) (now (work .exit)) r ⌝ }
 {
     if output.len() < least_output(task) {
         return Reply::Refused(Numbers::SHORT, 0);
@@ -109,7 +172,7 @@ fn operate(task: Task, library: &[u8], tree: &[u8], output: &mut [u8], work: &mu
 // The cover of a tree by a library's cells: the smallest that meets the required time, then the earliest.
 pub fn map(library: &[u8], tree: &[u8], output: &mut [u8], work: &mut [u64]) -> Reply
     ensures { λ r. ⌜ Operated (mapOutcome (now (library .entry)) (now (tree .entry)) (length (now (output .entry))) (length (now (work .entry)))) (now (output .entry)) (now (output .exit)) (now (work .entry)) (now (work .exit)) r ⌝ }
-    ensures { λ r. ⌜ WhereSound MapDemands 109 (now (library .entry)) (now (tree .entry)) (length (now (output .entry))) (length (now (work .entry))) (observed (ofReply r) (now (output .exit))) ⌝ }
+    ensures { λ r. ⌜ WhereSound MapDemands mapBytes (now (library .entry)) (now (tree .entry)) (length (now (output .entry))) (length (now (work .entry))) (observed (ofReply r) (now (output .exit))) ⌝ }
 {
     operate(Task::Cover, library, tree, output, work)
 }
@@ -117,7 +180,7 @@ pub fn map(library: &[u8], tree: &[u8], output: &mut [u8], work: &mut [u64]) -> 
 // Every trade-off of a tree's root, earliest first.
 pub fn list(library: &[u8], tree: &[u8], output: &mut [u8], work: &mut [u64]) -> Reply
     ensures { λ r. ⌜ Operated (listOutcome (now (library .entry)) (now (tree .entry)) (length (now (output .entry))) (length (now (work .entry)))) (now (output .entry)) (now (output .exit)) (now (work .entry)) (now (work .exit)) r ⌝ }
-    ensures { λ r. ⌜ WhereSound ListDemands 179 (now (library .entry)) (now (tree .entry)) (length (now (output .entry))) (length (now (work .entry))) (observed (ofReply r) (now (output .exit))) ⌝ }
+    ensures { λ r. ⌜ WhereSound ListDemands listBytes (now (library .entry)) (now (tree .entry)) (length (now (output .entry))) (length (now (work .entry))) (observed (ofReply r) (now (output .exit))) ⌝ }
 {
     operate(Task::Tradeoffs, library, tree, output, work)
 }

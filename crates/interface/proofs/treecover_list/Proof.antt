@@ -1,12 +1,14 @@
 use borrow.Author.Needs.{needs}
-use mathlib.Core.Path.{ap, _∙_}
-use Rattle.covers.specs.Outcome.{word}
+use Prim.Native.Nat.{ℕ}
+use mathlib.Core.Path.{sym, ap, subst, _∙_}
+use lib.ListN.{length}
+use Rattle.fields.specs.Answer.{Answer, word}
+use Rattle.fields.proofs.Answer.{word-reads}
+use Rattle.covers.specs.Outcome.{listBytes, observed}
+use Rattle.covers.specs.Demands.{ListDemands, WhereSound}
+use Rattle.operations.specs.Public.{ofReply}
 use Rattle.interface.proofs.treecover_list.Statement.{statement}
 use Rattle.interface.proofs.treecover_list.Tie as tie
-use Rattle.interface.proofs.treecover_list.Reads as reads
-use Rattle.interface.proofs.treecover_list.Lts as lts
-use Rattle.interface.proofs.reply_word.Reads as reply-word-reads
-use Rattle.operations.proofs.list.Reads as list-reads
 
 list-requires : tie.Need-list-requires
 list-requires c κs = search needs
@@ -22,8 +24,11 @@ same-length-2 c = search needs
 
 returns : tie.Need-returns
 returns c =
-    let call = c .before .before .before .before .before .list .ensures .0 in
-    (c .reply-word .ensures ∙ ap word (call .reply-is), call .leaves)
+    let a = c .before .before .before .before .before .before .before .before .before .before .before .before .args in
+    let call = c .before .before .before .before .before .list in
+    let done = call .ensures .0 in
+    let said = ap (λ (w : ℕ). ofWord w) (c .reply-word .ensures) ∙ word-reads (ofReply (call .result)) (done .bounded) in
+    (c .reply-word .ensures ∙ ap word (done .reply-is), (done .leaves, subst (λ (a : Answer ℕ). ?) (sym said) (call .ensures .1)))
 
 pub treecover-list-spec : {M : Type 1} → statement M
 treecover-list-spec = tie.close (tie.spec list-requires reply-word-requires same-length same-length-2 returns)

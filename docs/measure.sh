@@ -1,0 +1,80 @@
+#!/usr/bin/env bash
+# Prints docs/MEASUREMENTS.md: from the repository's first directory, docs/measure.sh GATE_LOG, where GATE_LOG is what .ci/run printed.
+# Needs valgrind. With TREECOVER_BEFORE_DIR, an earlier static library (reference/README.md) is measured beside this one.
+set -euo pipefail
+log=$1
+features=product
+who="product plain merging"
+[ -z "${TREECOVER_BEFORE_DIR:-}" ] || { features=before; who="$who before"; }
+rows="typical chain comb deep"
+scratch=$(mktemp -d)
+trap 'rm -rf "$scratch"' EXIT
+
+rt staticlib interface >"$scratch/staticlib" 2>&1
+export TREECOVER_LIB_DIR=$PWD/target/staticlib TREECOVER_LIB_NAME=interface
+cargo build -q --release --offline --manifest-path reference/Cargo.toml --features "$features" --bins --target-dir target/reference
+bench=$PWD/target/reference/release/bench
+fresh=$PWD/target/reference/release/fresh
+
+instructions() { # WHO ROW: of one map, the difference of two runs
+    for count in 1 2; do
+        valgrind --tool=callgrind --callgrind-out-file="$scratch/cg" "$bench" repeat $count "$1" "$2" 2>&1 | awk '/Collected/ { print $4 }'
+    done | paste -sd' ' | awk '{ print $2 - $1 }'
+}
+
+stack() { # ROW: the greatest stack of a map, in bytes
+    valgrind --tool=massif --stacks=yes --heap=no --massif-out-file="$scratch/ms" "$bench" repeat 2 product "$1" >/dev/null 2>&1
+    awk -F= '/^mem_stacks_B/ && $2 > m { m = $2 } END { print m }' "$scratch/ms"
+}
+
+cat <<TEXT
+# Measurements
+
+Printed by \`docs/measure.sh GATE_LOG\`, where GATE_LOG is the output of \`.ci/run\`. The machine's speed changes from run to run, so ratios within a
+run say more than times. Processor: $(lscpu | awk -F': *' '/^Model name/ { print $2; exit }'), $(nproc) processors.
+
+## Map
+
+The proved map through the C interface; the same algorithm in plain Rust (\`plain\`: \`reference/src/deadline\`); the separate implementation, which merges
+whole curves (\`merging\`)$([ "$features" = product ] || echo '; and the static library of the delivery before (`before`)'). All built for release, on the same bytes, taking turns in one run (medians of 31 rounds), each
+answer compared with the expected sheet. A ratio is the product's time over the other's. \`typical\` is a usual problem; \`chain\` and \`comb\` are the worst that were found;
+\`deep\` has nearly nothing to find and the deepest choice. The bar that we set is 1.25 times plain Rust, and faster than merging, on typical, chain and comb.
+
+\`\`\`
+$("$bench")
+\`\`\`
+
+Instructions for one map, by callgrind. Bytes made zero by one repeated instruction count once for each byte: some 180,000 in every row.
+
+| row |$(printf ' %s |' $who)
+|---|$(printf -- '---|%.0s' $who)
+$(for row in $rows; do printf '| %s |' "$row"; for w in $who; do printf ' %s |' "$(instructions "$w" "$row")"; done; echo; done)
+
+The greatest stack, by massif, in bytes, of which main and the benchmark have a small part. The bar that we set is 256 KB.
+
+| row | stack |
+|---|---|
+$(for row in $rows; do echo "| $row | $(stack "$row") |"; done)
+
+## Agreement on fresh cases
+
+Number and place or length, every byte of the output and every word of the work area, both filled with random values before.
+
+\`\`\`
+$ fresh map 200000 31
+$("$fresh" map 200000 31)
+$ fresh judge 200000 32
+$("$fresh" judge 200000 32)
+\`\`\`
+
+## The gate
+
+$(tail -n 1 "$log"): $(ls crates | wc -l) crates, $(ls crates/*/must-fail/*.edit | wc -l) edits, on two processors, two jobs at a time.
+
+| crate | proof, s | edits | an edit, s |
+|---|---|---|---|
+$(awk '
+    /^rt: [a-z0-9_]+ proved \([0-9]+ s\)/ { n = $2; t = $4; sub(/\(/, "", t); order[++k] = n; proof[n] = t }
+    /^rt: must-fail / { split($3, a, "/"); t = $(NF - 1); sub(/.*; /, "", t); n = a[1]; edits[n]++; if (!(n in low) || t + 0 < low[n]) low[n] = t + 0; if (t + 0 > high[n]) high[n] = t + 0 }
+    END { for (i = 1; i <= k; i++) { n = order[i]; printf "| `%s` | %s | %s | %s |\n", n, proof[n], edits[n], (n in low) ? low[n] " to " high[n] : "" } }' "$log")
+TEXT
