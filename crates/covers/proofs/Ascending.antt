@@ -5,7 +5,7 @@ use mathlib.Core.Bool.{Bool, true, false, cond, false≢true}
 use mathlib.Core.List.{List, [], _∷_, _++_, List·Memᴰ, List·Memᴰ·head, List·Memᴰ·tail, List·Memᴰ·not-nil, head-eq-of-cons-eq, tail-eq-of-cons-eq}
 use mathlib.Core.Option.{some, Option·some-injective}
 use native.Mathlib.Omega.{arith}
-use Rattle.covers.specs.Lists.{select, firstSuch}
+use Rattle.covers.specs.Lists.{keepIf, select, firstSuch}
 
 module _ {A : Type 0} (number : A → ℕ) where
   -- From `low` on and below `high`, each above the one before: so none twice.
@@ -49,7 +49,7 @@ module _ {A : Type 0} {number : A → ℕ} where
   select-ascends test (end h) = end h
   select-ascends test (then {low = low} {high = high} {x = x} {xs = xs} h r) = go (test x) (select-ascends test r)
     where
-      go : (b : Bool) → Ascending number (suc (number x)) high (select test xs) → Ascending number low high (cond b (x ∷ select test xs) (select test xs))
+      go : (b : Bool) → Ascending number (suc (number x)) high (select test xs) → Ascending number low high (keepIf b x (select test xs))
       go true k = then h k
       go false k = lowered (omega arith) k
 

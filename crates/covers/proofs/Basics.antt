@@ -9,7 +9,7 @@ use native.Mathlib.Omega.{arith}
 use lib.Dec.{ltb}
 use lib.ListN.{length, getD, getElem?, replicate}
 use borrow.Author.Tests.{ltb-true, ltb-false, leb-true, leb-false, eqb-true}
-use Rattle.covers.specs.Lists.{any, select, firstSuch}
+use Rattle.covers.specs.Lists.{any, keepIf, select, firstSuch}
 
 -- What a test's answer says of the numbers, for `omega`.
 pub ruleset tests = (ltb-true, ltb-false, leb-true, leb-false, eqb-true)
@@ -81,7 +81,7 @@ module _ {A : Type 0} (test : A → Bool) where
   of-select [] m = absurd (List·Memᴰ·not-nil m)
   of-select {x} (y ∷ xs) m = go (test y) refl m (λ k. of-select xs k)
     where
-      go : (b : Bool) → test y ≡ b → List·Memᴰ x (cond b (y ∷ select test xs) (select test xs)) → (List·Memᴰ x (select test xs) → List·Memᴰ x xs × (test x ≡ true)) → List·Memᴰ x (y ∷ xs) × (test x ≡ true)
+      go : (b : Bool) → test y ≡ b → List·Memᴰ x (keepIf b y (select test xs)) → (List·Memᴰ x (select test xs) → List·Memᴰ x xs × (test x ≡ true)) → List·Memᴰ x (y ∷ xs) × (test x ≡ true)
       go true e (List·Memᴰ·head f) later = (List·Memᴰ·head f, rw f e)
       go true e (List·Memᴰ·tail k) later = let r = later k in (List·Memᴰ·tail (r .0), r .1)
       go false e k later = let r = later k in (List·Memᴰ·tail (r .0), r .1)
@@ -91,7 +91,7 @@ module _ {A : Type 0} (test : A → Bool) where
   in-select (y ∷ xs) (List·Memᴰ·head e) h = rw (← e, h) (List·Memᴰ·head refl)
   in-select {x} (y ∷ xs) (List·Memᴰ·tail m) h = go (test y) (in-select xs m h)
     where
-      go : (b : Bool) → List·Memᴰ x (select test xs) → List·Memᴰ x (cond b (y ∷ select test xs) (select test xs))
+      go : (b : Bool) → List·Memᴰ x (select test xs) → List·Memᴰ x (keepIf b y (select test xs))
       go true k = List·Memᴰ·tail k
       go false k = k
 

@@ -11,16 +11,18 @@ use Rattle.bits.specs.declared.Cursor.{Cursor}
 use Rattle.fields.specs.declared.Scan.{Scan}
 use Rattle.fields.specs.declared.Scan.the-variants.{At}
 use Rattle.fields.specs.Promises.{Live}
+use Rattle.fields.specs.Reading.{start}
+use Rattle.fields.specs.Answer.{Answer, refused, success, onSuccess}
 use Rattle.sheets.specs.Model.{Library, Tree}
 use Rattle.sheets.specs.LibrarySheet.{library}
 use Rattle.sheets.specs.TreeSheet.{tree}
-use Rattle.fields.specs.Reading.{start}
 use Rattle.sheets.proofs.Sound.{library-limits, tree-limits}
+use Rattle.covers.specs.Capacity.{capacity, workWords}
 use Rattle.covers.specs.Cover.{Point, Cover}
 use Rattle.covers.specs.Tradeoff.{Node, considered}
 use Rattle.covers.specs.CoverSheet.{coverSheet, listSheet, CoverReads, ListReads}
-use Rattle.covers.specs.Answer.{Answer, onSheet, mapAnswer, listAnswer}
-use Rattle.covers.specs.Outcome.{Outcome, refused, sheet, told, outputAfter, observed, answering, withTree, withLibrary, lent, operation, capacity, mapOutcome, listOutcome}
+use Rattle.covers.specs.Answer.{overfullNumber, mapAnswer, listAnswer}
+use Rattle.covers.specs.Outcome.{told, outputAfter, observed, withTree, withLibrary, lent, operation, mapBytes, listBytes, mapOutcome, listOutcome}
 use Rattle.covers.specs.Promise.{HighestTooMany, NoneTooMany, RootTradeoffs}
 use Rattle.covers.specs.Demands.{Demands, MapDemands, ListDemands, WhereSound}
 use Rattle.covers.proofs.Basics.{lt-or-le}
@@ -29,28 +31,28 @@ use Rattle.covers.proofs.ReadBack.{cover-reads, list-reads}
 use Rattle.covers.proofs.FromSheets.{cover-fits, list-fits}
 use Rattle.covers.proofs.Promises.{Promise, too-many, none-wanted, right, map-promise, list-promise}
 
--- Outcomes with different numbers differ; a sheet's is 0.
-number : Outcome → ℕ
+-- Answers with different numbers differ; a success's is 0.
+number : {A : Type 0} → Answer A → ℕ
 number (refused n k) = n
-number (sheet s) = 0
+number (success a) = 0
 
-module _ {l : Library} {t : Tree} where
+module _ {most : ℕ} {l : Library} {t : Tree} where
   -- Only one node is the highest with too many, and then some node has.
-  highest-same : {j k : ℕ} → HighestTooMany capacity l t j → HighestTooMany capacity l t k → j ≡ k
+  highest-same : {j k : ℕ} → HighestTooMany most l t j → HighestTooMany most l t k → j ≡ k
   highest-same {j} {k} g h = let a : j < k → ⊥ = clash g h in let b : k < j → ⊥ = clash h g in omega arith
     where
-      clash : {i i′ : ℕ} → HighestTooMany capacity l t i → HighestTooMany capacity l t i′ → i < i′ → ⊥
+      clash : {i i′ : ℕ} → HighestTooMany most l t i → HighestTooMany most l t i′ → i < i′ → ⊥
       clash u v lt = u .none-above (v .node) (v .among) (rw (v .number) lt) (v .tooMany)
 
-  not-both : {k : ℕ} → NoneTooMany capacity l t → HighestTooMany capacity l t k → ⊥
+  not-both : {k : ℕ} → NoneTooMany most l t → HighestTooMany most l t k → ⊥
   not-both a h = a (h .node) (h .among) (h .tooMany)
 
   -- An answer that keeps its promise, put on its sheet, meets the demands; what is right shows that there is a wanted cover.
-  meets : {A : Type 0} {Wanted : Cover → Type 0} {Right : A → Type 0} (on : A → List ℕ) (Says : A → List ℕ → Type 0) → ((a : A) → Right a → (c : Cover) × Wanted c) → ((a : A) → NoneTooMany capacity l t → Right a → Says a (on a)) → {r : Answer A} → Promise Wanted Right capacity l t r → Demands Wanted Right on Says l t (answering (onSheet on r))
-  unfolding answering onSheet number
+  meets : {A : Type 0} {Wanted : Cover → Type 0} {Right : A → Type 0} (on : A → List ℕ) (Says : A → List ℕ → Type 0) → ((a : A) → Right a → (c : Cover) × Wanted c) → ((a : A) → NoneTooMany most l t → Right a → Says a (on a)) → {r : Answer A} → Promise Wanted Right most l t r → Demands Wanted Right on Says most l t (onSuccess on r)
+  unfolding onSuccess number
   meets on Says wanted says (too-many {k = k} h) = record {
     overfull-exactly = (λ e. (h .node, h .among, h .tooMany), λ x. (k, refl));
-    overfull-place = λ j. (λ e. subst (HighestTooMany capacity l t) (cc) h, λ g. ap (refused 7) (highest-same h g));
+    overfull-place = λ j. (λ e. subst (HighestTooMany most l t) (cc) h, λ g. ap (refused overfullNumber) (highest-same h g));
     none-exactly = (λ e. absurd (omega (arith, ap number e)), λ n. absurd (not-both (n .0) h));
     sheet-exactly = (λ e. absurd (omega (arith, ap number (e .1))), λ n. absurd (not-both (n .0) h));
     sheet-is = λ bytes e. absurd (omega (arith, ap number e));
@@ -71,9 +73,9 @@ module _ {l : Library} {t : Tree} where
   }
 
 -- With no node overfull the root has at most as many trade-offs as a node may have.
-few : {l : Library} {t : Tree} {ps : List Point} → NoneTooMany capacity l t → RootTradeoffs l t ps → length ps ≤ capacity
+few : {most : ℕ} {l : Library} {t : Tree} {ps : List Point} → NoneTooMany most l t → RootTradeoffs l t ps → length ps ≤ most
 unfolding considered
-few {l} {t} {ps} n r = ⊎-elim (λ h. absurd (n root (root-in 0 (t .shape)) record { load = t .load; among = List·Memᴰ·head refl; points = ps; apart = r .earliest-first; each = λ p. r .all p .0; exceeds = h })) (λ h. h) (lt-or-le capacity (length ps))
+few {most} {l} {t} {ps} n r = ⊎-elim (λ h. absurd (n root (root-in 0 (t .shape)) record { load = t .load; among = List·Memᴰ·head refl; points = ps; apart = r .earliest-first; each = λ p. r .all p .0; exceeds = h })) (λ h. h) (lt-or-le most (length ps))
   where
     root : Node
     root = record { number = 0; shape = t .shape }
@@ -82,20 +84,20 @@ sound : {s : Scan} {c : Cursor} → s ≡ At c → Live s
 sound e = subst Live (sym e) tt
 
 -- The caller sees the outcome.
-pub observed-is : (o : Outcome) (output : List ℕ) → observed (told o) (outputAfter o output) ≡ o
-unfolding observed told outputAfter
+pub observed-is : (o : Answer (List ℕ)) (output : List ℕ) → observed (told o) (outputAfter o output) ≡ o
+unfolding observed told outputAfter onSuccess
 observed-is (refused n p) output = refl
-observed-is (sheet s) output = ap sheet (take-at s (drop (length s) output) (length s) refl)
+observed-is (success s) output = ap success (take-at s (drop (length s) output) (length s) refl)
 
 -- A sound library and a sound tree are answered, if what is lent is enough.
-answers : (least : ℕ) (f : Library → Tree → Answer (List ℕ)) (ls ts : List ℕ) (output work : ℕ) {c c′ : Cursor} → least ≤ output → 8192 ≤ work → library ls start .1 ≡ At c → tree ts start .1 ≡ At c′ → operation least f ls ts output work ≡ answering (f (library ls start .0) (tree ts start .0))
+answers : {A : Type 0} (least : ℕ) (f : ℕ → Library → Tree → Answer A) (ls ts : List ℕ) (output work : ℕ) {c c′ : Cursor} → least ≤ output → workWords capacity ≤ work → library ls start .1 ≡ At c → tree ts start .1 ≡ At c′ → operation least f ls ts output work ≡ f capacity (library ls start .0) (tree ts start .0)
 unfolding operation lent withLibrary withTree
-answers least f ls ts output work h g e e′ = rw (le-leb least output h, le-leb 8192 work g) (ap₂ (λ q r. withLibrary f (library ls start .0, q) (tree ts start .0, r)) e e′)
+answers least f ls ts output work h g e e′ = rw (le-leb least output h, le-leb (workWords capacity) work g) (ap₂ (λ q r. withLibrary (f capacity) (library ls start .0, q) (tree ts start .0, r)) e e′)
 
-pub map-demands : (ls ts : List ℕ) (output work : ℕ) → WhereSound MapDemands 109 ls ts output work (mapOutcome ls ts output work)
+pub map-demands : (ls ts : List ℕ) (output work : ℕ) → WhereSound MapDemands mapBytes ls ts output work (mapOutcome ls ts output work)
 unfolding mapOutcome mapAnswer
-map-demands ls ts output work c c′ h g e e′ = rw (answers 109 (mapAnswer capacity) ls ts output work h g e e′) (meets coverSheet CoverReads (λ c r. (c, (r .best .legal, r .best .intime))) (λ c n r. cover-reads (cover-fits (library-limits ls (sound e)) (tree-limits ts (sound e′)) (r .best .legal))) (map-promise capacity (library ls start .0) (tree ts start .0)))
+map-demands ls ts output work c c′ h g e e′ = rw (answers mapBytes mapAnswer ls ts output work h g e e′) (meets coverSheet CoverReads (λ c r. (c, (r .best .legal, r .best .intime))) (λ c n r. cover-reads (cover-fits (library-limits ls (sound e)) (tree-limits ts (sound e′)) (r .best .legal))) (map-promise capacity (library ls start .0) (tree ts start .0)))
 
-pub list-demands : (ls ts : List ℕ) (output work : ℕ) → WhereSound ListDemands 179 ls ts output work (listOutcome ls ts output work)
+pub list-demands : (ls ts : List ℕ) (output work : ℕ) → WhereSound ListDemands listBytes ls ts output work (listOutcome ls ts output work)
 unfolding listOutcome listAnswer
-list-demands ls ts output work c c′ h g e e′ = rw (answers 179 (listAnswer capacity) ls ts output work h g e e′) (meets listSheet ListReads (λ ps r. let p = r .all (r .one .0) .0 (r .one .1) in (p .cover, p .among)) (λ ps n r. list-reads (list-fits (library-limits ls (sound e)) (tree-limits ts (sound e′)) (few n r) (λ p. r .all p .0))) (list-promise capacity (library ls start .0) (tree ts start .0)))
+list-demands ls ts output work c c′ h g e e′ = rw (answers listBytes listAnswer ls ts output work h g e e′) (meets listSheet ListReads (λ ps r. let p = r .all (r .one .0) .0 (r .one .1) in (p .cover, p .among)) (λ ps n r. list-reads (list-fits (library-limits ls (sound e)) (tree-limits ts (sound e′)) (few n r) (λ p. r .all p .0))) (list-promise capacity (library ls start .0) (tree ts start .0)))

@@ -6,6 +6,7 @@ use native.Mathlib.Omega.{arith}
 use lib.ListN.{length}
 use Rattle.sheets.specs.Model.{Library, Tree}
 use Rattle.sheets.specs.Sound.{SoundLibrary, SoundTree}
+use Rattle.covers.specs.Capacity.{capacity}
 use Rattle.covers.specs.Cover.{Point, Cover}
 use Rattle.covers.specs.Tradeoff.{IsTradeoff}
 use Rattle.covers.specs.Promise.{RootCover}
@@ -39,7 +40,7 @@ cover-fits {t = t} h k legal = let b = root-bounds h k legal in record {
   placed = λ x m. (omega (arith, ascending-range (cover-ascends legal) m .1, k .size), omega (arith, known-patterns legal x m, h .few-patterns));
 }
 
-pub list-fits : {l : Library} {t : Tree} {ps : List Point} → SoundLibrary l → SoundTree t → length ps ≤ 31 → ((p : Point) → List·Memᴰ p ps → IsTradeoff (RootCover l t) p) → ListFits ps
+pub list-fits : {l : Library} {t : Tree} {ps : List Point} → SoundLibrary l → SoundTree t → length ps ≤ capacity → ((p : Point) → List·Memᴰ p ps → IsTradeoff (RootCover l t) p) → ListFits ps
 list-fits h k few are = record {
   count = omega (arith, few);
   points = λ p m. let r = are p m in let b = root-bounds h k (r .among) in (omega (arith, b .1, ap (λ q. q .arrival) (r .point)), omega (arith, b .0, ap (λ q. q .area) (r .point)));

@@ -10,21 +10,21 @@ use native.Mathlib.Omega.{arith}
 use lib.ListN.{getElem?, length}
 use lib.Dec.{leb}
 use Rattle.sheets.specs.Model.{Shape, leaf, inv, nand, size, Library, Pattern, patterns}
-use Rattle.covers.specs.Match.{Input, joined, laid, matched, usable, legal, Match, IsMatch, found, fittingFrom, fitting, matches}
+use Rattle.covers.specs.Match.{Input, joined, laid, matched, usable, legal, Match, IsMatch, putFirst, fittingFrom, fitting, matches}
 use Rattle.covers.specs.Curve.{gates}
 use Rattle.covers.proofs.Basics.{tests, of-select, in-select}
 use Rattle.covers.proofs.Ascending.{Ascending, end, then, lowered, select-ascends}
 
-found-cases : (k : ℕ) (p : Pattern) (o : Option (List Input)) {ms : List Match} {m : Match} → List·Memᴰ m (found k p o ms) → ((m .number ≡ k) × (m .pattern ≡ p) × (o ≡ some (m .inputs))) ⊎ List·Memᴰ m ms
-unfolding found
-found-cases k p none h = inr h
-found-cases k p (some is) (List·Memᴰ·head e) = inl (ap (λ m. m .number) e, ap (λ m. m .pattern) e, ap (λ m. some (m .inputs)) (sym e))
-found-cases k p (some is) (List·Memᴰ·tail h) = inr h
+first-cases : (k : ℕ) (p : Pattern) (o : Option (List Input)) {ms : List Match} {m : Match} → List·Memᴰ m (putFirst k p o ms) → ((m .number ≡ k) × (m .pattern ≡ p) × (o ≡ some (m .inputs))) ⊎ List·Memᴰ m ms
+unfolding putFirst
+first-cases k p none h = inr h
+first-cases k p (some is) (List·Memᴰ·head e) = inl (ap (λ m. m .number) e, ap (λ m. m .pattern) e, ap (λ m. some (m .inputs)) (sym e))
+first-cases k p (some is) (List·Memᴰ·tail h) = inr h
 
-found-later : (k : ℕ) (p : Pattern) (o : Option (List Input)) {ms : List Match} {m : Match} → List·Memᴰ m ms → List·Memᴰ m (found k p o ms)
-unfolding found
-found-later k p none h = h
-found-later k p (some is) h = List·Memᴰ·tail h
+first-later : (k : ℕ) (p : Pattern) (o : Option (List Input)) {ms : List Match} {m : Match} → List·Memᴰ m ms → List·Memᴰ m (putFirst k p o ms)
+unfolding putFirst
+first-later k p none h = h
+first-later k p (some is) h = List·Memᴰ·tail h
 
 module _ (n : ℕ) (s : Shape) where
   -- A match of one of these patterns, the first of which has number k.
@@ -37,21 +37,21 @@ module _ (n : ℕ) (s : Shape) where
   among : (k : ℕ) (ps : List Pattern) {m : Match} → List·Memᴰ m (fittingFrom n s k ps) → Among k ps m
   unfolding fittingFrom
   among k [] h = absurd (List·Memᴰ·not-nil h)
-  among k (p ∷ ps) h = ⊎-elim (λ f. record { place = 0; number = omega (arith, f .0); pattern = ap some (sym (f .1)); fits = rw (f .1) (f .2) }) (λ later. let f = among (suc k) ps later in record { place = suc (f .place); number = omega (arith, f .number); pattern = f .pattern; fits = f .fits }) (found-cases k p (matched (p .drawing) n s) h)
+  among k (p ∷ ps) h = ⊎-elim (λ f. record { place = 0; number = omega (arith, f .0); pattern = ap some (sym (f .1)); fits = rw (f .1) (f .2) }) (λ later. let f = among (suc k) ps later in record { place = suc (f .place); number = omega (arith, f .number); pattern = f .pattern; fits = f .fits }) (first-cases k p (matched (p .drawing) n s) h)
 
   listed : (k : ℕ) (ps : List Pattern) (j : ℕ) {m : Match} → m .number ≡ k + j → getElem? ps j ≡ some (m .pattern) → matched (m .pattern .drawing) n s ≡ some (m .inputs) → List·Memᴰ m (fittingFrom n s k ps)
-  unfolding fittingFrom found
+  unfolding fittingFrom putFirst
   listed k [] j {m} e p f = absurd (Option·none-ne-some (m .pattern) p)
   listed k (q ∷ ps) zero {m} e p f = let h : q ≡ m .pattern = Option·some-injective q (m .pattern) p in let e′ : m .number ≡ k = omega arith in rw (h, f) (List·Memᴰ·head (λ i. record { number = e′ i; pattern = m .pattern; inputs = m .inputs }))
-  listed k (q ∷ ps) (suc j) e p f = found-later k q (matched (q .drawing) n s) (listed (suc k) ps j (omega arith) p f)
+  listed k (q ∷ ps) (suc j) e p f = first-later k q (matched (q .drawing) n s) (listed (suc k) ps j (omega arith) p f)
 
   -- In ascending order of pattern numbers.
   fitting-ascend : (k : ℕ) (ps : List Pattern) → Ascending (λ m. m .number) k (k + length ps) (fittingFrom n s k ps)
-  unfolding fittingFrom found
+  unfolding fittingFrom putFirst
   fitting-ascend k [] = end (le-add-right k 0)
   fitting-ascend k (p ∷ ps) = let e : suc k + length ps ≡ k + suc (length ps) = omega arith in go (matched (p .drawing) n s) (rw e at (fitting-ascend (suc k) ps))
     where
-      go : (o : Option (List Input)) {high : ℕ} {ms : List Match} → Ascending (λ m. m .number) (suc k) high ms → Ascending (λ m. m .number) k high (found k p o ms)
+      go : (o : Option (List Input)) {high : ℕ} {ms : List Match} → Ascending (λ m. m .number) (suc k) high ms → Ascending (λ m. m .number) k high (putFirst k p o ms)
       go none r = lowered (omega arith) r
       go (some is) r = then {x = record { number = k; pattern = p; inputs = is }} (le-refl k) r
 

@@ -1,7 +1,7 @@
 -- The overfull node is named exactly when it is the highest with more trade-offs than allowed under a load considered there, and none is named exactly when there is none.
 use Prim.Native.Nat.{ℕ, suc, _+_, _≤_, _<_}
 use mathlib.Core.Path.{_≡_, refl, sym, ap, _∙_}
-use mathlib.Core.Logic.{_⊎_, inl, inr, _↔_}
+use mathlib.Core.Logic.{_↔_}
 use mathlib.Core.Bool.{Bool, true, false, cond, false≢true}
 use mathlib.Core.List.{List, _∷_, List·Memᴰ, List·Memᴰ·head, List·Memᴰ·tail, List·Memᴰ·not-nil}
 use mathlib.Core.Option.{Option, none, some}
@@ -13,7 +13,7 @@ use borrow.Author.Tests.{lt-ltb}
 use Rattle.sheets.specs.Model.{Shape, leaf, inv, nand, size, Library, Tree}
 use Rattle.covers.specs.Enumeration.{covers}
 use Rattle.covers.specs.Tradeoff.{points, tradeoffs, TooMany, Node, nodes, considered, overfull, orElse, lastSuch, overfullNode}
-use Rattle.covers.proofs.Basics.{tests, lt-or-le, each, any-true, true-any}
+use Rattle.covers.proofs.Basics.{tests, each, any-true, true-any}
 use Rattle.covers.proofs.Ascending.{Ascending, end, then, ascending-append, ascending-range}
 use Rattle.covers.proofs.Tradeoffs.{tradeoffs-climb, tradeoffs-legal, climbing-fewer}
 
@@ -80,12 +80,7 @@ overfull-named most l t = last-of (overfull most l t) (nodes-ascend 0 (t .shape)
 -- Nothing else is the highest.
 pub highest-unique : {test : Node → Bool} {xs : List Node} {o : Option ℕ} {k : ℕ} → LastOf test xs o → Highest test xs k → o ≡ some k
 highest-unique (nowhere a) h = absurd (false≢true (sym (a (h .node) (h .among)) ∙ h .passes))
-highest-unique {test} {xs} {k = k} (at {k = j} g) h = ap {B = Option ℕ} some (go (lt-or-le j k) (lt-or-le k j))
+highest-unique {test} {xs} {k = k} (at {k = j} g) h = let a : j < k → ⊥ = clash g h in let b : k < j → ⊥ = clash h g in ap {B = Option ℕ} some (omega arith)
   where
     clash : {i i′ : ℕ} → Highest test xs i → Highest test xs i′ → i < i′ → ⊥
     clash u v lt = false≢true (sym (u .above (v .node) (v .among) (rw (v .number) lt)) ∙ v .passes)
-
-    go : (j < k) ⊎ (k ≤ j) → (k < j) ⊎ (j ≤ k) → j ≡ k
-    go (inl a) b = absurd (clash g h a)
-    go (inr a) (inl b) = absurd (clash h g b)
-    go (inr a) (inr b) = omega arith

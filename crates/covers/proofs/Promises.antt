@@ -5,12 +5,13 @@ use mathlib.Core.Bool.{false, false≢true}
 use mathlib.Core.List.{List, [], _∷_, List·Memᴰ·head, List·Memᴰ·not-nil}
 use mathlib.Core.Option.{Option, none, some}
 use native.Mathlib.Omega.{arith}
+use Rattle.fields.specs.Answer.{Answer, refused, success}
 use Rattle.sheets.specs.Model.{Library, Tree}
 use Rattle.covers.specs.Cover.{Point, Cover}
 use Rattle.covers.specs.Enumeration.{covers}
 use Rattle.covers.specs.Tradeoff.{Climbing, points, tradeoffs, Node, nodes, TooMany, overfull, overfullNode}
 use Rattle.covers.specs.Choice.{choice}
-use Rattle.covers.specs.Answer.{Answer, overfullAt, noCover, success, answered, mapped, nonempty, listed}
+use Rattle.covers.specs.Answer.{overfullNumber, noCoverNumber, answered, mapped, nonempty, listed}
 use Rattle.covers.specs.Promise.{RootCover, HighestTooMany, NoneTooMany, InTime, BestCover, RootTradeoffs}
 use Rattle.covers.proofs.Least.{LeastOf, absent, found, In, least-is}
 use Rattle.covers.proofs.Relation.{covers-all}
@@ -24,8 +25,8 @@ use Rattle.covers.proofs.Overfull.{LastOf, nowhere, at, overfull-when, 
 -- What an answer promises where covers of a wanted kind are asked for: it names the highest node with too many trade-offs; or there is no such node,
 -- and either it says no cover and there is none of that kind, or what it hands over is right.
 pub data Promise {A : Type 0} (Wanted : Cover → Type 0) (Right : A → Type 0) (most : ℕ) (l : Library) (t : Tree) : Answer A → Type 0 where
-  too-many : {k : ℕ} → HighestTooMany most l t k → Promise Wanted Right most l t (overfullAt k)
-  none-wanted : NoneTooMany most l t → ((c : Cover) → Wanted c → ⊥) → Promise Wanted Right most l t noCover
+  too-many : {k : ℕ} → HighestTooMany most l t k → Promise Wanted Right most l t (refused overfullNumber k)
+  none-wanted : NoneTooMany most l t → ((c : Cover) → Wanted c → ⊥) → Promise Wanted Right most l t (refused noCoverNumber 0)
   right : {a : A} → NoneTooMany most l t → Right a → Promise Wanted Right most l t (success a)
 
 -- Of map those in time are wanted, of list all legal ones.

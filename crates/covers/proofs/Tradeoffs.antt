@@ -3,20 +3,21 @@ use Prim.Native.Nat.{ℕ, _≤_, _<_}
 use mathlib.Core.Path.{_≡_, refl, sym, ap, _∙_}
 use mathlib.Core.Logic.{_⊎_, inl, inr, ⊎-elim, ⊎-map, _↔_}
 use mathlib.Core.Bool.{Bool, true, false, _&&_, not, cond, false≢true}
-use mathlib.Core.List.{List, [], _∷_, foldr, List·Memᴰ, List·Memᴰ·head, List·Memᴰ·tail, List·Memᴰ·not-nil, List·Memᴰ·cases-cons, Memᴰ·map, Memᴰ·of-map}
+use mathlib.Core.List.{List, [], _∷_, foldr, List·Memᴰ, List·Memᴰ·head, List·Memᴰ·tail, List·Memᴰ·not-nil, List·Memᴰ·cases-cons, List·Memᴰ·eq-of-singleton, Memᴰ·map, Memᴰ·of-map}
 use native.Mathlib.Nat.{le-refl}
 use native.Mathlib.Omega.{arith}
 use lib.Dec.{leb, ltb}
 use lib.ListN.{length}
 use borrow.Author.Tests.{le-leb, not-true, not-false}
-use Rattle.sheets.specs.Model.{Shape, Library}
-use Rattle.covers.specs.Lists.{select}
-use Rattle.covers.specs.Cover.{Point, Cover, IsCover}
-use Rattle.covers.specs.Enumeration.{covers}
+use Rattle.sheets.specs.Model.{Shape, leaf, Library}
+use Rattle.covers.specs.Lists.{keepIf, select}
+use Rattle.covers.specs.Cover.{Point, Cover, IsCover, leafPoint}
+use Rattle.covers.specs.Enumeration.{coversStep, covers}
 use Rattle.covers.specs.Tradeoff.{IsTradeoff, Climbing, top, step, same, beats, beaten, insert, tradeoffsOf, points, tradeoffs}
 use Rattle.covers.proofs.Basics.{tests, lt-or-le, each, any-false, false-any, of-select, in-select}
 use Rattle.covers.proofs.Points.{same-true, same-refl}
 use Rattle.covers.proofs.Least.{In}
+use Rattle.covers.proofs.Unroll.{covers-unroll}
 use Rattle.covers.proofs.Relation.{covers-all, covers-are}
 
 -- No other point of these is at most as great in both.
@@ -135,6 +136,15 @@ tradeoffs-are cs p = (to, from)
 
     from : IsTradeoff (In cs) p → List·Memᴰ p (tradeoffsOf (points cs))
     from t = in-sorted (unbeatenIn (points cs)) (in-select (λ p. not (beaten (points cs) p)) (points cs) (rw (t .point) at (Memᴰ·map (λ c. c .point) (t .among))) (beaten-not (points cs) p (λ q m. let c = Memᴰ·of-map (λ c. c .point) cs m in rw (c .2) at (t .unbeaten (c .0) (c .1)))))
+
+-- One point alone is a trade-off; so a leaf has one.
+one-point : (p : Point) → tradeoffsOf (p ∷ []) ≡ p ∷ []
+unfolding tradeoffsOf
+one-point p = ap (λ b. foldr insert [] (keepIf b p [])) (beaten-not (p ∷ []) p (λ q m a t. List·Memᴰ·eq-of-singleton m))
+
+pub leaf-tradeoffs : (l : Library) (load n x : ℕ) → tradeoffs l load n (leaf x) ≡ leafPoint x load ∷ []
+unfolding tradeoffs coversStep points
+leaf-tradeoffs l load n x = ap (λ cs. tradeoffsOf (points cs)) (covers-unroll l load n (leaf x)) ∙ one-point (leafPoint x load)
 
 -- The same over the relation: the list is of the trade-offs among all legal covers.
 pub tradeoffs-legal : (l : Library) (load n : ℕ) (s : Shape) (p : Point) → List·Memᴰ p (tradeoffs l load n s) ↔ IsTradeoff (IsCover l load n s) p

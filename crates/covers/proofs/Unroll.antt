@@ -8,7 +8,7 @@ use native.Mathlib.Omega.{arith}
 use Rattle.sheets.specs.Model.{Shape, leaf, inv, nand, size, Pin, Cell, Library}
 use Rattle.covers.specs.Match.{Input, Match, matches}
 use Rattle.covers.specs.Cover.{Point, Cover, delayed, topped, feeds, inputDelay}
-use Rattle.covers.specs.Enumeration.{combined, within, throughout, inputCovers, matchCovers, gateCovers, under, coversStep, covers, allBelow}
+use Rattle.covers.specs.Enumeration.{combined, deepened, throughout, inputCovers, matchCovers, gateCovers, under, coversStep, covers, allBelow}
 use Rattle.covers.specs.Choice.{least, reaches, bothChosen, chosenInputs, withInputs, firstReaching, gateChoice, choiceStep, choice}
 use Rattle.covers.proofs.Basics.{FirstOf, nowhere, somewhere, first-of}
 use Rattle.covers.specs.Curve.{gates}
@@ -19,15 +19,15 @@ module _ {A : Type 0} (base : A) (step : (ℕ → ℕ → Shape → A) → ℕ �
   abbrev Local : Type 0
   Local = (at at′ : ℕ → ℕ → Shape → A) (load n : ℕ) (s : Shape) → ((load′ n′ : ℕ) (t : Shape) → size t < size s → at load′ n′ t ≡ at′ load′ n′ t) → step at load n s ≡ step at′ load n s
 
-  deep-enough : Local → (k j load n : ℕ) (s : Shape) → size s ≤ k → size s ≤ j → within base step k load n s ≡ within base step j load n s
-  unfolding within
+  deep-enough : Local → (k j load n : ℕ) (s : Shape) → size s ≤ k → size s ≤ j → deepened base step k load n s ≡ deepened base step j load n s
+  unfolding deepened
   deep-enough local zero j load n s h i = absurd (omega (arith, size-pos s))
   deep-enough local (suc k) zero load n s h i = absurd (omega (arith, size-pos s))
-  deep-enough local (suc k) (suc j) load n s h i = local (within base step k) (within base step j) load n s (λ load′ n′ t b. deep-enough local k j load′ n′ t (omega arith) (omega arith))
+  deep-enough local (suc k) (suc j) load n s h i = local (deepened base step k) (deepened base step j) load n s (λ load′ n′ t b. deep-enough local k j load′ n′ t (omega arith) (omega arith))
 
   unroll : Local → (load n : ℕ) (s : Shape) → throughout base step load n s ≡ step (throughout base step) load n s
-  unfolding throughout within
-  unroll local load n s = deep-enough local (size s) (suc (size s)) load n s (omega arith) (omega arith) ∙ local (within base step (size s)) (throughout base step) load n s (λ load′ n′ t b. deep-enough local (size s) (size t) load′ n′ t (omega arith) (le-refl (size t)))
+  unfolding throughout deepened
+  unroll local load n s = deep-enough local (size s) (suc (size s)) load n s (omega arith) (omega arith) ∙ local (deepened base step (size s)) (throughout base step) load n s (λ load′ n′ t b. deep-enough local (size s) (size t) load′ n′ t (omega arith) (le-refl (size t)))
 
 -- The same covers of every input make the same covers.
 inputs-same : (of of′ : Pin → Input → List Cover) (cell : Cell) (load : ℕ) (is : List Input) → ((i : Input) → List·Memᴰ i is → (p : Pin) → of p i ≡ of′ p i) → inputCovers of cell load is ≡ inputCovers of′ cell load is

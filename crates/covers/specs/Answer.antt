@@ -2,22 +2,27 @@
 use Prim.Native.Nat.{ℕ}
 use mathlib.Core.List.{List, [], _∷_}
 use mathlib.Core.Option.{Option, none, some}
+use Rattle.fields.specs.Answer.{Answer, refused, success, onSuccess}
 use Rattle.sheets.specs.Model.{Library, Tree}
 use Rattle.covers.specs.Cover.{Point, Cover}
 use Rattle.covers.specs.Tradeoff.{tradeoffs, overfullNode}
 use Rattle.covers.specs.Choice.{choice}
 use Rattle.covers.specs.CoverSheet.{coverSheet, listSheet}
 
--- Refused as overfull (document 01's "crowded", 7) at a node; no cover (8); or what was asked for.
-pub data Answer (A : Type 0) : Type 0 where
-  overfullAt : ℕ → Answer A
-  noCover : Answer A
-  success : A → Answer A
+-- Document 01's numbers that are not a sheet's: "short tray", "crowded" and "no cover".
+abbrev pub shortNumber : ℕ
+shortNumber = 1
 
--- Overfull (7) comes before no cover (8).
+abbrev pub overfullNumber : ℕ
+overfullNumber = 7
+
+abbrev pub noCoverNumber : ℕ
+noCoverNumber = 8
+
+-- Overfull, at the node, comes before no cover, at 0.
 unfoldable pub answered : {A : Type 0} → Option ℕ → Option A → Answer A
-answered (some n) a = overfullAt n
-answered none none = noCover
+answered (some n) a = refused overfullNumber n
+answered none none = refused noCoverNumber 0
 answered none (some a) = success a
 
 -- The cover that map hands over, where a node may have `most` trade-offs under a load.
@@ -35,18 +40,12 @@ unfoldable pub listed : ℕ → Library → Tree → Answer (List Point)
 unfolding answered overfullNode tradeoffs nonempty
 listed most l t = answered (overfullNode most l t) (nonempty (tradeoffs l (t .load) 0 (t .shape)))
 
--- The same answer with what was asked for put on its sheet.
-unfoldable pub onSheet : {A : Type 0} → (A → List ℕ) → Answer A → Answer (List ℕ)
-onSheet f (overfullAt n) = overfullAt n
-onSheet f noCover = noCover
-onSheet f (success a) = success (f a)
-
 -- Map's answer with the cover sheet's bytes.
 unfoldable pub mapAnswer : ℕ → Library → Tree → Answer (List ℕ)
-unfolding onSheet mapped coverSheet
-mapAnswer most l t = onSheet coverSheet (mapped most l t)
+unfolding onSuccess mapped coverSheet
+mapAnswer most l t = onSuccess coverSheet (mapped most l t)
 
 -- List's answer with the list sheet's bytes.
 unfoldable pub listAnswer : ℕ → Library → Tree → Answer (List ℕ)
-unfolding onSheet listed listSheet
-listAnswer most l t = onSheet listSheet (listed most l t)
+unfolding onSuccess listed listSheet
+listAnswer most l t = onSuccess listSheet (listed most l t)

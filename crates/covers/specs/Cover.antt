@@ -78,10 +78,22 @@ inputDelay c load i = delay (feeds c i) load
 mutual
   -- A legal cover of the node n, over the subtree s, under a load.
   pub data IsCover (l : Library) : ℕ → ℕ → Shape → Cover → Type 0 where
-    bare : {load n x : ℕ} {c : Cover} → c ≡ leafCover x load → IsCover l load n (leaf x) c
-    matching : {load n : ℕ} {s : Shape} {c d : Cover} (m : Match) → IsMatch l load n s m → AreCovers l (m .pattern .cell) load (m .inputs) d → c ≡ topped n m d → IsCover l load n s c
+    bare : {load n x : ℕ} {c : Cover} →
+        c ≡ leafCover x load →
+        IsCover l load n (leaf x) c
+    matching : {load n : ℕ} {s : Shape} {c d : Cover} (m : Match) →
+        IsMatch l load n s m →
+        AreCovers l (m .pattern .cell) load (m .inputs) d →
+        c ≡ topped n m d →
+        IsCover l load n s c
 
   -- A legal cover of each input of a match that drives a load, each under the load of its pin, taken together.
   pub data AreCovers (l : Library) : Cell → ℕ → List Input → Cover → Type 0 where
-    done : {cell : Cell} {load : ℕ} {c : Cover} → c ≡ nothing → AreCovers l cell load [] c
-    more : {cell : Cell} {load : ℕ} {i : Input} {is : List Input} {c d e : Cover} → IsCover l (pinLoad l (feeds cell i)) (i .node) (i .shape) d → AreCovers l cell load is e → c ≡ together (delayed (inputDelay cell load i) d) e → AreCovers l cell load (i ∷ is) c
+    done : {cell : Cell} {load : ℕ} {c : Cover} →
+        c ≡ nothing →
+        AreCovers l cell load [] c
+    more : {cell : Cell} {load : ℕ} {i : Input} {is : List Input} {c d e : Cover} →
+        IsCover l (pinLoad l (feeds cell i)) (i .node) (i .shape) d →
+        AreCovers l cell load is e →
+        c ≡ together (delayed (inputDelay cell load i) d) e →
+        AreCovers l cell load (i ∷ is) c

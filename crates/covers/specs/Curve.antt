@@ -1,5 +1,5 @@
 -- The words that the code's inner functions promise in: a curve, a look-up, points by deadline, a table of curves, a point in one word. No public promise rests on these.
-use Prim.Native.Nat.{ℕ, zero, suc, _+_, _*_, _/_, _%_, _≤_, _<_}
+use Prim.Native.Nat.{ℕ, zero, suc, _+_, _*_, _/_, _%_, _^_, _≤_, _<_}
 use mathlib.Core.Path.{_≡_}
 use mathlib.Core.Bool.{cond}
 use mathlib.Core.List.{List, [], _∷_, reverse, List·Memᴰ}
@@ -47,7 +47,7 @@ Filled l root table k = (x : Node) → List·Memᴰ x (nodes 0 root) → k ≤ x
 
 -- A point in one word: the arrival stands below the base, the area above it.
 abbrev pub base : ℕ
-base = 16777216
+base = 2 ^ 24
 
 unfoldable pub wordOf : Point → ℕ
 wordOf p = p .area * base + p .arrival

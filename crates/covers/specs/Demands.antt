@@ -5,37 +5,39 @@ use mathlib.Core.Logic.{_↔_}
 use mathlib.Core.List.{List, List·Memᴰ}
 use Rattle.bits.specs.declared.Cursor.{Cursor}
 use Rattle.fields.specs.declared.Scan.the-variants.{At}
+use Rattle.fields.specs.Reading.{start}
+use Rattle.fields.specs.Answer.{Answer, refused, success}
 use Rattle.sheets.specs.Model.{Library, Tree}
 use Rattle.sheets.specs.LibrarySheet.{library}
 use Rattle.sheets.specs.TreeSheet.{tree}
-use Rattle.fields.specs.Reading.{start}
+use Rattle.covers.specs.Capacity.{capacity, workWords}
 use Rattle.covers.specs.Cover.{Cover}
 use Rattle.covers.specs.Tradeoff.{Node, nodes, TooMany}
 use Rattle.covers.specs.CoverSheet.{coverSheet, listSheet, CoverReads, ListReads}
-use Rattle.covers.specs.Outcome.{Outcome, refused, sheet, capacity}
+use Rattle.covers.specs.Answer.{overfullNumber, noCoverNumber}
 use Rattle.covers.specs.Promise.{RootCover, InTime, BestCover, RootTradeoffs, HighestTooMany, NoneTooMany}
 
--- Covers of a wanted kind are asked for, and what is right is put on a sheet.
-pub record Demands {A : Type 0} (Wanted : Cover → Type 0) (Right : A → Type 0) (on : A → List ℕ) (Says : A → List ℕ → Type 0) (l : Library) (t : Tree) (o : Outcome) : Type 0 where
-  -- Demand 3. Overfull (document 01's "crowded") is said exactly when some node has more than 31 trade-offs under a load considered there,
-  pub overfull-exactly : ((k : ℕ) × (o ≡ refused 7 k)) ↔ ((x : Node) × List·Memᴰ x (nodes 0 (t .shape)) × TooMany capacity l t x)
+-- Covers of a wanted kind are asked for, and what is right is put on a sheet. A node may have `most` trade-offs under a load.
+pub record Demands {A : Type 0} (Wanted : Cover → Type 0) (Right : A → Type 0) (on : A → List ℕ) (Says : A → List ℕ → Type 0) (most : ℕ) (l : Library) (t : Tree) (o : Answer (List ℕ)) : Type 0 where
+  -- Demand 3. Overfull (document 01's "crowded") is said exactly when some node has more trade-offs than that under a load considered there,
+  pub overfull-exactly : ((k : ℕ) × (o ≡ refused overfullNumber k)) ↔ ((x : Node) × List·Memᴰ x (nodes 0 (t .shape)) × TooMany most l t x)
   -- and its place is the highest-numbered such node.
-  pub overfull-place : (k : ℕ) → (o ≡ refused 7 k) ↔ HighestTooMany capacity l t k
+  pub overfull-place : (k : ℕ) → (o ≡ refused overfullNumber k) ↔ HighestTooMany most l t k
   -- No cover is said exactly when there is no such node and no cover of the wanted kind.
-  pub none-exactly : (o ≡ refused 8 0) ↔ (NoneTooMany capacity l t × ((c : Cover) → Wanted c → ⊥))
+  pub none-exactly : (o ≡ refused noCoverNumber 0) ↔ (NoneTooMany most l t × ((c : Cover) → Wanted c → ⊥))
   -- A sheet is handed over exactly when there is no such node and some cover of the wanted kind.
-  pub sheet-exactly : ((bytes : List ℕ) × (o ≡ sheet bytes)) ↔ (NoneTooMany capacity l t × ((c : Cover) × Wanted c))
+  pub sheet-exactly : ((bytes : List ℕ) × (o ≡ success bytes)) ↔ (NoneTooMany most l t × ((c : Cover) × Wanted c))
   -- Demand 2. The sheet is that of what is right, and its fields say it.
-  pub sheet-is : (bytes : List ℕ) → o ≡ sheet bytes → (a : A) × (bytes ≡ on a) × Says a bytes × Right a
+  pub sheet-is : (bytes : List ℕ) → o ≡ success bytes → (a : A) × (bytes ≡ on a) × Says a bytes × Right a
 
 -- Map is asked for a cover in time and hands over the best.
-abbrev pub MapDemands : Library → Tree → Outcome → Type 0
-MapDemands l t = Demands (InTime l t) (BestCover l t) coverSheet CoverReads l t
+abbrev pub MapDemands : ℕ → Library → Tree → Answer (List ℕ) → Type 0
+MapDemands most l t = Demands (InTime l t) (BestCover l t) coverSheet CoverReads most l t
 
 -- List is asked for any legal cover and hands over the trade-offs of them all.
-abbrev pub ListDemands : Library → Tree → Outcome → Type 0
-ListDemands l t = Demands (RootCover l t) (RootTradeoffs l t) listSheet ListReads l t
+abbrev pub ListDemands : ℕ → Library → Tree → Answer (List ℕ) → Type 0
+ListDemands most l t = Demands (RootCover l t) (RootTradeoffs l t) listSheet ListReads most l t
 
 -- An outcome meets the demands of the library and the tree on the two sheets, if enough is lent and both sheets are sound.
-abbrev pub WhereSound : (Library → Tree → Outcome → Type 0) → ℕ → List ℕ → List ℕ → ℕ → ℕ → Outcome → Type 0
-WhereSound Demanded least ls ts output work o = (c c′ : Cursor) → least ≤ output → 8192 ≤ work → library ls start .1 ≡ At c → tree ts start .1 ≡ At c′ → Demanded (library ls start .0) (tree ts start .0) o
+abbrev pub WhereSound : (ℕ → Library → Tree → Answer (List ℕ) → Type 0) → ℕ → List ℕ → List ℕ → ℕ → ℕ → Answer (List ℕ) → Type 0
+WhereSound Demanded least ls ts output work o = (c c′ : Cursor) → least ≤ output → workWords capacity ≤ work → library ls start .1 ≡ At c → tree ts start .1 ≡ At c′ → Demanded capacity (library ls start .0) (tree ts start .0) o

@@ -7,14 +7,14 @@ use Rattle.covers.specs.Cover.{Cover, leafCover, nothing, together, dela
 
 module _ {A : Type 0} where
   -- A value for every node from those of the nodes below it, k nodes deep.
-  unfoldable pub within : A → ((ℕ → ℕ → Shape → A) → ℕ → ℕ → Shape → A) → ℕ → ℕ → ℕ → Shape → A
-  within base step zero load n s = base
-  within base step (suc k) load n s = step (within base step k) load n s
+  unfoldable pub deepened : A → ((ℕ → ℕ → Shape → A) → ℕ → ℕ → Shape → A) → ℕ → ℕ → ℕ → Shape → A
+  deepened base step zero load n s = base
+  deepened base step (suc k) load n s = step (deepened base step k) load n s
 
   -- The same, as deep as the subtree goes: no path down is longer than its size.
   unfoldable pub throughout : A → ((ℕ → ℕ → Shape → A) → ℕ → ℕ → Shape → A) → ℕ → ℕ → Shape → A
-  unfolding within size
-  throughout base step load n s = within base step (size s) load n s
+  unfolding deepened size
+  throughout base step load n s = deepened base step (size s) load n s
 
 -- Each cover of the first list together with each of the second.
 unfoldable pub combined : List Cover → List Cover → List Cover

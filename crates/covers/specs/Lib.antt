@@ -1,5 +1,6 @@
 -- What a legal cover is and which one is handed over, in reading order.
 pub mod Lists
+pub mod Capacity
 pub mod Match
 pub mod Cover
 pub mod Enumeration

@@ -61,15 +61,15 @@ pub record IsMatch (l : Library) (load n : ℕ) (s : Shape) (m : Match) : Type 0
   pub fits : matched (m .pattern .drawing) n s ≡ some (m .inputs)
 
 -- The match of a pattern number k, put before others if there is one.
-unfoldable pub found : ℕ → Pattern → Option (List Input) → List Match → List Match
-found k p none ms = ms
-found k p (some is) ms = record { number = k; pattern = p; inputs = is } ∷ ms
+unfoldable pub putFirst : ℕ → Pattern → Option (List Input) → List Match → List Match
+putFirst k p none ms = ms
+putFirst k p (some is) ms = record { number = k; pattern = p; inputs = is } ∷ ms
 
 -- The matches at a node of patterns numbered from k on.
 unfoldable pub fittingFrom : ℕ → Shape → ℕ → List Pattern → List Match
-unfolding found matched
+unfolding putFirst matched
 fittingFrom n s k [] = []
-fittingFrom n s k (p ∷ ps) = found k p (matched (p .drawing) n s) (fittingFrom n s (suc k) ps)
+fittingFrom n s k (p ∷ ps) = putFirst k p (matched (p .drawing) n s) (fittingFrom n s (suc k) ps)
 
 -- Every match at a node, legal or not, in the order of pattern numbers.
 unfoldable pub fitting : Library → ℕ → Shape → List Match

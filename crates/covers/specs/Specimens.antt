@@ -4,9 +4,10 @@ use mathlib.Core.Path.{_≡_}
 use mathlib.Core.Bool.{false}
 use mathlib.Core.List.{List, [], _∷_, map}
 use Rattle.sheets.specs.Model.{Shape, leaf, inv, nand, Pin, Cell, Library, Tree}
+use Rattle.fields.specs.Answer.{Answer, refused, success}
+use Rattle.covers.specs.Capacity.{capacity}
 use Rattle.covers.specs.Cover.{Placed, Cover}
-use Rattle.covers.specs.Answer.{Answer, noCover, success, mapped}
-use Rattle.covers.specs.Outcome.{capacity}
+use Rattle.covers.specs.Answer.{mapped}
 
 -- A pin by its bin number, intrinsic delay and drive.
 abbrev pin : ℕ → ℕ → ℕ → Pin
@@ -41,14 +42,18 @@ at n p = record { node = n; pattern = p }
 abbrev cover : List Placed → ℕ → ℕ → Answer Cover
 cover ps a t = success (record { point = record { area = a; arrival = t }; placed = ps })
 
--- A row of the table: the tree with its root load and its required time, and the result.
-pub record Row : Type 0 where
+-- The table's 8.
+abbrev noCover : Answer Cover
+noCover = refused 8 0
+
+-- A case of the table: the tree with its root load and its required time, and the result.
+pub record Case : Type 0 where
   pub tree : Tree
   pub result : Answer Cover
 
--- A row by its tree's shape, root load and required time, and the result.
-abbrev row : Shape → ℕ → ℕ → Answer Cover → Row
-row s load time r = record { tree = tree s load time; result = r }
+-- A case by its tree's shape, root load and required time, and the result.
+abbrev case : Shape → ℕ → ℕ → Answer Cover → Case
+case s load time r = record { tree = tree s load time; result = r }
 
 -- The trees of the table; leaf arrivals are 0 unless given.
 abbrev INV : Shape
@@ -60,24 +65,24 @@ INV-INV = inv INV
 abbrev INV-NAND : Shape
 INV-NAND = inv (nand (leaf 0) (leaf 0))
 
--- The rows, with any root load in l.
-abbrev pub rows : ℕ → List Row
-rows any =
-    row INV 1 6 (cover (at 0 0 ∷ []) 1 6)  -- a
-    ∷ row INV 1 5 (cover (at 0 1 ∷ []) 2 5)  -- b
-    ∷ row INV 1 4 noCover  -- c
-    ∷ row INV 4 12 (cover (at 0 0 ∷ []) 1 12)  -- d
-    ∷ row INV 5 14 (cover (at 0 1 ∷ []) 2 9)  -- e
-    ∷ row INV 9 16_777_215 noCover  -- f
-    ∷ row INV-NAND 1 14 (cover (at 0 3 ∷ []) 3 10)  -- g
-    ∷ row INV-NAND 8 22 (cover (at 0 1 ∷ at 1 2 ∷ []) 4 22)  -- h
-    ∷ row INV-INV 1 12 (cover (at 0 0 ∷ at 1 0 ∷ []) 2 12)  -- i
-    ∷ row INV-INV 1 11 (cover (at 0 0 ∷ at 1 1 ∷ []) 3 11)  -- j
-    ∷ row (nand (leaf 3) (leaf 0)) 1 11 (cover (at 0 2 ∷ []) 2 11)  -- k
-    ∷ row (leaf 7) any 7 (cover [] 0 7)  -- l
-    ∷ row (leaf 7) any 6 noCover  -- l
+-- The cases, with any root load in l.
+abbrev pub cases : ℕ → List Case
+cases any =
+    case INV 1 6 (cover (at 0 0 ∷ []) 1 6)  -- a
+    ∷ case INV 1 5 (cover (at 0 1 ∷ []) 2 5)  -- b
+    ∷ case INV 1 4 noCover  -- c
+    ∷ case INV 4 12 (cover (at 0 0 ∷ []) 1 12)  -- d
+    ∷ case INV 5 14 (cover (at 0 1 ∷ []) 2 9)  -- e
+    ∷ case INV 9 16_777_215 noCover  -- f
+    ∷ case INV-NAND 1 14 (cover (at 0 3 ∷ []) 3 10)  -- g
+    ∷ case INV-NAND 8 22 (cover (at 0 1 ∷ at 1 2 ∷ []) 4 22)  -- h
+    ∷ case INV-INV 1 12 (cover (at 0 0 ∷ at 1 0 ∷ []) 2 12)  -- i
+    ∷ case INV-INV 1 11 (cover (at 0 0 ∷ at 1 1 ∷ []) 3 11)  -- j
+    ∷ case (nand (leaf 3) (leaf 0)) 1 11 (cover (at 0 2 ∷ []) 2 11)  -- k
+    ∷ case (leaf 7) any 7 (cover [] 0 7)  -- l
+    ∷ case (leaf 7) any 6 noCover  -- l
     ∷ []
 
--- What is claimed: every row's result is what map hands over.
+-- What is claimed: every case's result is what map hands over.
 abbrev pub Specimens : Type 0
-Specimens = (any : ℕ) → map (λ r. mapped capacity specimen (r .tree)) (rows any) ≡ map (λ r. r .result) (rows any)
+Specimens = (any : ℕ) → map (λ c. mapped capacity specimen (c .tree)) (cases any) ≡ map (λ c. c .result) (cases any)
