@@ -1,12 +1,12 @@
 use borrow.Author.Needs.{needs}
-use Rattle.writing.proofs.Laws.{cover-written}
-use Rattle.writing.proofs.write_cover.Statement.{statement}
-use Rattle.writing.proofs.write_cover.Tie as tie
-use Rattle.writing.proofs.write_cover.Reads as reads
-use Rattle.writing.proofs.write_cover.Lts as lts
+use Rattle.results.proofs.Laws.{cover-written}
+use Rattle.results.proofs.write_cover.Statement.{statement}
+use Rattle.results.proofs.write_cover.Tie as tie
+use Rattle.results.proofs.write_cover.Reads as reads
+use Rattle.results.proofs.write_cover.Lts as lts
 use Rattle.bits.proofs.put.Reads as put-reads
-use Rattle.writing.proofs.clear.Reads as clear-reads
-use Rattle.writing.proofs.put_matches.Reads as put-matches-reads
+use Rattle.results.proofs.clear.Reads as clear-reads
+use Rattle.results.proofs.put_matches.Reads as put-matches-reads
 
 mul-bytes : tie.Need-mul-bytes
 mul-bytes c = search needs

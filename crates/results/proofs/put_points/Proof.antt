@@ -4,12 +4,12 @@ use mathlib.Core.Path.{_≡_, refl, _∙_}
 use lib.ListN.{length}
 use Rattle.covers.specs.CoverSheet.{pointFields}
 use Rattle.fields.specs.Written.{written}
-use Rattle.writing.specs.Written.{pointsOf}
-use Rattle.writing.proofs.Laws.{point-turn, points-done}
-use Rattle.writing.proofs.put_points.Statement.{statement}
-use Rattle.writing.proofs.put_points.Tie as tie
-use Rattle.writing.proofs.put_points.Reads as reads
-use Rattle.writing.proofs.put_points.Lts as lts
+use Rattle.results.specs.Written.{pointsOf}
+use Rattle.results.proofs.Laws.{point-turn, points-done}
+use Rattle.results.proofs.put_points.Statement.{statement}
+use Rattle.results.proofs.put_points.Tie as tie
+use Rattle.results.proofs.put_points.Reads as reads
+use Rattle.results.proofs.put_points.Lts as lts
 use Rattle.bits.proofs.put.Reads as put-reads
 
 abbrev Inv-loop : tie.InvT-loop

@@ -6,7 +6,7 @@ ghost use Prim.Native.Nat.{ℕ, _+_, _*_, _<_, _≤_, _^_};
 ghost use lib.ListN.{length, take, drop, getD, replicate};
 ghost use Rattle.fields.specs.Written.{written};
 ghost use Rattle.covers.specs.CoverSheet.{placedFields, pointFields, coverSheet, listSheet};
-ghost use Rattle.writing.specs.Written.{placedOf, coverOf, pointsOf, Written};
+ghost use Rattle.results.specs.Written.{placedOf, coverOf, pointsOf, Written};
 
 // How wide the fields of the cover sheet and the list sheet are, and where the match count, the matches and the points start.
 pub struct Sheet {}

@@ -16,7 +16,7 @@ use Rattle.fields.proofs.Written.{length-packed}
 use Rattle.covers.specs.CoverSheet.{placedFields, coverFields, pointFields, listFields, coverSheet, listSheet}
 use Rattle.covers.proofs.SheetLengths.{cover-sheet-length, list-sheet-length}
 use Rattle.covers.specs.Curve.{base, pointOf}
-use Rattle.writing.specs.Written.{placedOf, coverOf, pointsOf, Written}
+use Rattle.results.specs.Written.{placedOf, coverOf, pointsOf, Written}
 
 -- ---- elements made zero from the front on
 

@@ -1,10 +1,10 @@
 use native.Mathlib.Omega.{arith}
 use Prim.Native.Nat.{_≤_, _-_}
-use Rattle.writing.proofs.Laws.{Cleared, clear-none, clear-turn, clear-done}
-use Rattle.writing.proofs.clear_work.Statement.{statement}
-use Rattle.writing.proofs.clear_work.Tie as tie
-use Rattle.writing.proofs.clear_work.Reads as reads
-use Rattle.writing.proofs.clear_work.Lts as lts
+use Rattle.results.proofs.Laws.{Cleared, clear-none, clear-turn, clear-done}
+use Rattle.results.proofs.clear_work.Statement.{statement}
+use Rattle.results.proofs.clear_work.Tie as tie
+use Rattle.results.proofs.clear_work.Reads as reads
+use Rattle.results.proofs.clear_work.Lts as lts
 
 abbrev Inv-loop : tie.InvT-loop
 Inv-loop work₀ k₀ work k = (k ≤ 8192) × Cleared work₀ k work

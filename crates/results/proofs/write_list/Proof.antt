@@ -1,13 +1,13 @@
 use borrow.Author.Needs.{needs}
 use native.Mathlib.Omega.{arith}
-use Rattle.writing.proofs.Laws.{list-written}
-use Rattle.writing.proofs.write_list.Statement.{statement}
-use Rattle.writing.proofs.write_list.Tie as tie
-use Rattle.writing.proofs.write_list.Reads as reads
-use Rattle.writing.proofs.write_list.Lts as lts
+use Rattle.results.proofs.Laws.{list-written}
+use Rattle.results.proofs.write_list.Statement.{statement}
+use Rattle.results.proofs.write_list.Tie as tie
+use Rattle.results.proofs.write_list.Reads as reads
+use Rattle.results.proofs.write_list.Lts as lts
 use Rattle.bits.proofs.put.Reads as put-reads
-use Rattle.writing.proofs.clear.Reads as clear-reads
-use Rattle.writing.proofs.put_points.Reads as put-points-reads
+use Rattle.results.proofs.clear.Reads as clear-reads
+use Rattle.results.proofs.put_points.Reads as put-points-reads
 
 mul-bytes : tie.Need-mul-bytes
 mul-bytes c = search needs

@@ -1,0 +1,2 @@
+-- What the contracts of `results` say.
+pub mod Written
