@@ -1,2 +1,3 @@
 -- What the contracts of `results` say.
-pub mod Written
+pub mod Public
+pub mod Inside

@@ -39,7 +39,7 @@ returns c =
     let cleared = c .before .before .before .before .before .before .before .before .before .before .clear in
     let one = c .before .before .before .before .before .before .put in
     let done = c .before .before .put-points in
-    list-written (a .work .now) (a .count) (omega arith) (a .output .now) (cleared .last .0) (one .last .0) (done .last .0) (cleared .ensures) (one .ensures) (done .ensures)
+    list-written (a .points .now) (a .count) (omega arith) (a .output .now) (cleared .last .0) (one .last .0) (done .last .0) (cleared .ensures) (one .ensures) (done .ensures)
 
 pub write-list-spec : {M : Type 1} → statement M
 write-list-spec =
