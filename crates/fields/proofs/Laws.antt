@@ -2,10 +2,8 @@
 use mathlib.Core.Path.{_≡_, refl, sym, ap, subst, _∙_}
 use mathlib.Core.List.{List, _∷_, [], _++_}
 use mathlib.Core.Bool.{Bool, true, false, cond, _&&_}
-use Prim.Native.Nat.{ℕ, zero, suc, _+_, _*_, _≤_, _<_, _^_}
+use Prim.Native.Nat.{ℕ, zero, suc, _+_, _-_, _*_, _≤_, _<_, _^_}
 use native.Mathlib.Omega.{arith}
-use native.Mathlib.Nat.{lt-of-lt-of-le}
-use lib.Pow.{pow-mono}
 use lib.ListN.{length, getD, length-append}
 use lib.Seq.{slice, slice-cons}
 use native.Mathlib.Numerals.{add-one}
@@ -146,9 +144,9 @@ module _ (s : List ℕ) (w : ℕ) (verdict : ℕ → Verdict) where
       reads-field scan r most
       (ap (λ (g : Got). (g .value, g .scan)) (er ∙ ap (settling scan got) ev) ∙ ap (after scan) e ∙ after-field scan) h
 
--- A field of at most 24 bits.
-pub free-passes : (w : ℕ) → w ≤ 24 → Passes free w 16777215
-free-passes w h x l e = omega (arith, lt-of-lt-of-le l (pow-mono h))
+-- A field of any value has w bits.
+free-passes : (w : ℕ) → Passes free w (2 ^ w - 1)
+free-passes w x l e = omega arith
 
 pub both : {r : Got} {x : ℕ × Scan} {reach most : ℕ} → Reads r x reach most → (r .value, r .scan) ≡ x
 both h = λ i. (h .value i, h .scan i)
@@ -162,10 +160,10 @@ module _ (s : List ℕ) (w : ℕ) (verdict : ℕ → Verdict) (c : Scan) {c′ :
   scan-at = h .scan ∙ ap (λ (k : Scan). field s w verdict k .1) e
 
 -- A field of any value, by what was found at the cursor.
-pub reads-taken : (s : List ℕ) (w : ℕ) (scan : Scan) (c : Cursor) (f : FieldRead.FieldRead) (r : Got) → w ≤ 24 → scan ≡ At c → f ≡ fieldAt s (placeOf c) w →
-    (r .value, r .scan) ≡ taken (placeOf c) free f → Reads r (field s w free scan) (place scan + w) 16777215
-reads-taken s w scan c f r h e ef er =
-    reads-field s w free scan r 16777215 (er ∙ ap (taken (placeOf c) free) ef ∙ sym (ap (field s w free) e)) (free-passes w h)
+pub reads-taken : (s : List ℕ) (w : ℕ) (scan : Scan) (c : Cursor) (f : FieldRead.FieldRead) (r : Got) → scan ≡ At c → f ≡ fieldAt s (placeOf c) w →
+    (r .value, r .scan) ≡ taken (placeOf c) free f → Reads r (field s w free scan) (place scan + w) (2 ^ w - 1)
+reads-taken s w scan c f r e ef er =
+    reads-field s w free scan r (2 ^ w - 1) (er ∙ ap (taken (placeOf c) free) ef ∙ sym (ap (field s w free) e)) (free-passes w)
 
 -- What a range lets pass.
 in-range : (least most x : ℕ) → within least most x ≡ Sound → (least ≤ x) × (x ≤ most)
@@ -213,3 +211,11 @@ module _ {A : Type 0} (n : ℕ) (r : List A → Reader A) (c : Scan) where
   pub times-scan : times (n + 1) r c .1 ≡ r (times n r c .0) (times n r c .1) .1
   unfolding times
   times-scan = rw add-one
+
+-- One turn more, by what the turns before it read.
+pub times-more : {A : Type 0} (n : ℕ) (r : List A → Reader A) (c : Scan) {q q′ : Scan} {xs : List A} {x : A} → times n r c ≡ (xs, q) → r xs q ≡ (x, q′) →
+    times (n + 1) r c ≡ (xs ++ (x ∷ []), q′)
+unfolding times
+times-more {A} n r c {q} {q′} {xs} {x} e e′ =
+    rw add-one
+    (ap (λ (y : List A × Scan). (y .0 ++ (r (y .0) (y .1) .0 ∷ []), r (y .0) (y .1) .1)) e ∙ ap (λ (y : A × Scan). (xs ++ (y .0 ∷ []), y .1)) e′)
