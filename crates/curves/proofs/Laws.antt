@@ -16,7 +16,7 @@ use Rattle.covers.specs.Choice.{before, lesser}
 use Rattle.covers.specs.Curve.{base, both, lookup, pointOf, wordOf}
 use Rattle.covers.proofs.Points.{point-path, both-assoc, Leq, smaller, earlier, pick-left, pick-right, lesser-none}
 use Rattle.covers.proofs.Basics.{lt-or-le}
-use Rattle.curves.specs.Words.{absent, pointLimit, matchLimit, stored, slot, tableOf, Small, ZeroBelow, WorkArea}
+use Rattle.curves.specs.Words.{absent, areaLimit, pointLimit, matchLimit, stored, slot, tableOf, Small, ZeroBelow, WorkArea}
 use Rattle.curves.specs.Best.{rowWords, rowOf, rowArea, rowIllegal, rowCount, inputSize, inputPlace, inputNode, inputBin, inputLoad, rowDelay, inputBest, inputLate, inputsBest, rowBest, legalBest, rowsBest, Tables, Matches}
 use Rattle.curves.specs.Promises.{Worth}
 
@@ -176,7 +176,7 @@ module _ (most : ℕ) (symbols work row : List ℕ) (load end : ℕ) where
   unfolding rowBest
   row-none n en e = ap (λ (k : ℕ). Option·map (raised (rowArea row)) (rest (inputPlace 0) k)) (sym en) ∙ ap (Option·map (raised (rowArea row))) e
 
-  pub row-worth : (n : ℕ) (p : Point) → n ≡ rowCount row → rest (inputPlace 0) n ≡ some p → rowArea row ≤ 65535 → p .area ≤ 67108864 → p .arrival < end → end ≤ base →
+  pub row-worth : (n : ℕ) (p : Point) → n ≡ rowCount row → rest (inputPlace 0) n ≡ some p → rowArea row ≤ 65535 → p .area ≤ 16 * areaLimit → p .arrival < end → end ≤ base →
       Worth matchLimit end ((rowArea row + p .area) * base + p .arrival) (rowBest most symbols work row load end)
   unfolding rowBest raised pointOf
   row-worth n p en e ha hp ht he =

@@ -19,9 +19,9 @@ areaLimit = 4194304
 abbrev pub pointLimit : ℕ
 pointLimit = areaLimit * base
 
--- The word of a match: a cell's area and those of sixteen inputs are together below 32 times the limit of one.
+-- The word of a match: a cell's area in 16 bits, and those of at most sixteen inputs.
 abbrev pub matchLimit : ℕ
-matchLimit = 32 * pointLimit
+matchLimit = (65536 + 16 * areaLimit) * base
 
 -- No word is too great.
 abbrev pub Small : List ℕ → Type 0
