@@ -18,7 +18,7 @@ use Rattle.covers.specs.Choice.{before, lesser}
 use Rattle.covers.proofs.Basics.{lt-or-le}
 use Rattle.covers.specs.Curve.{base, both, byDeadline, chained, lookup, pointOf, wordOf}
 use Rattle.covers.proofs.Points.{point-path}
-use Rattle.curves.specs.Words.{pointLimit, stored, curveAt, Small, AgreeFrom}
+use Rattle.curves.specs.Words.{pointLimit, stored, slot, curveAt, Small, AgreeFrom}
 use Rattle.curves.specs.Best.{rowOf, rowArea, rowIllegal, rowCount, inputSize, inputPlace, inputNode, inputBin, inputLoad, rowDelay, inputBest, inputLate, inputsBest, rowBest, legalBest, rowsBest, Above}
 use Rattle.curves.specs.Promises.{bestBefore, nodePoints, CurveStored, Fit}
 use Rattle.curves.proofs.Laws.{word-point, apart, part-word}
@@ -40,12 +40,12 @@ part-sets l a w i (x ∷ xs) h =
     ∙ take-set-le w (drop a l) (i - a) x (omega arith)
 
 -- What is written into one curve leaves the others as they are.
-pub curve-other : (most : ℕ) (work : List ℕ) (i j : ℕ) (xs : List ℕ) → (j ≡ i → ⊥) → length xs ≤ most + 1 → curveAt most (sets work ((most + 1) * i) xs) j ≡ curveAt most work j
+pub curve-other : (most : ℕ) (work : List ℕ) (i j : ℕ) (xs : List ℕ) → (j ≡ i → ⊥) → length xs ≤ most + 1 → curveAt most (sets work (slot most i) xs) j ≡ curveAt most work j
 curve-other most work i j xs n h = go (lt-or-le i j)
   where
-    go : (i < j) ⊎ (j ≤ i) → curveAt most (sets work ((most + 1) * i) xs) j ≡ curveAt most work j
-    go (inl l) = ap (take (most + 1)) (drop-sets work ((most + 1) * i) ((most + 1) * j) xs (omega (arith, apart (most + 1) l)))
-    go (inr l) = let less : j < i = ⊎-elim (λ e. absurd (n e)) (λ m. m) (eq-or-lt-of-le l) in part-sets work ((most + 1) * j) (most + 1) ((most + 1) * i) xs (apart (most + 1) less)
+    go : (i < j) ⊎ (j ≤ i) → curveAt most (sets work (slot most i) xs) j ≡ curveAt most work j
+    go (inl l) = ap (take (most + 1)) (drop-sets work (slot most i) (slot most j) xs (omega (arith, apart (most + 1) l)))
+    go (inr l) = let less : j < i = ⊎-elim (λ e. absurd (n e)) (λ m. m) (eq-or-lt-of-le l) in part-sets work (slot most j) (most + 1) (slot most i) xs (apart (most + 1) less)
 
 module _ (most : ℕ) (symbols work work′ : List ℕ) (m : ℕ) (a : AgreeFrom most m work work′) where
   input-same : (node bin load end : ℕ) → m ≤ 4 * node → inputBest most symbols work node bin load end ≡ inputBest most symbols work′ node bin load end
@@ -88,7 +88,7 @@ module _ (most : ℕ) (symbols work found : List ℕ) (load count at : ℕ) wher
     pub points : List Point
     pub many : length points ≡ k
     pub so-far : all ≡ points ++ byDeadline (most + 1 - k) best end
-    pub laid : work′ ≡ sets work ((most + 1) * at) (map wordOf points)
+    pub laid : work′ ≡ sets work (slot most at) (map wordOf points)
 
   pub growing-start : Growing 0 base work
   growing-start = record { points = []; many = refl; so-far = ap (λ (n : ℕ). byDeadline n best base) (omega arith); laid = refl }
@@ -100,7 +100,7 @@ module _ (most : ℕ) (symbols work found : List ℕ) (load count at : ℕ) wher
       let left : most + 1 - k ≡ suc (most - k) = omega arith in
       ap (λ (n : ℕ). byDeadline n best end) left ∙ ap (λ (q : Option Point). chained q (λ p. byDeadline (most - k) best (p .arrival))) e
 
-  pub growing-next : (k end : ℕ) (work′ : List ℕ) (w : ℕ) → k < most → Growing k end work′ → best end ≡ some (pointOf w) → Growing (k + 1) (w % base) (set work′ ((most + 1) * at + k) w)
+  pub growing-next : (k end : ℕ) (work′ : List ℕ) (w : ℕ) → k < most → Growing k end work′ → best end ≡ some (pointOf w) → Growing (k + 1) (w % base) (set work′ (slot most at + k) w)
   unfolding chained pointOf
   growing-next k end work′ w h g e =
       let left : most - k ≡ most + 1 - (k + 1) = omega arith in
@@ -110,10 +110,10 @@ module _ (most : ℕ) (symbols work found : List ℕ) (load count at : ℕ) wher
         so-far = g .so-far ∙ ap (λ (ps : List Point). g .points ++ ps) (step k end _ (omega arith) e ∙ ap (λ (n : ℕ). pointOf w ∷ byDeadline n best (w % base)) left)
             ∙ sym (append-assoc (g .points) (pointOf w ∷ []) _);
         laid =
-            ap₂ (λ (l : List ℕ) (v : ℕ). set l ((most + 1) * at + k) v) (g .laid) (sym (word-point w))
-            ∙ ap (λ (i : ℕ). set (sets work ((most + 1) * at) (map wordOf (g .points))) ((most + 1) * at + i) (wordOf (pointOf w))) (sym (length-map (g .points) wordOf ∙ g .many))
-            ∙ sym (sets-append work ((most + 1) * at) (map wordOf (g .points)) (wordOf (pointOf w) ∷ []))
-            ∙ ap (sets work ((most + 1) * at)) (sym (map-append wordOf (g .points) (pointOf w ∷ [])));
+            ap₂ (λ (l : List ℕ) (v : ℕ). set l (slot most at + k) v) (g .laid) (sym (word-point w))
+            ∙ ap (λ (i : ℕ). set (sets work (slot most at) (map wordOf (g .points))) (slot most at + i) (wordOf (pointOf w))) (sym (length-map (g .points) wordOf ∙ g .many))
+            ∙ sym (sets-append work (slot most at) (map wordOf (g .points)) (wordOf (pointOf w) ∷ []))
+            ∙ ap (sets work (slot most at)) (sym (map-append wordOf (g .points) (pointOf w ∷ [])));
       }
 
   pub growing-done : (k end : ℕ) (work′ : List ℕ) → k ≤ most → Small work′ → Growing k end work′ → best end ≡ none → CurveStored most symbols work found load count at work′ k
@@ -122,7 +122,7 @@ module _ (most : ℕ) (symbols work found : List ℕ) (load count at : ℕ) wher
       let whole : all ≡ g .points = g .so-far ∙ ap (λ (ps : List Point). g .points ++ ps) (step k end none h e) ∙ append-nil (g .points) in
       record {
         counted = sym (ap length whole ∙ g .many);
-        laid = g .laid ∙ ap (λ (ps : List Point). sets work ((most + 1) * at) (map wordOf ps)) (sym (ap (take most) whole ∙ take-all most (g .points) (omega (arith, g .many))));
+        laid = g .laid ∙ ap (λ (ps : List Point). sets work (slot most at) (map wordOf ps)) (sym (ap (take most) whole ∙ take-all most (g .points) (omega (arith, g .many))));
         small = sm;
       }
 
@@ -134,7 +134,7 @@ module _ (most : ℕ) (symbols work found : List ℕ) (load count at : ℕ) wher
       g .so-far ∙ ap (λ (ps : List Point). g .points ++ ps) (step most end _ (omega arith) e ∙ ap (λ (n : ℕ). pointOf w ∷ byDeadline n best (pointOf w .arrival)) done) in
       record {
         counted = sym (ap length whole ∙ length-append (g .points) (pointOf w ∷ []) ∙ ap (λ (n : ℕ). n + 1) (g .many));
-        laid = g .laid ∙ ap (λ (ps : List Point). sets work ((most + 1) * at) (map wordOf ps)) (sym (ap (take most) whole ∙ take-at (g .points) (pointOf w ∷ []) most (g .many)));
+        laid = g .laid ∙ ap (λ (ps : List Point). sets work (slot most at) (map wordOf ps)) (sym (ap (take most) whole ∙ take-at (g .points) (pointOf w ∷ []) most (g .many)));
         small = sm;
       }
 
@@ -173,10 +173,10 @@ stored-words (p ∷ ps) zs f z =
     rw (ne-eqb (wordOf p) 0 (fit-word p fit)) (ap₂ (λ (x : Point) (xs : List Point). x ∷ xs) (fit-back p fit) (stored-words ps zs (λ q m. f q (List·Memᴰ·tail m)) z))
 
 -- Points stored in a curve of zeros, with a word to spare.
-pub curve-laid : (most : ℕ) (work : List ℕ) (i : ℕ) (ps : List Point) → ((k : ℕ) → getD (curveAt most work i) k 0 ≡ 0) → length ps ≤ most → (most + 1) * i + (most + 1) ≤ length work →
-    ((p : Point) → List·Memᴰ p ps → Fit p) → stored (curveAt most (sets work ((most + 1) * i) (map wordOf ps)) i) ≡ ps
+pub curve-laid : (most : ℕ) (work : List ℕ) (i : ℕ) (ps : List Point) → ((k : ℕ) → getD (curveAt most work i) k 0 ≡ 0) → length ps ≤ most → slot most i + (most + 1) ≤ length work →
+    ((p : Point) → List·Memᴰ p ps → Fit p) → stored (curveAt most (sets work (slot most i) (map wordOf ps)) i) ≡ ps
 curve-laid most work i ps z h g f =
-    let a = (most + 1) * i in
+    let a = slot most i in
     let ws = map wordOf ps in
     let n = length ws in
     let few : n ≤ most = omega (arith, length-map ps wordOf) in

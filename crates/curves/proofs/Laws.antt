@@ -16,8 +16,8 @@ use Rattle.covers.specs.Choice.{before, lesser}
 use Rattle.covers.specs.Curve.{base, both, lookup, pointOf, wordOf}
 use Rattle.covers.proofs.Points.{point-path, both-assoc, Leq, smaller, earlier, pick-left, pick-right, lesser-none}
 use Rattle.covers.proofs.Basics.{lt-or-le}
-use Rattle.curves.specs.Words.{absent, pointLimit, matchLimit, stored, tableOf, Small, ZeroBelow, WorkArea}
-use Rattle.curves.specs.Best.{rowWords, rowOf, rowArea, rowIllegal, rowCount, inputSize, inputPlace, inputNode, inputBin, inputLoad, rowDelay, inputBest, inputLate, inputsBest, rowBest, legalBest, rowsBest, RowSafe, Tables, Matches}
+use Rattle.curves.specs.Words.{absent, areaLimit, pointLimit, matchLimit, stored, slot, tableOf, Small, ZeroBelow, WorkArea}
+use Rattle.curves.specs.Best.{rowWords, rowOf, rowArea, rowIllegal, rowCount, inputSize, inputPlace, inputNode, inputBin, inputLoad, rowDelay, inputBest, inputLate, inputsBest, rowBest, legalBest, rowsBest, Tables, Matches}
 use Rattle.curves.specs.Promises.{Worth}
 
 -- ---- words
@@ -41,7 +41,7 @@ apart w {i} {j} h = omega (arith, mul-suc w i, mul-le-mul-left {m = suc i} {n = 
 
 -- Every slot is within the work area, and its words are few.
 abbrev pub SlotWithin : ℕ → List ℕ → ℕ → Type 0
-SlotWithin most work at = ((most + 1) * at + (most + 1) ≤ 65536) × ((most + 1) * at + (most + 1) ≤ length work)
+SlotWithin most work at = (slot most at + (most + 1) ≤ 65536) × (slot most at + (most + 1) ≤ length work)
 
 pub slot-within : {most : ℕ} {work : List ℕ} → WorkArea most work → (at : ℕ) → at < 256 → SlotWithin most work at
 slot-within {most} w at h = let ends = apart (most + 1) {i = at} {j = 256} h in (omega (arith, w .bounded), omega (arith, w .room))
@@ -64,7 +64,7 @@ pub part-small : (w a : ℕ) (l : List ℕ) → Small l → Small (take w (drop 
 part-small = part-words (λ x. x < pointLimit) (omega arith)
 
 pub zero-curves : (most : ℕ) (work : List ℕ) → ((k : ℕ) → getD work k 0 ≡ 0) → (i : ℕ) → ZeroBelow most i work
-zero-curves most work z i j h = part-words (λ x. x ≡ 0) refl (most + 1) ((most + 1) * j) work z
+zero-curves most work z i j h = part-words (λ x. x ≡ 0) refl (most + 1) (slot most j) work z
 
 -- From place k on in a curve: a word that ends it, or one for a point.
 module _ (curve : List ℕ) (k : ℕ) where
@@ -176,7 +176,7 @@ module _ (most : ℕ) (symbols work row : List ℕ) (load end : ℕ) where
   unfolding rowBest
   row-none n en e = ap (λ (k : ℕ). Option·map (raised (rowArea row)) (rest (inputPlace 0) k)) (sym en) ∙ ap (Option·map (raised (rowArea row))) e
 
-  pub row-worth : (n : ℕ) (p : Point) → n ≡ rowCount row → rest (inputPlace 0) n ≡ some p → rowArea row ≤ 65535 → p .area ≤ 67108864 → p .arrival < end → end ≤ base →
+  pub row-worth : (n : ℕ) (p : Point) → n ≡ rowCount row → rest (inputPlace 0) n ≡ some p → rowArea row ≤ 65535 → p .area ≤ 16 * areaLimit → p .arrival < end → end ≤ base →
       Worth matchLimit end ((rowArea row + p .area) * base + p .arrival) (rowBest most symbols work row load end)
   unfolding rowBest raised pointOf
   row-worth n p en e ha hp ht he =

@@ -1,5 +1,5 @@
 -- What the functions of this crate promise.
-use Prim.Native.Nat.{ℕ, _+_, _*_, _%_, _≤_, _<_}
+use Prim.Native.Nat.{ℕ, _+_, _%_, _≤_, _<_}
 use mathlib.Core.Path.{_≡_}
 use mathlib.Core.List.{List, map}
 use lib.ListN.{length, take}
@@ -7,7 +7,7 @@ use lib.Seq.{sets}
 use mathlib.Core.Option.{Option, none, some}
 use Rattle.covers.specs.Cover.{Point}
 use Rattle.covers.specs.Curve.{base, byDeadline, pointOf, wordOf}
-use Rattle.curves.specs.Words.{absent, areaLimit, Small}
+use Rattle.curves.specs.Words.{absent, areaLimit, slot, Small}
 use Rattle.curves.specs.Best.{rowsBest}
 
 -- A word below the limit for a point that arrives before an instant, or what stands for no point.
@@ -39,5 +39,5 @@ module _ (most : ℕ) (symbols work found : List ℕ) (load count : ℕ) where
   -- How many of them there are, and as many as are allowed in curve `at`.
   pub record CurveStored (at : ℕ) (work′ : List ℕ) (r : ℕ) : Type 0 where
     pub counted : r ≡ length nodePoints
-    pub laid : work′ ≡ sets work ((most + 1) * at) (map wordOf (take most nodePoints))
+    pub laid : work′ ≡ sets work (slot most at) (map wordOf (take most nodePoints))
     pub small : Small work′

@@ -19,9 +19,9 @@ areaLimit = 4194304
 abbrev pub pointLimit : ℕ
 pointLimit = areaLimit * base
 
--- The word of a match: a cell's area and those of sixteen inputs are together below 32 times the limit of one.
+-- The word of a match: a cell's area in 16 bits, and those of at most sixteen inputs.
 abbrev pub matchLimit : ℕ
-matchLimit = 32 * pointLimit
+matchLimit = (65536 + 16 * areaLimit) * base
 
 -- No word is too great.
 abbrev pub Small : List ℕ → Type 0
@@ -32,18 +32,22 @@ unfoldable pub stored : List ℕ → List Point
 stored [] = []
 stored (w ∷ ws) = cond (eqb w 0) [] (pointOf w ∷ stored ws)
 
-module _ (most : ℕ) where
-  -- The first word of the curve of a node under a load bin: every curve has room for one word more than a node may have trade-offs.
-  abbrev pub slot : ℕ → ℕ → ℕ
-  slot node bin = (most + 1) * (4 * node + bin)
+-- The number of the curve of a node under a load bin.
+abbrev pub curveNumber : ℕ → ℕ → ℕ
+curveNumber node bin = 4 * node + bin
 
-  -- The words of curve i: that of node n under bin b is curve 4 * n + b.
+module _ (most : ℕ) where
+  -- The first word of curve i: every curve has room for one word more than a node may have trade-offs.
+  abbrev pub slot : ℕ → ℕ
+  slot i = (most + 1) * i
+
+  -- The words of curve i.
   abbrev pub curveAt : List ℕ → ℕ → List ℕ
-  curveAt work i = take (most + 1) (drop ((most + 1) * i) work)
+  curveAt work i = take (most + 1) (drop (slot i) work)
 
   -- The curves in the work area, by node and load bin.
   abbrev pub tableOf : List ℕ → ℕ → ℕ → List Point
-  tableOf work node bin = stored (curveAt work (4 * node + bin))
+  tableOf work node bin = stored (curveAt work (curveNumber node bin))
 
   -- Two work areas have the same curves from one on; every word of the curves below one is 0.
   abbrev pub AgreeFrom : ℕ → List ℕ → List ℕ → Type 0

@@ -1,11 +1,11 @@
 use native.Mathlib.Omega.{arith}
-use Prim.Native.Nat.{ℕ, _+_, _-_, _*_, _/_, _≤_, _<_}
+use Prim.Native.Nat.{ℕ, _+_, _-_, _/_, _≤_, _<_}
 use mathlib.Core.Path.{_≡_, refl, sym, subst, _∙_}
 use mathlib.Core.List.{List}
 use mathlib.Core.Option.{some}
 use lib.ListN.{length, length-set}
 use Rattle.covers.specs.Curve.{base, pointOf}
-use Rattle.curves.specs.Words.{areaLimit, pointLimit, Small}
+use Rattle.curves.specs.Words.{areaLimit, pointLimit, slot, Small}
 use Rattle.curves.specs.Best.{rowsBest}
 use Rattle.curves.specs.Promises.{bestBefore, PointsFit}
 use Rattle.curves.proofs.Laws.{SlotWithin, slot-within}
@@ -103,9 +103,9 @@ loop-again c =
     let small : w < pointLimit = omega (arith, fits (a .most) (a .symbols .now) (a .work .now) (a .found .now) (a .load) (a .count) (c .before .before .before .before .before .before .before .before .before .pre .1 .1 .1) (i .end) w found) in
     let more : i .k < a .most = omega (arith, i .inv .0, c .if2 .left) in (
       omega arith,
-      length-set (i .work) ((a .most + 1) * a .at + i .k) w ∙ i .inv .1,
+      length-set (i .work) (slot (a .most) (a .at) + i .k) w ∙ i .inv .1,
       omega arith,
-      small-set (i .work) ((a .most + 1) * a .at + i .k) w (i .inv .3) small,
+      small-set (i .work) (slot (a .most) (a .at) + i .k) w (i .inv .3) small,
       growing-next (a .most) (a .symbols .now) (a .work .now) (a .found .now) (a .load) (a .count) (a .at) (i .k) (i .end) (i .work) w more (i .inv .4) found,
     )
 

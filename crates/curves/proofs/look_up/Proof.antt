@@ -1,10 +1,10 @@
 use borrow.Author.Needs.{needs}
 use native.Mathlib.Omega.{arith}
-use Prim.Native.Nat.{ℕ, _+_, _-_, _*_}
+use Prim.Native.Nat.{ℕ, _+_, _-_}
 use mathlib.Core.Path.{_≡_, subst}
 use lib.ListN.{take, drop}
 use Rattle.covers.specs.Curve.{lookup}
-use Rattle.curves.specs.Words.{pointLimit, stored}
+use Rattle.curves.specs.Words.{pointLimit, stored, slot}
 use Rattle.curves.specs.Promises.{Worth}
 use Rattle.curves.proofs.Laws.{part-small, SlotWithin, slot-within}
 use Rattle.curves.proofs.look_up.Statement.{statement}
@@ -31,13 +31,13 @@ part-find-end c = omega (arith, within c .1)
 find-requires : tie.Need-find-requires
 find-requires c κs =
     let a = c .before .before .args in
-    let first = (a .most + 1) * a .at in
+    let first = slot (a .most) (a .at) in
     part-small (first + (a .most + 1) - first) first (a .work .now) (c .before .before .pre .0 .small)
 
 returns : tie.Need-returns
 returns c =
     let a = c .before .before .before .args in
-    let first = (a .most + 1) * a .at in
+    let first = slot (a .most) (a .at) in
     let part : first + (a .most + 1) - first ≡ a .most + 1 = omega arith in
     subst (λ (n : ℕ). Worth pointLimit (a .end) (c .find .result) (lookup (a .end) (stored (take n (drop first (a .work .now)))))) part (c .find .ensures)
 
