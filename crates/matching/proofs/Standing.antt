@@ -9,11 +9,11 @@ use lib.ListN.{length, getD, replicate, length-append, length-replicate, List·g
 use lib.Seq.{length-sets, getD-append-add}
 use Rattle.shapes.specs.Shape.{symbols, sizes}
 use Rattle.shapes.proofs.Drawn.{length-symbols, length-sizes}
-use Rattle.sheets.specs.declared.CellRecord.{CellRecord}
 use Rattle.sheets.specs.Model.{Shape, leaf, inv, nand, size, Library, Tree}
 use Rattle.sheets.specs.Layout.{padded}
 use Rattle.covers.specs.Tradeoff.{Node, nodes}
 use Rattle.covers.proofs.Nodes.{node-ends}
+use Rattle.matching.specs.Found.{matchTable}
 use Rattle.matching.specs.Standing.{Stands, Subject}
 use Rattle.matching.specs.Promises.{Ready, Decoded}
 use Rattle.fields.proofs.Lists.{in-sets}
@@ -81,13 +81,14 @@ module _ (ss zs : List ℕ) where
       ends = omega (arith, node-ends 0 root m);
     }
 
--- What `find_matches` is lent at every node.
-pub ready-everywhere : {l : Library} {t : Tree} {rows : List ℕ} {total : ℕ} {cells : List CellRecord} {ss zs : List ℕ} → Decoded l t rows total cells ss zs → {room : ℕ} → room ≡ 8704 → (x : Node) → List·Memᴰ x (nodes 0 (t .shape)) → Ready rows total cells ss zs (x .number) room l (x .shape)
-ready-everywhere {t = t} {ss = ss} {zs} d e x m = record {
-  sound = d .library;
-  rows-are = d .rows-are;
-  total-is = d .total-is;
-  cells-are = d .cells-are;
-  subject = subject-everywhere ss zs (t .shape) (d .tree .size) (d .symbols-are) (d .sizes-are) x m;
-  room-is = e;
-}
+-- Each node of a decoded tree.
+module _ {l : Library} {t : Tree} {rows ss zs : List ℕ} (d : Decoded l t rows ss zs) where
+  pub decoded-stands : (x : Node) → List·Memᴰ x (nodes 0 (t .shape)) → Stands ss zs (x .number) (x .shape)
+  decoded-stands = stands-everywhere ss zs (t .shape) (d .tree .size) (d .symbols-are) (d .sizes-are)
+
+  pub decoded-subject : (x : Node) → List·Memᴰ x (nodes 0 (t .shape)) → Subject ss zs (x .number) (x .shape)
+  decoded-subject = subject-everywhere ss zs (t .shape) (d .tree .size) (d .symbols-are) (d .sizes-are)
+
+  -- What `find_matches` is lent there.
+  pub ready-everywhere : {room : ℕ} → room ≡ matchTable → (x : Node) → List·Memᴰ x (nodes 0 (t .shape)) → Ready l t rows ss zs (x .number) room (x .shape)
+  ready-everywhere e x m = record { decoded = d; here = m; room-is = e }
