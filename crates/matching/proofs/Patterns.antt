@@ -19,11 +19,11 @@ use Rattle.covers.specs.Match.{Input, Match, joined, laid, matched, found, fitt
 use Rattle.covers.proofs.Matching.{Whenever, never, holds, whenever}
 use Rattle.matching.specs.declared.Walked.{Walked}
 use Rattle.matching.specs.Found.{matchWords, matchTable, matchRow}
-use Rattle.sheets.specs.Sound.{IsGate, SoundCell, SoundLibrary}
-use Rattle.matching.specs.Promises.{rowWords, PatternHeld, SoundPattern, Walkable, WalkedIs, Writable, Tried, Ready}
+use Rattle.sheets.specs.Sound.{IsGate, SoundCell, SoundDrawing, SoundLibrary}
+use Rattle.matching.specs.Promises.{rowWords, PatternHeld, Walkable, WalkedIs, Writable, Tried, Ready}
 use Rattle.sheets.proofs.Laws.{table-append}
 use Rattle.matching.proofs.Tables.{length-table, row-at}
-use Rattle.matching.proofs.Standing.{decoded-subject}
+use Rattle.matching.proofs.Standing.{subject-everywhere}
 use Rattle.matching.proofs.Written.{length-row}
 
 -- ---- the inputs of one match
@@ -68,7 +68,7 @@ matched-laid (nand d e) n s h = refl
 
 module _ (l : Library) (walked : Walked) (row : List ℕ) (p : Pattern) (n : ℕ) (s : Shape) (t : Tried l walked row p n s) where
   pub missed : walked .matched ≡ false → matched (p .drawing) n s ≡ none
-  missed e = matched-laid (p .drawing) n s (t .sound .drawing .gate) ∙ go (laid (p .drawing) n s) (t .walked-is)
+  missed e = matched-laid (p .drawing) n s (t .drawing .gate) ∙ go (laid (p .drawing) n s) (t .walked-is)
     where
       go : (o : Option (List Input)) → WalkedIs o walked → o ≡ none
       go none w = refl
@@ -89,13 +89,13 @@ module _ (l : Library) (walked : Walked) (row : List ℕ) (p : Pattern) (n : ℕ
           let f : FromDrawing (p .drawing) is = whenever (laid-from (p .drawing) n s) q in
           record {
             inputs = is;
-            fits = matched-laid (p .drawing) n s (t .sound .drawing .gate) ∙ q;
+            fits = matched-laid (p .drawing) n s (t .drawing .gate) ∙ q;
             writable = record {
               walks = w;
               cell = t .cell;
-              sound = t .sound .cell;
-              few = omega (arith, f .few, t .sound .drawing .size);
-              pinned = λ i m. t .sound .drawing .leaves (i .pin) (f .pins i m);
+              sound = t .sound;
+              few = omega (arith, f .few, t .drawing .size);
+              pinned = λ i m. t .drawing .leaves (i .pin) (f .pins i m);
             };
           }
 
@@ -127,6 +127,11 @@ patterns-in n (c ∷ cs) {p} h =
     (λ m. let r = drawn-in n c (c .drawings) m in (List·Memᴰ·head (r .0), subst (λ (x : Cell). List·Memᴰ (p .drawing) (x .drawings)) (sym (r .0)) (r .1)))
     (λ m. let r = patterns-in (suc n) cs m in (List·Memᴰ·tail (r .0), r .1))
     (List·Memᴰ·append-cases (drawn n c (c .drawings)) h)
+
+-- TEMPORARY
+pub record SoundPattern (l : Library) (p : Pattern) : Type 0 where
+  pub cell : SoundCell (length (l .bins)) (p .cell)
+  pub drawing : SoundDrawing (length (p .cell .pins)) (p .drawing)
 
 pub sound-pattern : (l : Library) → SoundLibrary l → {p : Pattern} → List·Memᴰ p (patterns l) → SoundPattern l p
 unfolding patterns
@@ -272,11 +277,11 @@ module _ {l : Library} {t : Tree} {rows ss zs : List ℕ} {n room : ℕ} {s : Sh
         drawing = row-held .drawing;
         small = at-hand .drawing .size;
         pinned = λ x i. omega (arith, at-hand .drawing .leaves x i, at-hand .cell .few-pins);
-        subject = decoded-subject (ready .decoded) (record { number = n; shape = s }) (ready .here);
+        subject = subject-everywhere (ready .decoded) (record { number = n; shape = s }) (ready .here);
       }
 
       pub tried : (walked : Walked) → WalkedIs (laid (patternAt l j .drawing) n s) walked → Tried l walked (take m (drop (rowWords * j) rows)) (patternAt l j) n s
-      tried walked w = record { walked-is = w; cell = row-held .cell; sound = at-hand }
+      tried walked w = record { walked-is = w; cell = row-held .cell; sound = at-hand .cell; drawing = at-hand .drawing }
 
     rows-small : (r : List ℕ) → List·Memᴰ r (map (matchRow l) (matchesOf l n s j)) → length r ≤ matchWords
     rows-small r i =

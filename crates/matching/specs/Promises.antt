@@ -66,11 +66,6 @@ pub record PatternHeld (l : Library) (row : List ℕ) (p : Pattern) : Type 0 whe
   pub drawing : DrawingHeld row (p .drawing)
   pub cell : CellHeld l row (p .cell)
 
--- What is known of a pattern of a sound library.
-pub record SoundPattern (l : Library) (p : Pattern) : Type 0 where
-  pub cell : SoundCell (length (l .bins)) (p .cell)
-  pub drawing : SoundDrawing (length (p .cell .pins)) (p .drawing)
-
 -- ---- a walk
 
 -- The row holds the drawing d, and the arrays hold the subtree s at node n.
@@ -106,7 +101,8 @@ pub record Writable (l : Library) (walked : Walked) (row : List ℕ) (m : Match)
 pub record Tried (l : Library) (walked : Walked) (row : List ℕ) (p : Pattern) (n : ℕ) (s : Shape) : Type 0 where
   pub walked-is : WalkedIs (laid (p .drawing) n s) walked
   pub cell : CellHeld l row (p .cell)
-  pub sound : SoundPattern l p
+  pub sound : SoundCell (length (l .bins)) (p .cell)
+  pub drawing : SoundDrawing (length (p .cell .pins)) (p .drawing)
 
 -- ---- all matches of a node
 
