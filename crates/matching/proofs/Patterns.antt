@@ -14,15 +14,16 @@ use borrow.Rule.Slice.PartMut.{putMid}
 use Rattle.fields.proofs.Lists.{mid-sets, at-mem, at-map}
 use Rattle.shapes.proofs.Drawn.{length-symbols}
 use Rattle.sheets.specs.Model.{Shape, leaf, inv, nand, size, leaves, Cell, Library, Pattern, Tree, drawn, patternsFrom, patterns}
-use Rattle.sheets.specs.Layout.{tableFrom}
-use Rattle.covers.specs.Match.{Input, Match, joined, laid, matched, found, fittingFrom, fitting}
+use Rattle.sheets.specs.Layout.{tableFrom, pinsMost, pinWords, figuresAt, rowWords}
+use Rattle.covers.specs.Match.{Input, Match, joined, laid, matched, found, fittingFrom, fitting, pinAt, pinLoad}
 use Rattle.covers.proofs.Matching.{Whenever, never, holds, whenever}
 use Rattle.matching.specs.declared.Walked.{Walked}
 use Rattle.matching.specs.Found.{matchWords, matchTable, matchRow}
 use Rattle.sheets.specs.Sound.{IsGate, SoundCell, SoundDrawing, SoundLibrary}
-use Rattle.matching.specs.Promises.{rowWords, PatternHeld, Walkable, WalkedIs, Writable, Tried, Ready}
+use Rattle.matching.specs.Promises.{PatternHeld, Walkable, WalkedIs, Writable, Tried, Ready}
 use Rattle.sheets.proofs.Laws.{table-append}
-use Rattle.matching.proofs.Tables.{length-table, row-at}
+use Rattle.sheets.proofs.Tables.{row-at}
+use Rattle.sheets.proofs.Patterns.{SoundPattern, sound-pattern, Told, row-told, table-long, pin-laid}
 use Rattle.matching.proofs.Standing.{subject-everywhere}
 use Rattle.matching.proofs.Written.{length-row}
 
@@ -110,35 +111,6 @@ pub wrote-one : (l : Library) (k : ℕ) (p : Pattern) (o : Option (List Input)) 
     (1 ≡ length (found k p o [])) × (t′ ≡ tableFrom matchWords t 0 (map (matchRow l) (found k p o [])))
 unfolding found tableFrom
 wrote-one l k p o is t t′ e h = rw e (refl, h)
-
--- ---- the patterns of a library
-
-drawn-in : (n : ℕ) (c : Cell) (ds : List Shape) {p : Pattern} → List·Memᴰ p (drawn n c ds) → (p .cell ≡ c) × List·Memᴰ (p .drawing) ds
-unfolding drawn
-drawn-in n c [] h = absurd (List·Memᴰ·not-nil h)
-drawn-in n c (d ∷ ds) (List·Memᴰ·head e) = (ap (λ (p : Pattern). p .cell) e, List·Memᴰ·head (ap (λ (p : Pattern). p .drawing) e))
-drawn-in n c (d ∷ ds) (List·Memᴰ·tail m) = let r = drawn-in n c ds m in (r .0, List·Memᴰ·tail (r .1))
-
-patterns-in : (n : ℕ) (cs : List Cell) {p : Pattern} → List·Memᴰ p (patternsFrom n cs) → List·Memᴰ (p .cell) cs × List·Memᴰ (p .drawing) (p .cell .drawings)
-unfolding patternsFrom
-patterns-in n [] h = absurd (List·Memᴰ·not-nil h)
-patterns-in n (c ∷ cs) {p} h =
-    ⊎-elim
-    (λ m. let r = drawn-in n c (c .drawings) m in (List·Memᴰ·head (r .0), subst (λ (x : Cell). List·Memᴰ (p .drawing) (x .drawings)) (sym (r .0)) (r .1)))
-    (λ m. let r = patterns-in (suc n) cs m in (List·Memᴰ·tail (r .0), r .1))
-    (List·Memᴰ·append-cases (drawn n c (c .drawings)) h)
-
--- TEMPORARY
-pub record SoundPattern (l : Library) (p : Pattern) : Type 0 where
-  pub cell : SoundCell (length (l .bins)) (p .cell)
-  pub drawing : SoundDrawing (length (p .cell .pins)) (p .drawing)
-
-pub sound-pattern : (l : Library) → SoundLibrary l → {p : Pattern} → List·Memᴰ p (patterns l) → SoundPattern l p
-unfolding patterns
-sound-pattern l h {p} m =
-    let r = patterns-in 0 (l .cells) m in
-    let c = h .cells (p .cell) (r .0) in
-    record { cell = c; drawing = c .drawings (p .drawing) (r .1) }
 
 -- ---- all matches of a node
 
@@ -232,6 +204,30 @@ noPattern = record { cellNumber = 0; cell = record { held = false; area = 0; hig
 abbrev pub patternAt : Library → ℕ → Pattern
 patternAt l j = getD (patterns l) j noPattern
 
+-- A row that tells of a pattern holds it.
+holds-pattern : (l : Library) (p : Pattern) {r : List ℕ} → length (p .cell .pins) ≤ pinsMost → Told (l .bins) p r → PatternHeld l r p
+unfolding pinAt pinLoad
+holds-pattern l p {r} few t = record {
+  drawing = record { long = t .long; size-is = t .nodes; symbols-are = t .symbol };
+  cell = record {
+    long = t .long;
+    held-is = t .held;
+    area-is = t .area;
+    highest-is = t .highest;
+    pins-are = λ k h.
+        let at = figuresAt + pinWords * k in
+        let pin = pinAt (p .cell) k in
+        let word : (q : ℕ) → q < pinWords → getD r (at + q) 0 ≡ getD (pin .bin ∷ (pinLoad l pin ∷ (pin .intrinsic ∷ (pin .drive ∷ [])))) q 0 =
+        λ q g. t .figure k q (omega arith) g ∙ ap (λ (ws : List ℕ). getD ws q 0) (pin-laid (l .bins) (p .cell) (record { bin = 0; intrinsic = 0; drive = 0 }) k few h) in
+        record {
+          bin-is = ap (λ (i : ℕ). getD r i 0) (sym (add-zero at)) ∙ word 0 (omega arith);
+          load-is = word 1 (omega arith);
+          intrinsic-is = word 2 (omega arith);
+          drive-is = word 3 (omega arith);
+        };
+  };
+}
+
 -- The matches among the first k patterns.
 abbrev pub matchesBefore : Library → ℕ → Shape → ℕ → List Match
 matchesBefore l n s k = fittingFrom n s 0 (take k (patterns l))
@@ -258,7 +254,7 @@ lent-back t count m (r ∷ (q ∷ rs)) e h g f = absurd (omega arith)
 
 module _ {l : Library} {t : Tree} {rows ss zs : List ℕ} {n room : ℕ} {s : Shape} (ready : Ready l t rows ss zs n room s) where
   pub rows-long : length rows ≡ rowWords * length (patterns l)
-  rows-long = ?
+  rows-long = ap length (ready .decoded .rows-are) ∙ table-long l (ready .decoded .library)
 
   pub few-patterns : length (patterns l) ≤ 128
   few-patterns = ready .decoded .library .few-patterns
@@ -270,7 +266,9 @@ module _ {l : Library} {t : Tree} {rows ss zs : List ℕ} {n room : ℕ} {s : Sh
     module _ (m : ℕ) (e : m ≡ rowWords) where
       -- The row of pattern j.
       pub row-held : PatternHeld l (take m (drop (rowWords * j) rows)) (patternAt l j)
-      row-held = ?
+      row-held =
+          subst (λ (rs : List ℕ). PatternHeld l (take m (drop (rowWords * j) rs)) (patternAt l j)) (sym (ready .decoded .rows-are))
+          (holds-pattern l (patternAt l j) (at-hand .cell .few-pins) (row-told l (ready .decoded .library) noPattern j m h e))
 
       pub walkable : Walkable (take m (drop (rowWords * j) rows)) ss zs n (patternAt l j .drawing) s
       walkable = record {

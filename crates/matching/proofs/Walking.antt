@@ -11,14 +11,14 @@ use lib.ListN.{getD, length, set, drop, replicate, length-append, length-map}
 use lib.Seq.{drop-cons, drop-length}
 use Rattle.shapes.specs.Shape.{symbols}
 use Rattle.shapes.proofs.Drawn.{length-symbols}
-use Rattle.sheets.specs.Layout.{padded}
+use Rattle.sheets.specs.Layout.{padded, sizeAt, symbolsAt, rowWords}
 use Rattle.sheets.proofs.Laws.{padded-more}
 use Rattle.sheets.specs.Model.{Shape, leaf, inv, nand, size, leaves}
 use Rattle.covers.specs.Match.{Input, joined, laid}
 use Rattle.covers.proofs.Matching.{size-pos}
 use Rattle.matching.specs.declared.Walked.{Walked}
 use Rattle.matching.specs.Standing.{Stands}
-use Rattle.matching.specs.Promises.{WalkedIs, Walkable, rowWords, sizeAt, symbolsAt}
+use Rattle.matching.specs.Promises.{WalkedIs, Walkable}
 use Rattle.fields.proofs.Lists.{at-mem}
 
 joined-assoc : (a b c : Option (List Input)) → joined a (joined b c) ≡ joined (joined a b) c

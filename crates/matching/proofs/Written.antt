@@ -6,20 +6,17 @@ use mathlib.Core.List.{List, [], _∷_, _++_, map, append-nil}
 use native.Mathlib.Nat.{zero-add, add-zero}
 use native.Mathlib.Numerals.{add-one}
 use native.Mathlib.Omega.{arith}
-use lib.ListN.{length, getD, set, take, replicate, length-map, length-replicate, List·getD-append}
+use lib.ListN.{length, getD, set, take, length-map, List·getD-append}
 use lib.Seq.{sets, take-suc, length-take-le, getD-append-add}
-use Rattle.fields.proofs.Lists.{sets-append, at-mem, front-sets, at-map}
+use Rattle.fields.proofs.Lists.{sets-append, at-mem, at-map}
 use Rattle.sheets.specs.Model.{leaf, Cell, Library}
-use Rattle.sheets.specs.Layout.{padded}
+use Rattle.sheets.specs.Layout.{padded, figuresAt, pinWords, rowWords}
+use Rattle.sheets.proofs.Laws.{in-padded}
 use Rattle.covers.specs.Match.{Input, Match, pinAt, usable}
 use Rattle.covers.specs.Cover.{feeds}
 use Rattle.matching.specs.declared.Walked.{Walked}
 use Rattle.matching.specs.Found.{inputsAt, inputSize, inputPlace, inputWords, inputsWords, firstIllegal, matchRow}
-use Rattle.matching.specs.Promises.{PinHeld, Writable, heldAt, areaAt, highestAt, figuresAt, pinWords}
-
--- What a padded array holds.
-pub in-padded : {A : Type 0} (n : ℕ) (blank d : A) (xs : List A) (k : ℕ) → length xs ≤ n → k < length xs → getD (padded n blank xs) k d ≡ getD xs k d
-in-padded n blank d xs k h g = front-sets (replicate n blank) xs k d (omega (arith, length-replicate n blank)) g
+use Rattle.matching.specs.Promises.{PinHeld, Writable, heldAt, areaAt, highestAt}
 
 abbrev noInput : Input
 noInput = record { pin = 0; node = 0; shape = leaf 0 }
@@ -86,7 +83,7 @@ module _ (l : Library) where
     module _ (m : Match) (w : Writable l walked row m) where
       -- What the loop may read and write.
       pub record Entry (k : ℕ) : Type 0 where
-        pub long : length row ≡ 46
+        pub long : length row ≡ rowWords
         pub pin-small : pinOf k < 6
         pub k-small : k < 16
         pub words : getD (walked .nodes) k 0 ∷ entryFigures k ≡ inputWords l (m .pattern .cell) (getD (m .inputs) k noInput)

@@ -8,26 +8,12 @@ use lib.ListN.{getD, length}
 use Rattle.shapes.specs.Shape.{symbols, sizes}
 use Rattle.sheets.specs.Model.{Shape, size, leaves, Pin, Cell, Library, Pattern, Tree}
 use Rattle.sheets.specs.Sound.{SoundDrawing, SoundCell, SoundLibrary, SoundTree}
-use Rattle.sheets.specs.Layout.{padded}
+use Rattle.sheets.specs.Layout.{padded, pinWords, figuresAt, sizeAt, symbolsAt, rowWords, patternTable}
 use Rattle.covers.specs.Match.{Input, Match, laid, pinAt, pinLoad}
 use Rattle.covers.specs.Tradeoff.{nodes}
 use Rattle.matching.specs.declared.Walked.{Walked}
 use Rattle.matching.specs.Found.{matchTable}
 use Rattle.matching.specs.Standing.{Subject}
-
--- TEMPORARY
-abbrev pub rowWords : ℕ
-rowWords = 46
-abbrev pub pinWords : ℕ
-pinWords = 4
-abbrev pub figuresAt : ℕ
-figuresAt = 5
-abbrev pub sizeAt : ℕ
-sizeAt = 29
-abbrev pub symbolsAt : ℕ
-symbolsAt = 30
-unfoldable pub patternTable : Library → List ℕ
-patternTable l = l .bins
 
 -- ---- a pattern's row
 

@@ -1,7 +1,8 @@
 // Which patterns match at a node of the subject tree. They are found once for a node, and serve every load and every deadline.
+use sheets::PatternRow;
 ghost use mathlib.Core.Path.{_≡_};
 ghost use mathlib.Core.Bool.{Bool, cond, not};
-ghost use mathlib.Core.List.{[], _∷_, map};
+ghost use mathlib.Core.List.{[], map};
 ghost use Prim.Native.Nat.{ℕ, suc, _+_, _<_, _≤_};
 ghost use lib.ListN.{length};
 ghost use lib.Seq.{sets};
@@ -10,35 +11,6 @@ ghost use Rattle.covers.specs.Match.{Match, laid, matched, found, fitting};
 ghost use Rattle.matching.specs.Found.{matchWords, inputsAt, inputsWords, matchRow};
 ghost use Rattle.sheets.specs.Layout.{tableFrom};
 ghost use Rattle.matching.specs.Promises.{Walkable, WalkedIs, Writable, Tried, Ready};
-
-// TEMPORARY
-pub struct PatternRow {}
-
-impl PatternRow {
-    pub const HELD: usize = 1;
-
-    pub const AREA: usize = 2;
-
-    pub const HIGHEST: usize = 3;
-
-    pub const FIGURES: usize = 5;
-
-    pub const PIN: usize = 4;
-
-    pub const BIN: usize = 0;
-
-    pub const LOAD: usize = 1;
-
-    pub const INTRINSIC: usize = 2;
-
-    pub const DRIVE: usize = 3;
-
-    pub const SIZE: usize = 29;
-
-    pub const SYMBOLS: usize = 30;
-
-    pub const WORDS: usize = 46;
-}
 
 // A match's row: its pattern, its cell's area, the first load that is not legal and how many inputs it has, then five words for each input:
 // its node, and the load bin, the load, the intrinsic delay and the drive of its pin.
@@ -130,17 +102,6 @@ fn first_illegal(held: u32, highest: u32) -> u32
     highest + 1
 }
 
-// Four words from a place on.
-fn write_words(table: &mut [u32], at: usize, a: u32, b: u32, c: u32, d: u32)
-    requires { ⌜ (length (now table) ≡ matchWords) × (at + 4 ≤ matchWords) ⌝ }
-    ensures { λ r. ⌜ now (table .exit) ≡ sets (now (table .entry)) at (a ∷ (b ∷ (c ∷ (d ∷ [])))) ⌝ }
-{
-    table[at] = a;
-    table[at + 1] = b;
-    table[at + 2] = c;
-    table[at + 3] = d;
-}
-
 // The words of a match's inputs: after an input's node, what the pattern's row says of its pin.
 fn write_inputs<'a>(table: &mut [u32], walked: Walked, row: &'a [u32])
     requires { ⌜ (length (now table) ≡ matchWords) × ((l : Library) × ((m : Match) × Writable l walked (now row) m)) ⌝ }
@@ -153,7 +114,7 @@ fn write_inputs<'a>(table: &mut [u32], walked: Walked, row: &'a [u32])
         let at = Row::INPUTS + Row::INPUT * k;
         let figures = PatternRow::FIGURES + PatternRow::PIN * walked.pins[k] as usize;
         table[at] = walked.nodes[k] as u32;
-        write_words(
+        sheets::write_words(
             table,
             at + Row::BIN,
             row[figures + PatternRow::BIN],
@@ -172,7 +133,7 @@ fn write_row<'a>(table: &mut [u32], walked: Walked, row: &'a [u32], pattern: usi
         now (table .exit) ≡ sets (now (table .entry)) 0 (matchRow l m)) ⌝ }
 {
     let illegal = first_illegal(row[PatternRow::HELD], row[PatternRow::HIGHEST]);
-    write_words(
+    sheets::write_words(
         table,
         Row::PATTERN,
         pattern as u32,

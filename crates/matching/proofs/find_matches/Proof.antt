@@ -8,9 +8,9 @@ use lib.Seq.{take-length, length-take-le}
 use borrow.Rule.Slice.PartMut.{same-len-mid}
 use Rattle.sheets.specs.Model.{Shape, Library, Tree, patterns}
 use Rattle.covers.specs.Match.{Match, fittingFrom, fitting}
-use Rattle.sheets.specs.Layout.{tableFrom}
+use Rattle.sheets.specs.Layout.{tableFrom, rowWords}
 use Rattle.matching.specs.Found.{matchWords, matchTable, matchRow}
-use Rattle.matching.specs.Promises.{rowWords, Tried, Ready}
+use Rattle.matching.specs.Promises.{Tried, Ready}
 use Rattle.matching.proofs.Patterns.{patternAt, matchesBefore, rows-long, few-patterns, walkable, tried, find-turn, one-at-most}
 use Rattle.matching.proofs.find_matches.Statement.{statement}
 use Rattle.matching.proofs.find_matches.Tie as tie

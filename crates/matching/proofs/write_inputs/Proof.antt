@@ -15,7 +15,7 @@ use Rattle.matching.proofs.write_inputs.Statement.{statement}
 use Rattle.matching.proofs.write_inputs.Tie as tie
 use Rattle.matching.proofs.write_inputs.Reads as reads
 use Rattle.matching.proofs.write_inputs.Lts as lts
-use Rattle.matching.proofs.write_words.Reads as write-words-reads
+use Rattle.sheets.proofs.write_words.Reads as write-words-reads
 
 abbrev Inv-loop : tie.InvT-loop
 Inv-loop table₀ row walked count k₀ table k =
@@ -110,7 +110,7 @@ write-words-requires : tie.Need-write-words-requires Inv-loop μ-loop
 write-words-requires c κs =
     let q = c .before .before .before .before .before .before .before in
     let e = at-input q in
-    (simp length-set (q .before .loop .inv .1), omega arith)
+    simp length-set (omega (arith, q .before .loop .inv .1))
 
 add-k : tie.Need-add-k Inv-loop μ-loop
 add-k c = let e = at-input (c .before .before .before .before .before .before .before .before .before .before) in omega arith
