@@ -15,7 +15,7 @@ use Rattle.fields.proofs.Lists.{mid-sets, at-mem, at-map}
 use Rattle.shapes.proofs.Drawn.{length-symbols}
 use Rattle.sheets.specs.Model.{Shape, leaf, inv, nand, size, leaves, Cell, Library, Pattern, Tree, drawn, patternsFrom, patterns}
 use Rattle.sheets.specs.Layout.{tableFrom, pinsMost, pinWords, figuresAt, rowWords}
-use Rattle.covers.specs.Match.{Input, Match, joined, laid, matched, found, fittingFrom, fitting, pinAt, pinLoad}
+use Rattle.covers.specs.Match.{Input, Match, joined, laid, matched, putFirst, fittingFrom, fitting, pinAt, pinLoad}
 use Rattle.covers.proofs.Matching.{Whenever, never, holds, whenever}
 use Rattle.matching.specs.declared.Walked.{Walked}
 use Rattle.matching.specs.Found.{matchWords, matchTable, matchRow}
@@ -102,34 +102,34 @@ module _ (l : Library) (walked : Walked) (row : List ℕ) (p : Pattern) (n : ℕ
 
 -- What is written for it.
 pub wrote-none : (l : Library) (k : ℕ) (p : Pattern) (o : Option (List Input)) (t : List ℕ) → o ≡ none →
-    (0 ≡ length (found k p o [])) × (t ≡ tableFrom matchWords t 0 (map (matchRow l) (found k p o [])))
-unfolding found tableFrom
+    (0 ≡ length (putFirst k p o [])) × (t ≡ tableFrom matchWords t 0 (map (matchRow l) (putFirst k p o [])))
+unfolding putFirst tableFrom
 wrote-none l k p o t e = rw e (refl, refl)
 
 pub wrote-one : (l : Library) (k : ℕ) (p : Pattern) (o : Option (List Input)) (is : List Input) (t t′ : List ℕ) → o ≡ some is →
     t′ ≡ sets t 0 (matchRow l (record { number = k; pattern = p; inputs = is })) →
-    (1 ≡ length (found k p o [])) × (t′ ≡ tableFrom matchWords t 0 (map (matchRow l) (found k p o [])))
-unfolding found tableFrom
+    (1 ≡ length (putFirst k p o [])) × (t′ ≡ tableFrom matchWords t 0 (map (matchRow l) (putFirst k p o [])))
+unfolding putFirst tableFrom
 wrote-one l k p o is t t′ e h = rw e (refl, h)
 
 -- ---- all matches of a node
 
 module _ (n : ℕ) (s : Shape) where
-  found-append : (k : ℕ) (p : Pattern) (o : Option (List Input)) (ms qs : List Match) → found k p o (ms ++ qs) ≡ found k p o ms ++ qs
-  unfolding found
+  found-append : (k : ℕ) (p : Pattern) (o : Option (List Input)) (ms qs : List Match) → putFirst k p o (ms ++ qs) ≡ putFirst k p o ms ++ qs
+  unfolding putFirst
   found-append k p none ms qs = refl
   found-append k p (some is) ms qs = refl
 
   pub fitting-more : (k : ℕ) (ps : List Pattern) (p : Pattern) →
-      fittingFrom n s k (ps ++ (p ∷ [])) ≡ fittingFrom n s k ps ++ found (k + length ps) p (matched (p .drawing) n s) []
+      fittingFrom n s k (ps ++ (p ∷ [])) ≡ fittingFrom n s k ps ++ putFirst (k + length ps) p (matched (p .drawing) n s) []
   unfolding fittingFrom
-  fitting-more k [] p = ap (λ (i : ℕ). found i p (matched (p .drawing) n s) []) (sym (add-zero k))
+  fitting-more k [] p = ap (λ (i : ℕ). putFirst i p (matched (p .drawing) n s) []) (sym (add-zero k))
   fitting-more k (q ∷ ps) p =
-      ap (found k q (matched (q .drawing) n s)) (fitting-more (suc k) ps p ∙ ap (λ (i : ℕ). fittingFrom n s (suc k) ps ++ found i p (matched (p .drawing) n s) []) (suc-add k (length ps) ∙ sym (add-suc k (length ps))))
-      ∙ found-append k q (matched (q .drawing) n s) (fittingFrom n s (suc k) ps) (found (k + suc (length ps)) p (matched (p .drawing) n s) [])
+      ap (putFirst k q (matched (q .drawing) n s)) (fitting-more (suc k) ps p ∙ ap (λ (i : ℕ). fittingFrom n s (suc k) ps ++ putFirst i p (matched (p .drawing) n s) []) (suc-add k (length ps) ∙ sym (add-suc k (length ps))))
+      ∙ found-append k q (matched (q .drawing) n s) (fittingFrom n s (suc k) ps) (putFirst (k + suc (length ps)) p (matched (p .drawing) n s) [])
 
-  found-few : (k : ℕ) (p : Pattern) (o : Option (List Input)) (ms : List Match) → length (found k p o ms) ≤ suc (length ms)
-  unfolding found
+  found-few : (k : ℕ) (p : Pattern) (o : Option (List Input)) (ms : List Match) → length (putFirst k p o ms) ≤ suc (length ms)
+  unfolding putFirst
   found-few k p none ms = omega arith
   found-few k p (some is) ms = omega arith
 
@@ -143,8 +143,8 @@ module _ (n : ℕ) (s : Shape) where
   Of ps m = List·Memᴰ (m .pattern) ps × (matched (m .pattern .drawing) n s ≡ some (m .inputs))
 
   found-of : (k : ℕ) (p : Pattern) (ps : List Pattern) (o : Option (List Input)) {ms : List Match} {m : Match} → matched (p .drawing) n s ≡ o →
-      (List·Memᴰ m ms → Of ps m) → List·Memᴰ m (found k p o ms) → Of (p ∷ ps) m
-  unfolding found
+      (List·Memᴰ m ms → Of ps m) → List·Memᴰ m (putFirst k p o ms) → Of (p ∷ ps) m
+  unfolding putFirst
   found-of k p ps none e f h = let r = f h in (List·Memᴰ·tail (r .0), r .1)
   found-of k p ps (some is) e f (List·Memᴰ·head q) =
       (List·Memᴰ·head (ap (λ (m : Match). m .pattern) q), ap (λ (m : Match). matched (m .pattern .drawing) n s) q ∙ e ∙ sym (ap (λ (m : Match). some (m .inputs)) q))
@@ -234,7 +234,7 @@ matchesBefore l n s k = fittingFrom n s 0 (take k (patterns l))
 
 -- And those of pattern j: one or none.
 abbrev pub matchesOf : Library → ℕ → Shape → ℕ → List Match
-matchesOf l n s j = found j (patternAt l j) (matched (patternAt l j .drawing) n s) []
+matchesOf l n s j = putFirst j (patternAt l j) (matched (patternAt l j .drawing) n s) []
 
 pub before-more : (l : Library) (n : ℕ) (s : Shape) (j : ℕ) → j < length (patterns l) → matchesBefore l n s (j + 1) ≡ matchesBefore l n s j ++ matchesOf l n s j
 before-more l n s j h =
@@ -242,7 +242,7 @@ before-more l n s j h =
     let p = patternAt l j in
     ap (fittingFrom n s 0) (ap (λ (i : ℕ). take i ps) (add-one j) ∙ take-suc ps j noPattern h)
     ∙ fitting-more n s 0 (take j ps) p
-    ∙ ap (λ (i : ℕ). fittingFrom n s 0 (take j ps) ++ found i p (matched (p .drawing) n s) []) (zero-add (length (take j ps)) ∙ length-take-le j ps (omega arith))
+    ∙ ap (λ (i : ℕ). fittingFrom n s 0 (take j ps) ++ putFirst i p (matched (p .drawing) n s) []) (zero-add (length (take j ps)) ∙ length-take-le j ps (omega arith))
 
 -- What one turn wrote into the part that it was lent stands in the table.
 pub lent-back : (t : List ℕ) (count m : ℕ) (rs : List (List ℕ)) → m ≡ matchWords → matchWords * count + m ≤ length t → length rs ≤ 1 → ((r : List ℕ) → List·Memᴰ r rs → length r ≤ matchWords) →

@@ -7,7 +7,7 @@ ghost use Prim.Native.Nat.{ℕ, suc, _+_, _<_, _≤_};
 ghost use lib.ListN.{length};
 ghost use lib.Seq.{sets};
 ghost use Rattle.sheets.specs.Model.{Shape, Library, Pattern, Tree};
-ghost use Rattle.covers.specs.Match.{Match, laid, matched, found, fitting};
+ghost use Rattle.covers.specs.Match.{Match, laid, matched, putFirst, fitting};
 ghost use Rattle.matching.specs.Found.{matchWords, inputsAt, inputsWords, matchRow};
 ghost use Rattle.sheets.specs.Layout.{tableFrom};
 ghost use Rattle.matching.specs.Promises.{Walkable, WalkedIs, Writable, Tried, Ready};
@@ -148,8 +148,8 @@ fn write_row<'a>(table: &mut [u32], walked: Walked, row: &'a [u32], pattern: usi
 fn write_match<'a>(table: &mut [u32], walked: Walked, row: &'a [u32], pattern: usize) -> usize
     requires { ⌜ (length (now table) ≡ matchWords) × (pattern < 128) × ((l : Library) × ((p : Pattern) × ((n : ℕ) × ((s : Shape) × Tried l walked (now row) p n s)))) ⌝ }
     ensures { λ r. ⌜ ((l : Library) (p : Pattern) (n : ℕ) (s : Shape) → Tried l walked (now (row .entry)) p n s →
-        (r ≡ length (found pattern p (matched (p .drawing) n s) []))
-        × (now (table .exit) ≡ tableFrom matchWords (now (table .entry)) 0 (map (matchRow l) (found pattern p (matched (p .drawing) n s) [])))) ⌝ }
+        (r ≡ length (putFirst pattern p (matched (p .drawing) n s) []))
+        × (now (table .exit) ≡ tableFrom matchWords (now (table .entry)) 0 (map (matchRow l) (putFirst pattern p (matched (p .drawing) n s) [])))) ⌝ }
 {
     if !walked.matched {
         return 0;
