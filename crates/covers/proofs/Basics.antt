@@ -21,6 +21,13 @@ lt-or-le m n = go (ltb m n) refl
     go true e = inl (ltb-true m n e)
     go false e = inr (ltb-false m n e)
 
+-- By a time is before the next instant. Where a promise is met through these and not by `omega`, its bound can be no other.
+pub before-next : {a b : ℕ} → a ≤ b → a < suc b
+before-next h = omega arith
+
+pub by-then : {a b : ℕ} → a < suc b → a ≤ b
+by-then h = omega arith
+
 module _ {A : Type 0} where
   -- A fact about the first entry and about all others is one about all.
   pub each : {P : A → Type 0} {x : A} {xs : List A} → P x → ((y : A) → List·Memᴰ y xs → P y) → (y : A) → List·Memᴰ y (x ∷ xs) → P y
