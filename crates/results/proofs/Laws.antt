@@ -238,7 +238,7 @@ cover-read s area arrival count ms c end e ha ht hn few hm he =
         point = record { area = value-at s areaWidth free c ha e d; arrival = value-at s arrivalWidth free (area .scan) ht ea d };
         placed = (placed ∙ ap (λ (y : List Placed × Scan). y .0) same) d;
       };
-      few = small;
+      few = omega arith;
     }
 
 -- Bytes that say a cover are read as that cover, and not refused.
