@@ -1,4 +1,5 @@
 -- The laws of `choosing`, in reading order.
+pub mod Stub
 pub mod Reading
 pub mod Gate
 pub mod Below

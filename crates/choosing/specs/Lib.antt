@@ -1,2 +1,3 @@
 -- What the contracts of `choosing` say, in reading order.
+pub mod Stub
 pub mod Promises
