@@ -6,7 +6,7 @@ use mathlib.Core.List.{List, [], _∷_, _++_}
 use mathlib.Core.Option.{Option, none, some}
 use lib.ListN.{getD, getElem?}
 use lib.Dec.{leb}
-use Rattle.sheets.specs.Model.{Shape, leaf, inv, nand, size, Pin, Cell, Library, Pattern, patterns, patternsFrom, drawn}
+use Rattle.sheets.specs.Model.{Shape, leaf, inv, nand, size, Pin, binLoadOf, Cell, Library, Pattern, patterns, patternsFrom, drawn}
 use Rattle.covers.specs.Lists.{select}
 
 -- One input of a match: the number of the pin that it feeds, its node's number, and the subtree that stands there.
@@ -87,7 +87,7 @@ pinAt c k = getD (c .pins) k (record { bin = 0; intrinsic = 0; drive = 0 })
 
 -- The load that a pin presents to what drives it: its load bin's.
 unfoldable pub pinLoad : Library → Pin → ℕ
-pinLoad l p = getD (l .bins) (p .bin) 0
+pinLoad l p = binLoadOf (l .bins) p
 
 -- What a pin adds to its input's arrival when the match drives a load.
 unfoldable pub delay : Pin → ℕ → ℕ

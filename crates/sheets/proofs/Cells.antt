@@ -4,7 +4,7 @@ use mathlib.Core.List.{List, [], _∷_, _++_, map, map-append, append-assoc, app
 use Prim.Native.Nat.{ℕ, zero, suc, _+_}
 use native.Mathlib.Nat.{zero-add, add-zero, add-suc, suc-add}
 use native.Mathlib.Omega.{arith}
-use lib.ListN.{length, set, length-map, length-append}
+use lib.ListN.{length, length-map, length-append}
 use Rattle.fields.specs.declared.Got.{Got}
 use Rattle.fields.specs.declared.Scan.{Scan}
 use Rattle.fields.specs.declared.Fault.{Fault}
@@ -16,63 +16,73 @@ use Rattle.fields.proofs.Laws.{length-times, times-value, times-scan}
 use Rattle.sheets.specs.declared.HeadRead.{HeadRead}
 use Rattle.sheets.specs.declared.PinsRead.{PinsRead}
 use Rattle.sheets.specs.declared.DrawingsRead.{DrawingsRead}
-use Rattle.sheets.specs.declared.CellRead.{CellRead}
-use Rattle.sheets.specs.declared.CellRecord.{CellRecord}
-use Rattle.sheets.specs.Model.{Pin, Cell, Pattern, drawn, patternsFrom}
+use Rattle.sheets.specs.declared.Bins.{Bins}
+use Rattle.sheets.specs.declared.NumberedCell.{NumberedCell}
+use Rattle.sheets.specs.Model.{Pin, binLoadOf, Cell, Pattern, drawn, patternsFrom}
 use Rattle.sheets.specs.LibrarySheet.{head, pin, pattern, countVerdict, drawings, cell}
-use Rattle.sheets.specs.Layout.{padded, blankCell, cellLaid, row, tableFrom, patternRows}
-use Rattle.sheets.specs.Promises.{HeadIs, PinsAre, RowsAre, CountIs, DrawingsAre, CellIs, cellAfter}
-use Rattle.sheets.proofs.Laws.{filled-more, table-append}
+use Rattle.sheets.specs.Layout.{padded, pinsMost, cellLaid, rowWords, row, tableFrom, patternRow, patternRows}
+use Rattle.sheets.specs.Promises.{HeadIs, PinsAre, rowOf, patternOf, RowsAre, CountIs, DrawingsAre, CellIs, cellAfter}
+use Rattle.sheets.proofs.Laws.{table-append}
 
-pub drawings-are : (s : List ℕ) (pins number total : ℕ) (scan : Scan) (l l′ : List ℕ) (got : Got) (r : Scan) →
-    CountIs s total scan got → RowsAre s pins number total (got .value) (got .scan) l l′ r →
-    DrawingsAre s pins number total scan l l′ (record { scan = r; count = got .value })
+pub drawings-are : (s : List ℕ) (numbered : NumberedCell) (total : ℕ) (scan : Scan) (l l′ : List ℕ) (got : Got) (r : Scan) →
+    CountIs s total scan got → RowsAre s numbered total (got .value) (got .scan) l l′ r →
+    DrawingsAre s numbered total scan l l′ (record { scan = r; count = got .value })
 unfolding drawings
-drawings-are s pins number total scan l l′ got r h w =
+drawings-are s numbered total scan l l′ got r h w =
     let f = field s 3 (countVerdict total) scan in
-    let same : times (got .value) (pattern s pins) (got .scan) ≡ times (f .0) (pattern s pins) (f .1) =
-    ap₂ (λ (n : ℕ) (c : Scan). times n (pattern s pins) c) (h .reads .value) (h .reads .scan) in
+    let p = patternOf s numbered in
+    let same : times (got .value) p (got .scan) ≡ times (f .0) p (f .1) = ap₂ (λ (n : ℕ) (c : Scan). times n p c) (h .reads .value) (h .reads .scan) in
     record {
       scan-is = w .scan-is ∙ ap (λ (x : List Shape × Scan). x .1) same;
-      count-is = sym (length-times (got .value) (pattern s pins) (got .scan)) ∙ ap (λ (x : List Shape × Scan). length (x .0)) same;
-      laid = λ q. w .laid q ∙ ap (λ (x : List Shape × Scan). tableFrom 18 l total (map (row number) (x .0))) same;
+      count-is = sym (length-times (got .value) p (got .scan)) ∙ ap (λ (x : List Shape × Scan). length (x .0)) same;
+      laid = λ q. w .laid q ∙ ap (λ (x : List Shape × Scan). tableFrom rowWords l total (map (rowOf numbered) (x .0))) same;
       fits = h .fits;
       near = omega (arith, h .reads .near, h .reads .small, w .near);
     }
 
-pub cell-is : (s : List ℕ) (bins number total : ℕ) (scan : Scan) (l l′ : List ℕ) (h : HeadRead) (p : PinsRead) (d : DrawingsRead) →
-    HeadIs s scan h → PinsAre s bins (h .pins) (h .scan) p → DrawingsAre s (h .pins) number total (p .scan) l l′ d →
-    CellIs s bins number total scan l l′ (record {
-      scan = d .scan;
-      count = d .count;
-      cell = record { held = h .held; area = h .area; highest = h .highest; pins = h .pins; loads = p .loads; intrinsics = p .intrinsics; drives = p .drives };
-    })
+pub cell-is : (s : List ℕ) (bins : Bins) (number total : ℕ) (scan : Scan) (l l′ : List ℕ) (h : HeadRead) (p : PinsRead) (d : DrawingsRead) →
+    HeadIs s scan h → PinsAre s bins (h .pins) (h .scan) p →
+    DrawingsAre s (record {
+      number = number;
+      cell = record {
+        held = h .held;
+        area = h .area;
+        highest = h .highest;
+        pins = h .pins;
+        bins = p .bins;
+        loads = p .loads;
+        intrinsics = p .intrinsics;
+        drives = p .drives;
+      };
+    }) total (p .scan) l l′ d →
+    CellIs s bins number total scan l l′ d
 unfolding cell cellLaid
 cell-is s bins number total scan l l′ h p d hh hp hd =
     let H = head s scan in
-    let same : times (h .pins) (pin s bins) (h .scan) ≡ times (H .0 .pins) (pin s bins) (H .1) =
-    ap₂ (λ (n : ℕ) (c : Scan). times n (pin s bins) c) (hh .pins) (hh .scan-is) in
-    let P = times (H .0 .pins) (pin s bins) (H .1) in
+    let one = pin s (bins .count) in
+    let same : times (h .pins) one (h .scan) ≡ times (H .0 .pins) one (H .1) = ap₂ (λ (n : ℕ) (c : Scan). times n one c) (hh .pins) (hh .scan-is) in
+    let P = times (H .0 .pins) one (H .1) in
     let after : p .scan ≡ P .1 = hp .scan-is ∙ ap (λ (x : List Pin × Scan). x .1) same in
     let drew : drawings s (h .pins) total (p .scan) ≡ drawings s (H .0 .pins) total (P .1) =
     ap₂ (λ (n : ℕ) (c : Scan). drawings s n total c) (hh .pins) after in
-    let counted : h .pins ≡ length (P .0) = sym (length-times (h .pins) (pin s bins) (h .scan)) ∙ ap (λ (x : List Pin × Scan). length (x .0)) same in
-    let loads = hp .loads ∙ ap (λ (x : List Pin × Scan). padded 6 0 (map (λ (q : Pin). q .bin) (x .0))) same in
-    let intrinsics = hp .intrinsics ∙ ap (λ (x : List Pin × Scan). padded 6 0 (map (λ (q : Pin). q .intrinsic) (x .0))) same in
-    let drives = hp .drives ∙ ap (λ (x : List Pin × Scan). padded 6 0 (map (λ (q : Pin). q .drive) (x .0))) same in
+    let counted : h .pins ≡ length (P .0) = sym (length-times (h .pins) one (h .scan)) ∙ ap (λ (x : List Pin × Scan). length (x .0)) same in
+    let numbers = hp .bins-are ∙ ap (λ (x : List Pin × Scan). padded pinsMost 0 (map (λ (q : Pin). q .bin) (x .0))) same in
+    let loads = hp .loads ∙ ap (λ (x : List Pin × Scan). padded pinsMost 0 (map (binLoadOf (bins .loads)) (x .0))) same in
+    let intrinsics = hp .intrinsics ∙ ap (λ (x : List Pin × Scan). padded pinsMost 0 (map (λ (q : Pin). q .intrinsic) (x .0))) same in
+    let drives = hp .drives ∙ ap (λ (x : List Pin × Scan). padded pinsMost 0 (map (λ (q : Pin). q .drive) (x .0))) same in
     record {
-      cell-is = λ i. record {
+      scan-is = hd .scan-is ∙ ap (λ (x : List Shape × Scan). x .1) drew;
+      count-is = hd .count-is ∙ ap (λ (x : List Shape × Scan). length (x .0)) drew;
+      laid = λ q. hd .laid q ∙ (λ i. tableFrom rowWords l total (map (row number (record {
         held = hh .held i;
         area = hh .area i;
         highest = hh .highest i;
         pins = counted i;
+        bins = numbers i;
         loads = loads i;
         intrinsics = intrinsics i;
         drives = drives i;
-      };
-      scan-is = hd .scan-is ∙ ap (λ (x : List Shape × Scan). x .1) drew;
-      count-is = hd .count-is ∙ ap (λ (x : List Shape × Scan). length (x .0)) drew;
-      laid = λ q. hd .laid q ∙ ap (λ (x : List Shape × Scan). tableFrom 18 l total (map (row number) (x .0))) drew;
+      })) (drew i .0)));
       fits = hd .fits;
       near = omega (arith, hh .near, hh .few, hp .near, hd .near);
     }
@@ -99,10 +109,10 @@ unfolding drawn
 length-drawn n c [] = refl
 length-drawn n c (d ∷ ds) = ap suc (length-drawn n c ds)
 
-rows-drawn : (n : ℕ) (c : Cell) (ds : List Shape) → patternRows (drawn n c ds) ≡ map (row n) ds
-unfolding patternRows drawn
-rows-drawn n c [] = refl
-rows-drawn n c (d ∷ ds) = ap (λ (rs : List (List ℕ)). row n d ∷ rs) (rows-drawn n c ds)
+rows-drawn : (bins : List ℕ) (n : ℕ) (c : Cell) (ds : List Shape) → patternRows bins (drawn n c ds) ≡ map (row n (cellLaid bins c)) ds
+unfolding patternRows patternRow drawn
+rows-drawn bins n c [] = refl
+rows-drawn bins n c (d ∷ ds) = ap (λ (rs : List (List ℕ)). row n (cellLaid bins c) d ∷ rs) (rows-drawn bins n c ds)
 
 pub patterns-more : (n : ℕ) (cs : List Cell) (c : Cell) → patternsFrom n (cs ++ (c ∷ [])) ≡ patternsFrom n cs ++ drawn (n + length cs) c (c .drawings)
 unfolding patternsFrom
@@ -113,41 +123,44 @@ patterns-more n (b ∷ cs) c =
     ∙ sym (append-assoc (drawn n b (b .drawings)) (patternsFrom (suc n) cs) _)
 
 -- One cell more.
-module _ (s : List ℕ) (bins : ℕ) (scan : Scan) (l : List ℕ) (k total : ℕ) (l₁ l₂ : List ℕ) (at : Scan) (cells : List CellRecord) (r : CellRead)
-    (et : total ≡ length (patternsFrom 0 (times k (cellAfter s bins) scan .0))) (ea : at ≡ times k (cellAfter s bins) scan .1)
+module _ (s : List ℕ) (bins : Bins) (scan : Scan) (l : List ℕ) (k total : ℕ) (l₁ l₂ : List ℕ) (at : Scan) (r : DrawingsRead)
+    (et : total ≡ length (patternsFrom 0 (times k (cellAfter s (bins .count)) scan .0))) (ea : at ≡ times k (cellAfter s (bins .count)) scan .1)
     (w : CellIs s bins k total at l₁ l₂ r) where
-  same : cell s bins total at ≡ cellAfter s bins (times k (cellAfter s bins) scan .0) (times k (cellAfter s bins) scan .1)
-  same = ap₂ (λ (t : ℕ) (c : Scan). cell s bins t c) et ea
+  abbrev one : List Cell → Reader Cell
+  one = cellAfter s (bins .count)
 
-  pub turn-scan : r .scan ≡ times (k + 1) (cellAfter s bins) scan .1
-  turn-scan = w .scan-is ∙ ap (λ (x : Cell × Scan). x .1) same ∙ sym (times-scan k (cellAfter s bins) scan)
+  abbrev before : List Pattern
+  before = patternsFrom 0 (times k one scan .0)
 
-  pub turn-cells : cells ≡ padded 64 blankCell (map cellLaid (times k (cellAfter s bins) scan .0)) →
-      set cells k (r .cell) ≡ padded 64 blankCell (map cellLaid (times (k + 1) (cellAfter s bins) scan .0))
-  turn-cells e = filled-more 64 blankCell cellLaid (cellAfter s bins) scan k cells (r .cell) e (w .cell-is ∙ ap (λ (x : Cell × Scan). cellLaid (x .0)) same)
+  abbrev new : Cell
+  new = cell s (bins .count) total at .0
 
-  more : patternsFrom 0 (times (k + 1) (cellAfter s bins) scan .0) ≡ patternsFrom 0 (times k (cellAfter s bins) scan .0) ++ drawn k (cell s bins total at .0) (cell s bins total at .0 .drawings)
+  same : cell s (bins .count) total at ≡ one (times k one scan .0) (times k one scan .1)
+  same = ap₂ (λ (t : ℕ) (c : Scan). cell s (bins .count) t c) et ea
+
+  pub turn-scan : r .scan ≡ times (k + 1) one scan .1
+  turn-scan = w .scan-is ∙ ap (λ (x : Cell × Scan). x .1) same ∙ sym (times-scan k one scan)
+
+  more : patternsFrom 0 (times (k + 1) one scan .0) ≡ before ++ drawn k new (new .drawings)
   more =
-      ap (patternsFrom 0) (times-value k (cellAfter s bins) scan)
-      ∙ patterns-more 0 (times k (cellAfter s bins) scan .0) (cellAfter s bins (times k (cellAfter s bins) scan .0) (times k (cellAfter s bins) scan .1) .0)
-      ∙ ap₂ (λ (n : ℕ) (x : Cell × Scan). patternsFrom 0 (times k (cellAfter s bins) scan .0) ++ drawn n (x .0) (x .0 .drawings))
-      (zero-add _ ∙ length-times k (cellAfter s bins) scan) (sym same)
+      ap (patternsFrom 0) (times-value k one scan)
+      ∙ patterns-more 0 (times k one scan .0) (one (times k one scan .0) (times k one scan .1) .0)
+      ∙ ap₂ (λ (n : ℕ) (x : Cell × Scan). before ++ drawn n (x .0) (x .0 .drawings)) (zero-add _ ∙ length-times k one scan) (sym same)
 
-  pub turn-total : total + r .count ≡ length (patternsFrom 0 (times (k + 1) (cellAfter s bins) scan .0))
+  pub turn-total : total + r .count ≡ length (patternsFrom 0 (times (k + 1) one scan .0))
   turn-total =
-      ap₂ _+_ et (w .count-is ∙ sym (length-drawn k (cell s bins total at .0) (cell s bins total at .0 .drawings)))
-      ∙ sym (ap length more ∙ length-append (patternsFrom 0 (times k (cellAfter s bins) scan .0)) _)
+      ap₂ _+_ et (w .count-is ∙ sym (length-drawn k new (new .drawings))) ∙ sym (ap length more ∙ length-append before _)
 
-  pub turn-rows : (Live at → l₁ ≡ tableFrom 18 l 0 (patternRows (patternsFrom 0 (times k (cellAfter s bins) scan .0)))) →
-      Live (r .scan) → l₂ ≡ tableFrom 18 l 0 (patternRows (patternsFrom 0 (times (k + 1) (cellAfter s bins) scan .0)))
+  pub turn-rows : (Live at → l₁ ≡ tableFrom rowWords l 0 (patternRows (bins .loads) before)) →
+      Live (r .scan) → l₂ ≡ tableFrom rowWords l 0 (patternRows (bins .loads) (patternsFrom 0 (times (k + 1) one scan .0)))
   unfolding patternRows
   turn-rows e q =
-      let before = patternsFrom 0 (times k (cellAfter s bins) scan .0) in
-      let ds = cell s bins total at .0 .drawings in
-      let start : total ≡ 0 + length (patternRows before) = et ∙ sym (zero-add _ ∙ length-map before _) in
+      let ds = new .drawings in
+      let rows = patternRows (bins .loads) in
+      let start : total ≡ 0 + length (rows before) = et ∙ sym (zero-add _ ∙ length-map before _) in
       w .laid q
-      ∙ ap₂ (λ (l′ : List ℕ) (i : ℕ). tableFrom 18 l′ i (map (row k) ds)) (e (cell-live s bins total at (subst Live (w .scan-is) q))) start
-      ∙ sym (table-append 18 l 0 (patternRows before) (map (row k) ds))
-      ∙ ap (tableFrom 18 l 0)
-      (ap (λ (rs : List (List ℕ)). patternRows before ++ rs) (sym (rows-drawn k (cell s bins total at .0) ds))
-      ∙ sym (ap patternRows more ∙ map-append _ before (drawn k (cell s bins total at .0) ds)))
+      ∙ ap₂ (λ (l′ : List ℕ) (i : ℕ). tableFrom rowWords l′ i (map (row k (cellLaid (bins .loads) new)) ds)) (e (cell-live s (bins .count) total at (subst Live (w .scan-is) q))) start
+      ∙ sym (table-append rowWords l 0 (rows before) (map (row k (cellLaid (bins .loads) new)) ds))
+      ∙ ap (tableFrom rowWords l 0)
+      (ap (λ (rs : List (List ℕ)). rows before ++ rs) (sym (rows-drawn (bins .loads) k new ds))
+      ∙ sym (ap rows more ∙ map-append _ before (drawn k new ds)))

@@ -7,8 +7,8 @@ use mathlib.Core.Logic.{_⊎_, inl, inr}
 use native.Mathlib.Nat.{zero-add, add-zero, add-suc, suc-add, eq-or-lt-of-le, le-of-suc-le-suc}
 use native.Mathlib.Numerals.{add-one}
 use native.Mathlib.Omega.{arith}
-use lib.ListN.{length, take, drop, set, length-map, length-set}
-use lib.Seq.{sets}
+use lib.ListN.{length, getD, take, drop, set, replicate, length-map, length-replicate}
+use lib.Seq.{sets, length-sets, sets-eq, getD-drop}
 use Rattle.fields.specs.declared.Scan.{Scan}
 use Rattle.fields.specs.Reading.{Reader, place, times, within, field}
 use Rattle.fields.specs.declared.Verdict.the-variants.{Sound, Faulty}
@@ -16,7 +16,7 @@ use Rattle.fields.specs.declared.Fault.the-variants.{Size}
 use borrow.Author.Tests.{leb-true}
 use lib.Dec.{leb}
 use Rattle.fields.proofs.Laws.{length-times, times-value, times-scan, positive-live, live-sound, range-passes}
-use Rattle.fields.proofs.Lists.{sets-append, set-sets, take-sets, mid-sets}
+use Rattle.fields.proofs.Lists.{sets-append, set-sets, take-sets, mid-sets, front-sets, zeros-at}
 use Rattle.shapes.proofs.Drawn.{live?, length-symbols, node-live}
 use borrow.Rule.Slice.PartMut.{putMid}
 use Rattle.fields.specs.declared.Scan.the-variants.{At, Refused}
@@ -26,15 +26,32 @@ use Rattle.shapes.specs.Drawing.{elem, shape}
 use Rattle.fields.specs.Promises.{Live}
 use Rattle.shapes.specs.Promises.{Laid, NodeRead}
 use Rattle.sheets.specs.LibrarySheet.{last, binLoad, complete, hasAll, pattern, patternRules, countVerdict}
-use Rattle.sheets.specs.Layout.{padded, row, tableFrom}
-use Rattle.sheets.specs.Promises.{PatternIs, RowIs}
+use Rattle.sheets.specs.Layout.{padded, sizeAt, symbolsAt, rowWords, cellWords, tableFrom}
+use Rattle.sheets.specs.Promises.{PatternIs, rowOf, patternOf, RowIs}
+use Rattle.sheets.specs.declared.NumberedCell.{NumberedCell}
 use Rattle.sheets.specs.declared.PatternRead.{PatternRead}
+use Rattle.sheets.proofs.Rows.{row-written, length-row}
 
 -- ---- arrays that a loop fills
 
 -- One element more.
 pub padded-more : {A : Type 0} (n : ℕ) (blank v : A) (xs : List A) (k : ℕ) → k ≡ length xs → set (padded n blank xs) k v ≡ padded n blank (xs ++ (v ∷ []))
 padded-more n blank v xs k e = ap (λ (i : ℕ). set (padded n blank xs) i v) (e ∙ sym (zero-add (length xs))) ∙ sym (sets-append _ 0 xs (v ∷ []))
+
+-- What a padded array holds.
+pub in-padded : {A : Type 0} (n : ℕ) (blank d : A) (xs : List A) (k : ℕ) → length xs ≤ n → k < length xs → getD (padded n blank xs) k d ≡ getD xs k d
+in-padded n blank d xs k h g = front-sets (replicate n blank) xs k d (omega (arith, length-replicate n blank)) g
+
+-- A list of numbers in an array of zeros, at every place.
+pub padded-at : (n : ℕ) (xs : List ℕ) (k : ℕ) → length xs ≤ n → getD (padded n 0 xs) k 0 ≡ getD xs k 0
+padded-at n xs k h =
+    ap (λ (l : List ℕ). getD l k 0) (sets-eq xs (replicate n 0) 0 (omega (arith, length-replicate {A = ℕ} n 0)))
+    ∙ go xs (drop (0 + length xs) (replicate n 0)) k (λ j. getD-drop (0 + length xs) (replicate n 0) j 0 ∙ zeros-at n (0 + length xs + j))
+  where
+    go : (ys zs : List ℕ) (i : ℕ) → ((j : ℕ) → getD zs j 0 ≡ 0) → getD (ys ++ zs) i 0 ≡ getD ys i 0
+    go [] zs i z = z i
+    go (y ∷ ys) zs zero z = refl
+    go (y ∷ ys) zs (suc i) z = go ys zs i z
 
 -- What a loop has read so far, laid out by f, and one turn more.
 module _ {A B : Type 0} (n : ℕ) (blank : B) (f : A → B) (r : List A → Reader A) (c : Scan) where
@@ -140,23 +157,25 @@ pattern-is s pins most scan l m l′ m′ read whole first res em el h ew ef er 
           near = near;
         }
 
--- A pattern's row, from its symbols.
-pub row-is : (s : List ℕ) (pins number : ℕ) (scan : Scan) (l ys : List ℕ) (r : PatternRead) → length l ≡ 18 →
-    let l₁ = set l 0 number in
-    PatternIs s pins scan (take (length l₁ - 2) (drop 2 l₁)) ys r → RowIs s pins number scan l (set (putMid 2 (length l₁ - 2) l₁ ys) 1 (r .size)) (r .scan)
-unfolding row
-row-is s pins number scan l ys r e h =
-    let l₁ = set l 0 number in
-    let x = pattern s pins [] scan .0 in
+-- A pattern's row, from its cell's words and its symbols.
+pub row-is : (s : List ℕ) (numbered : NumberedCell) (scan : Scan) (l l₁ ys : List ℕ) (r : PatternRead) → length l ≡ rowWords →
+    l₁ ≡ sets l 0 (numbered .number ∷ cellWords (numbered .cell)) →
+    PatternIs s (numbered .cell .pins) scan (take (length l₁ - symbolsAt) (drop symbolsAt l₁)) ys r →
+    RowIs s numbered scan l (set (putMid symbolsAt (length l₁ - symbolsAt) l₁ ys) sizeAt (r .size)) (r .scan)
+row-is s numbered scan l l₁ ys r e e₁ h =
+    let x = pattern s (numbered .cell .pins) [] scan .0 in
+    let long : length l₁ ≡ rowWords = ap length e₁ ∙ length-sets l 0 (numbered .number ∷ cellWords (numbered .cell)) ∙ e in
     record {
       scan-is = h .scan-is;
       laid = λ q.
           let few : length (symbols x) ≤ 16 = omega (arith, length-symbols x, h .size-is q, h .small) in
-          ap₂ (λ (k : List ℕ) (v : ℕ). set k 1 v)
-          (ap (putMid 2 (length l₁ - 2) l₁) (h .laid q) ∙ mid-sets l₁ 2 (length l₁ - 2) (symbols x) (omega (arith, length-set l 0 number)) (omega (arith, length-set l 0 number)))
+          ap₂ (λ (k : List ℕ) (v : ℕ). set k sizeAt v)
+          (ap (putMid symbolsAt (length l₁ - symbolsAt) l₁) (h .laid q) ∙ mid-sets l₁ symbolsAt (length l₁ - symbolsAt) (symbols x) (omega arith) (omega arith))
           (h .size-is q)
-          ∙ set-sets l₁ 2 1 (size x) (symbols x) (omega arith);
-      few = λ q. omega (arith, length-symbols x, h .size-is q, h .small);
+          ∙ set-sets l₁ symbolsAt sizeAt (size x) (symbols x) (omega arith)
+          ∙ ap (λ (l′ : List ℕ). sets l′ sizeAt (size x ∷ symbols x)) e₁
+          ∙ row-written (numbered .number) (numbered .cell) x l;
+      few = λ q. omega (arith, length-row (numbered .number) (numbered .cell) x, h .size-is q, h .small);
       near = h .near;
     }
 
@@ -176,27 +195,29 @@ table-append stride l i (x ∷ rs) qs =
     table-append stride (sets l (stride * i) x) (suc i) rs qs ∙ ap (λ (k : ℕ). tableFrom stride (tableFrom stride (sets l (stride * i) x) (suc i) rs) k qs) (suc-add i (length rs) ∙ sym (add-suc i (length rs)))
 
 -- What a loop has read so far, and one pattern more.
-module _ (s : List ℕ) (pins number total : ℕ) (scan : Scan) (l : List ℕ) where
-  pub rows-turn : (k : ℕ) (l₁ ys : List ℕ) (at r : Scan) → (m : ℕ) → m ≡ 18 → 18 * (total + k) + 18 ≤ length l₁ → at ≡ times k (pattern s pins) scan .1 →
-      (Live at → l₁ ≡ tableFrom 18 l total (map (row number) (times k (pattern s pins) scan .0))) →
-      RowIs s pins number at (take m (drop (18 * (total + k)) l₁)) ys r →
-      (r ≡ times (k + 1) (pattern s pins) scan .1)
-      × (Live r → putMid (18 * (total + k)) m l₁ ys ≡ tableFrom 18 l total (map (row number) (times (k + 1) (pattern s pins) scan .0)))
+module _ (s : List ℕ) (numbered : NumberedCell) (total : ℕ) (scan : Scan) (l : List ℕ) where
+  pub rows-turn : (k : ℕ) (l₁ ys : List ℕ) (at r : Scan) → (m : ℕ) → m ≡ rowWords → rowWords * (total + k) + rowWords ≤ length l₁ →
+      at ≡ times k (patternOf s numbered) scan .1 →
+      (Live at → l₁ ≡ tableFrom rowWords l total (map (rowOf numbered) (times k (patternOf s numbered) scan .0))) →
+      RowIs s numbered at (take m (drop (rowWords * (total + k)) l₁)) ys r →
+      (r ≡ times (k + 1) (patternOf s numbered) scan .1)
+      × (Live r → putMid (rowWords * (total + k)) m l₁ ys ≡ tableFrom rowWords l total (map (rowOf numbered) (times (k + 1) (patternOf s numbered) scan .0)))
   unfolding pattern tableFrom
   rows-turn k l₁ ys at r m em h ea el w =
-      let x = times k (pattern s pins) scan in
-      let first = 18 * (total + k) in
-      let made : r ≡ pattern s pins (x .0) (x .1) .1 = w .scan-is ∙ ap (λ (c : Scan). pattern s pins [] c .1) ea in
-      let y = pattern s pins [] at .0 in (
-        made ∙ sym (times-scan k (pattern s pins) scan),
+      let p = patternOf s numbered in
+      let x = times k p scan in
+      let first = rowWords * (total + k) in
+      let made : r ≡ p (x .0) (x .1) .1 = w .scan-is ∙ ap (λ (c : Scan). p [] c .1) ea in
+      let y = p [] at .0 in (
+        made ∙ sym (times-scan k p scan),
         λ q.
-            let was : Live at = pattern-live s pins [] at (subst Live (w .scan-is) q) in
+            let was : Live at = pattern-live s (numbered .cell .pins) [] at (subst Live (w .scan-is) q) in
             ap (putMid first m l₁) (w .laid q)
-            ∙ mid-sets l₁ first m (row number y) (omega arith) (omega (arith, w .few q))
-            ∙ ap₂ (λ (l′ : List ℕ) (z : Shape). sets l′ first (row number z)) (el was) (ap (λ (c : Scan). pattern s pins [] c .0) ea)
-            ∙ ap (λ (i : ℕ). sets (tableFrom 18 l total (map (row number) (x .0))) (18 * (total + i)) (row number (pattern s pins [] (x .1) .0))) (sym (length-map (x .0) (row number) ∙ length-times k (pattern s pins) scan))
-            ∙ sym (table-append 18 l total (map (row number) (x .0)) (row number (pattern s pins [] (x .1) .0) ∷ []))
-            ∙ ap (tableFrom 18 l total) (sym (ap (map (row number)) (times-value k (pattern s pins) scan) ∙ map-append (row number) (x .0) _)),
+            ∙ mid-sets l₁ first m (rowOf numbered y) (omega arith) (omega (arith, w .few q))
+            ∙ ap₂ (λ (l′ : List ℕ) (z : Shape). sets l′ first (rowOf numbered z)) (el was) (ap (λ (c : Scan). p [] c .0) ea)
+            ∙ ap (λ (i : ℕ). sets (tableFrom rowWords l total (map (rowOf numbered) (x .0))) (rowWords * (total + i)) (rowOf numbered (p [] (x .1) .0))) (sym (length-map (x .0) (rowOf numbered) ∙ length-times k p scan))
+            ∙ sym (table-append rowWords l total (map (rowOf numbered) (x .0)) (rowOf numbered (p [] (x .1) .0) ∷ []))
+            ∙ ap (tableFrom rowWords l total) (sym (ap (map (rowOf numbered)) (times-value k p scan) ∙ map-append (rowOf numbered) (x .0) _)),
       )
 
 -- ---- a cell's patterns

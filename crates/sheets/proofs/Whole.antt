@@ -2,7 +2,7 @@
 use mathlib.Core.Path.{_≡_, refl, sym, ap, ap₂, subst, _∙_}
 use mathlib.Core.List.{List, [], map}
 use mathlib.Core.Bool.{Bool, true, false, cond}
-use Prim.Native.Nat.{ℕ, _+_}
+use Prim.Native.Nat.{ℕ, _+_, _≤_}
 use native.Mathlib.Nat.{zero-add}
 use native.Mathlib.Omega.{arith}
 use lib.ListN.{length, replicate}
@@ -21,9 +21,10 @@ use Rattle.fields.specs.Promises.{Live, Reads}
 use Rattle.shapes.specs.Promises.{Laid, NodeRead}
 use Rattle.fields.proofs.Laws.{start-place, value-at, scan-at, length-times}
 use Rattle.shapes.proofs.Drawn.{length-symbols}
+use Rattle.sheets.specs.declared.Bins.{Bins}
 use Rattle.sheets.specs.declared.BinsRead.{BinsRead}
 use Rattle.sheets.specs.declared.CellsRead.{CellsRead}
-use Rattle.sheets.specs.Model.{Cell, patterns, patternsFrom}
+use Rattle.sheets.specs.Model.{Pin, binLoadOf, Cell, Pattern, patterns, patternsFrom}
 use Rattle.sheets.specs.LibrarySheet.{binLoad, bins, cells, library}
 use Rattle.sheets.specs.TreeSheet.{tree, treeRules}
 use Rattle.sheets.specs.Report.{Limited, refused, soundLibrary, soundTree, libraryNumber, treeNumber, libraryRead, treeRead, libraryReport, treeReport}
@@ -31,8 +32,9 @@ use Rattle.sheets.specs.declared.LibraryRead.{LibraryRead}
 use Rattle.sheets.specs.declared.LibraryRecord.{LibraryRecord}
 use Rattle.sheets.specs.declared.TreeRead.{TreeRead}
 use Rattle.sheets.specs.declared.TreeRecord.{TreeRecord}
-use Rattle.sheets.specs.Layout.{padded, blankCell, cellLaid, tableFrom, patternRows, libraryLaid, treeLaid}
+use Rattle.sheets.specs.Layout.{padded, pinsMost, cellLaid, rowWords, tableWords, row, tableFrom, patternRow, patternRows, libraryLaid, treeLaid}
 use Rattle.sheets.specs.Promises.{BinsAre, CellsAre, cellAfter, LibraryIs, TreeIs}
+use Rattle.sheets.proofs.Laws.{padded-at}
 
 -- A scan that was not refused at the end was not refused before.
 pub ended-live : (s : List ℕ) (c : Scan) → Live (ended s c) → Live c
@@ -77,21 +79,29 @@ tree-is s c load req read l′ m′ res ec hl hr hn er =
       near = omega (arith, ap place er, ended-place s (read .scan), hn .went .near, hl .near, hr .near, ap place ec, start-place);
     }
 
+-- The bin loads in their array, and in the rows of patterns.
+bins-padded : (xs : List ℕ) → length xs ≤ 4 → binLoadOf (padded 4 0 xs) ≡ binLoadOf xs
+bins-padded xs h = λ i p. padded-at 4 xs (p .bin) h i
+
+rows-padded : (xs : List ℕ) → length xs ≤ 4 → (ps : List Pattern) → patternRows (padded 4 0 xs) ps ≡ patternRows xs ps
+unfolding patternRows patternRow cellLaid
+rows-padded xs h ps = ap (λ (f : Pin → ℕ). map (λ (p : Pattern). row (p .cellNumber) (record {
+  held = p .cell .held;
+  area = p .cell .area;
+  highest = p .cell .highest;
+  pins = length (p .cell .pins);
+  bins = padded pinsMost 0 (map (λ (q : Pin). q .bin) (p .cell .pins));
+  loads = padded pinsMost 0 (map f (p .cell .pins));
+  intrinsics = padded pinsMost 0 (map (λ (q : Pin). q .intrinsic) (p .cell .pins));
+  drives = padded pinsMost 0 (map (λ (q : Pin). q .drive) (p .cell .pins));
+}) (p .drawing)) ps) (bins-padded xs h)
+
 pub library-is : (s : List ℕ) (c : Scan) (nb : Got) (lb : BinsRead) (nc : Got) (rc : CellsRead) (l′ : List ℕ) (res : Scan) → c ≡ start →
     Reads nb (field s 3 (within 1 4) c) (place c + 3) 4 → BinsAre s (nb .value) (nb .scan) lb →
     Reads nc (field s 7 (within 1 64) (lb .scan)) (place (lb .scan) + 7) 64 →
-    CellsAre s (nb .value) (nc .value) (nc .scan) (replicate 2304 0) l′ rc → res ≡ ended s (rc .scan) →
-    LibraryIs s (record {
-      scan = res;
-      library = record {
-        bins = nb .value;
-        loads = lb .loads;
-        count = nc .value;
-        total = rc .total;
-        cells = rc .cells;
-        rows = l′;
-      };
-    })
+    let bins : Bins = record { count = nb .value; loads = lb .loads } in
+    CellsAre s bins (nc .value) (nc .scan) (replicate tableWords 0) l′ rc → res ≡ ended s (rc .scan) →
+    LibraryIs s (record { scan = res; library = record { bins = bins; count = nc .value; total = rc .total; rows = l′ } })
 unfolding library bins cells libraryLaid patterns
 library-is s c nb lb nc rc l′ res ec hnb hlb hnc hrc er =
     let N = field s 3 (within 1 4) start in
@@ -108,15 +118,16 @@ library-is s c nb lb nc rc l′ res ec hnb hlb hnc hrc er =
     let same : times (nc .value) (cellAfter s (nb .value)) (nc .scan) ≡ X =
     ap₂ (λ (n : ℕ) (q : Scan). times n (cellAfter s (nb .value)) q) counted at-cells ∙ ap (λ (b : ℕ). times (C .0) (cellAfter s b) (C .1)) all-bins in
     let all-cells : nc .value ≡ length (X .0) = counted ∙ sym (length-times (C .0) (cellAfter s (length (B .0))) (C .1)) in
-    let loads = hlb .loads ∙ ap (λ (x : List ℕ × Scan). padded 4 0 (x .0)) same-bins in
+    let loads : lb .loads ≡ padded 4 0 (B .0) = hlb .loads ∙ ap (λ (x : List ℕ × Scan). padded 4 0 (x .0)) same-bins in
     let total = hrc .total-is ∙ ap (λ (x : List Cell × Scan). length (patternsFrom 0 (x .0))) same in
-    let records = hrc .cells-are ∙ ap (λ (x : List Cell × Scan). padded 64 blankCell (map cellLaid (x .0))) same in
     record {
       scan-is = er ∙ ap (ended s) (hrc .scan-is ∙ ap (λ (x : List Cell × Scan). x .1) same);
       laid = λ q.
           let z : Live (rc .scan) = ended-live s (rc .scan) (subst Live er q) in
-          let rows = hrc .laid z ∙ ap (λ (x : List Cell × Scan). tableFrom 18 (replicate 2304 0) 0 (patternRows (patternsFrom 0 (x .0)))) same in
-          λ i. record { bins = all-bins i; loads = loads i; count = all-cells i; total = total i; cells = records i; rows = rows i };
+          let rows = hrc .laid z
+          ∙ ap₂ (λ (bs : List ℕ) (x : List Cell × Scan). tableFrom rowWords (replicate tableWords 0) 0 (patternRows bs (patternsFrom 0 (x .0)))) loads same
+          ∙ ap (tableFrom rowWords (replicate tableWords 0) 0) (rows-padded (B .0) (omega (arith, hnb .small)) (patternsFrom 0 (X .0))) in
+          λ i. record { bins = record { count = all-bins i; loads = loads i }; count = all-cells i; total = total i; rows = rows i };
       bins-few = hnb .small;
       cells-few = hnc .small;
       patterns-few = hrc .fits;

@@ -2,6 +2,7 @@
 use Prim.Native.Nat.{ℕ, suc}
 use mathlib.Core.List.{List, [], _∷_, _++_}
 use mathlib.Core.Bool.{Bool}
+use lib.ListN.{getD}
 pub use Rattle.shapes.specs.Shape.{Shape, leaf, inv, nand}
 unfoldable pub use Rattle.shapes.specs.Shape.{size, leaves}
 
@@ -10,6 +11,10 @@ pub record Pin : Type 0 where
   pub bin : ℕ
   pub intrinsic : ℕ
   pub drive : ℕ
+
+-- The load that a pin presents to what drives it: that of its bin, among the bin loads.
+abbrev pub binLoadOf : List ℕ → Pin → ℕ
+binLoadOf bins p = getD bins (p .bin) 0
 
 -- A cell. A held cell (hold mark 1) is never matched; `highest` is the highest load at which the cell was measured.
 pub record Cell : Type 0 where

@@ -9,20 +9,25 @@ use Rattle.fields.specs.Reading.{Reader, place, times, field, start}
 use Rattle.shapes.specs.Shape.{symbols}
 use Rattle.fields.specs.declared.Got.{Got}
 use Rattle.fields.specs.Promises.{Live, Reads}
+use Rattle.sheets.specs.declared.Bins.{Bins}
+use Rattle.sheets.specs.declared.NumberedCell.{NumberedCell}
 use Rattle.sheets.specs.declared.BinsRead.{BinsRead}
 use Rattle.sheets.specs.declared.HeadRead.{HeadRead}
 use Rattle.sheets.specs.declared.PinRead.{PinRead}
 use Rattle.sheets.specs.declared.PinsRead.{PinsRead}
 use Rattle.sheets.specs.declared.PatternRead.{PatternRead}
 use Rattle.sheets.specs.declared.DrawingsRead.{DrawingsRead}
-use Rattle.sheets.specs.declared.CellRead.{CellRead}
 use Rattle.sheets.specs.declared.CellsRead.{CellsRead}
 use Rattle.sheets.specs.declared.LibraryRead.{LibraryRead}
 use Rattle.sheets.specs.declared.TreeRead.{TreeRead}
-use Rattle.sheets.specs.Model.{Pin, size, Cell, patternsFrom}
+use Rattle.sheets.specs.Model.{Shape, Pin, binLoadOf, size, Cell, patternsFrom}
 use Rattle.sheets.specs.LibrarySheet.{binLoad, head, pin, pattern, countVerdict, drawings, cell, library}
 use Rattle.sheets.specs.TreeSheet.{tree}
-use Rattle.sheets.specs.Layout.{padded, blankCell, cellLaid, row, tableFrom, patternRows, libraryLaid, treeLaid}
+use Rattle.sheets.specs.Layout.{padded, pinsMost, cellLaid, rowWords, row, tableFrom, patternRows, libraryLaid, treeLaid}
+
+-- The row of a pattern of a cell.
+abbrev pub rowOf : NumberedCell → Shape → List ℕ
+rowOf numbered = row (numbered .number) (numbered .cell)
 
 module _ (s : List ℕ) where
   pub record BinsAre (count : ℕ) (scan : Scan) (r : BinsRead) : Type 0 where
@@ -39,18 +44,20 @@ module _ (s : List ℕ) where
     pub scan-is : r .scan ≡ head s scan .1
     pub near : place (r .scan) ≤ place scan + 28
 
-  pub record PinIs (bins : ℕ) (scan : Scan) (r : PinRead) : Type 0 where
-    pub load : r .load ≡ pin s bins [] scan .0 .bin
-    pub intrinsic : r .intrinsic ≡ pin s bins [] scan .0 .intrinsic
-    pub drive : r .drive ≡ pin s bins [] scan .0 .drive
-    pub scan-is : r .scan ≡ pin s bins [] scan .1
+  pub record PinIs (bins : Bins) (scan : Scan) (r : PinRead) : Type 0 where
+    pub bin : r .bin ≡ pin s (bins .count) [] scan .0 .bin
+    pub load : r .load ≡ binLoadOf (bins .loads) (pin s (bins .count) [] scan .0)
+    pub intrinsic : r .intrinsic ≡ pin s (bins .count) [] scan .0 .intrinsic
+    pub drive : r .drive ≡ pin s (bins .count) [] scan .0 .drive
+    pub scan-is : r .scan ≡ pin s (bins .count) [] scan .1
     pub near : place (r .scan) ≤ place scan + 26
 
-  pub record PinsAre (bins count : ℕ) (scan : Scan) (r : PinsRead) : Type 0 where
-    pub loads : r .loads ≡ padded 6 0 (map (λ (p : Pin). p .bin) (times count (pin s bins) scan .0))
-    pub intrinsics : r .intrinsics ≡ padded 6 0 (map (λ (p : Pin). p .intrinsic) (times count (pin s bins) scan .0))
-    pub drives : r .drives ≡ padded 6 0 (map (λ (p : Pin). p .drive) (times count (pin s bins) scan .0))
-    pub scan-is : r .scan ≡ times count (pin s bins) scan .1
+  pub record PinsAre (bins : Bins) (count : ℕ) (scan : Scan) (r : PinsRead) : Type 0 where
+    pub bins-are : r .bins ≡ padded pinsMost 0 (map (λ (p : Pin). p .bin) (times count (pin s (bins .count)) scan .0))
+    pub loads : r .loads ≡ padded pinsMost 0 (map (binLoadOf (bins .loads)) (times count (pin s (bins .count)) scan .0))
+    pub intrinsics : r .intrinsics ≡ padded pinsMost 0 (map (λ (p : Pin). p .intrinsic) (times count (pin s (bins .count)) scan .0))
+    pub drives : r .drives ≡ padded pinsMost 0 (map (λ (p : Pin). p .drive) (times count (pin s (bins .count)) scan .0))
+    pub scan-is : r .scan ≡ times count (pin s (bins .count)) scan .1
     pub near : place (r .scan) ≤ place scan + 26 * count
 
   -- A pattern, its symbols laid out in l, which became l′.
@@ -61,17 +68,20 @@ module _ (s : List ℕ) where
     pub laid : Live (r .scan) → l′ ≡ sets l 0 (symbols (pattern s pins [] scan .0))
     pub near : place (r .scan) ≤ place scan + 416
 
-  -- A pattern's row.
-  pub record RowIs (pins number : ℕ) (scan : Scan) (l l′ : List ℕ) (r : Scan) : Type 0 where
-    pub scan-is : r ≡ pattern s pins [] scan .1
-    pub laid : Live r → l′ ≡ sets l 0 (row number (pattern s pins [] scan .0))
-    pub few : Live r → length (row number (pattern s pins [] scan .0)) ≤ 18
+  -- The patterns of a cell, and the row of one.
+  abbrev pub patternOf : NumberedCell → List Shape → Reader Shape
+  patternOf numbered = pattern s (numbered .cell .pins)
+
+  pub record RowIs (numbered : NumberedCell) (scan : Scan) (l l′ : List ℕ) (r : Scan) : Type 0 where
+    pub scan-is : r ≡ patternOf numbered [] scan .1
+    pub laid : Live r → l′ ≡ sets l 0 (rowOf numbered (patternOf numbered [] scan .0))
+    pub few : Live r → length (rowOf numbered (patternOf numbered [] scan .0)) ≤ rowWords
     pub near : place r ≤ place scan + 416
 
   -- So many patterns of a cell, their rows laid out in l from row `total` on.
-  pub record RowsAre (pins number total count : ℕ) (scan : Scan) (l l′ : List ℕ) (r : Scan) : Type 0 where
-    pub scan-is : r ≡ times count (pattern s pins) scan .1
-    pub laid : Live r → l′ ≡ tableFrom 18 l total (map (row number) (times count (pattern s pins) scan .0))
+  pub record RowsAre (numbered : NumberedCell) (total count : ℕ) (scan : Scan) (l l′ : List ℕ) (r : Scan) : Type 0 where
+    pub scan-is : r ≡ times count (patternOf numbered) scan .1
+    pub laid : Live r → l′ ≡ tableFrom rowWords l total (map (rowOf numbered) (times count (patternOf numbered) scan .0))
     pub near : place r ≤ place scan + 416 * count
 
   -- A pattern count.
@@ -79,18 +89,18 @@ module _ (s : List ℕ) where
     pub reads : Reads r (field s 3 (countVerdict total) scan) (place scan + 3) 7
     pub fits : total + r .value ≤ 128
 
-  pub record DrawingsAre (pins number total : ℕ) (scan : Scan) (l l′ : List ℕ) (r : DrawingsRead) : Type 0 where
-    pub scan-is : r .scan ≡ drawings s pins total scan .1
-    pub count-is : r .count ≡ length (drawings s pins total scan .0)
-    pub laid : Live (r .scan) → l′ ≡ tableFrom 18 l total (map (row number) (drawings s pins total scan .0))
+  pub record DrawingsAre (numbered : NumberedCell) (total : ℕ) (scan : Scan) (l l′ : List ℕ) (r : DrawingsRead) : Type 0 where
+    pub scan-is : r .scan ≡ drawings s (numbered .cell .pins) total scan .1
+    pub count-is : r .count ≡ length (drawings s (numbered .cell .pins) total scan .0)
+    pub laid : Live (r .scan) → l′ ≡ tableFrom rowWords l total (map (rowOf numbered) (drawings s (numbered .cell .pins) total scan .0))
     pub fits : total + r .count ≤ 128
     pub near : place (r .scan) ≤ place scan + 2915
 
-  pub record CellIs (bins number total : ℕ) (scan : Scan) (l l′ : List ℕ) (r : CellRead) : Type 0 where
-    pub cell-is : r .cell ≡ cellLaid (cell s bins total scan .0)
-    pub scan-is : r .scan ≡ cell s bins total scan .1
-    pub count-is : r .count ≡ length (cell s bins total scan .0 .drawings)
-    pub laid : Live (r .scan) → l′ ≡ tableFrom 18 l total (map (row number) (cell s bins total scan .0 .drawings))
+  pub record CellIs (bins : Bins) (number total : ℕ) (scan : Scan) (l l′ : List ℕ) (r : DrawingsRead) : Type 0 where
+    pub scan-is : r .scan ≡ cell s (bins .count) total scan .1
+    pub count-is : r .count ≡ length (cell s (bins .count) total scan .0 .drawings)
+    pub laid : Live (r .scan) →
+        let c = cell s (bins .count) total scan .0 in l′ ≡ tableFrom rowWords l total (map (row number (cellLaid (bins .loads) c)) (c .drawings))
     pub fits : total + r .count ≤ 128
     pub near : place (r .scan) ≤ place scan + 3099
 
@@ -99,11 +109,11 @@ module _ (s : List ℕ) where
   cellAfter bins before = cell s bins (length (patternsFrom 0 before))
 
   -- So many cells.
-  pub record CellsAre (bins count : ℕ) (scan : Scan) (l l′ : List ℕ) (r : CellsRead) : Type 0 where
-    pub cells-are : r .cells ≡ padded 64 blankCell (map cellLaid (times count (cellAfter bins) scan .0))
-    pub scan-is : r .scan ≡ times count (cellAfter bins) scan .1
-    pub total-is : r .total ≡ length (patternsFrom 0 (times count (cellAfter bins) scan .0))
-    pub laid : Live (r .scan) → l′ ≡ tableFrom 18 l 0 (patternRows (patternsFrom 0 (times count (cellAfter bins) scan .0)))
+  pub record CellsAre (bins : Bins) (count : ℕ) (scan : Scan) (l l′ : List ℕ) (r : CellsRead) : Type 0 where
+    pub scan-is : r .scan ≡ times count (cellAfter (bins .count)) scan .1
+    pub total-is : r .total ≡ length (patternsFrom 0 (times count (cellAfter (bins .count)) scan .0))
+    pub laid : Live (r .scan) →
+        l′ ≡ tableFrom rowWords l 0 (patternRows (bins .loads) (patternsFrom 0 (times count (cellAfter (bins .count)) scan .0)))
     pub fits : r .total ≤ 128
     pub near : place (r .scan) ≤ place scan + 3099 * count
 
@@ -112,7 +122,7 @@ module _ (s : List ℕ) where
   pub record LibraryIs (r : LibraryRead) : Type 0 where
     pub scan-is : r .scan ≡ library s start .1
     pub laid : Live (r .scan) → r .library ≡ libraryLaid (library s start .0)
-    pub bins-few : r .library .bins ≤ 4
+    pub bins-few : r .library .bins .count ≤ 4
     pub cells-few : r .library .count ≤ 64
     pub patterns-few : r .library .total ≤ 128
     pub near : place (r .scan) < 1048576

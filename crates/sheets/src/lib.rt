@@ -1,14 +1,17 @@
 // The library sheet and the tree sheet: what is decoded from them, and the two judges.
 use fields::Fault;
-use shapes::Rules;
 use fields::Scan;
 use fields::Verdict;
+use shapes::Rules;
 ghost use mathlib.Core.Path.{_≡_};
+ghost use mathlib.Core.Bool.{cond};
+ghost use mathlib.Core.List.{[], _∷_};
 ghost use Prim.Native.Nat.{_+_, _-_, _<_, _≤_, _^_};
 ghost use lib.ListN.{length, take};
+ghost use lib.Seq.{sets};
 ghost use Rattle.fields.specs.Reading.{place};
 ghost use Rattle.sheets.specs.LibrarySheet.{hasAll, complete, countVerdict};
-ghost use Rattle.sheets.specs.Layout.{blankCell};
+ghost use Rattle.sheets.specs.Layout.{rowWords, tableWords, figuresAt, pinsMost, figures, cellWords};
 ghost use Rattle.sheets.specs.Promises.{BinsAre, HeadIs, PinIs, PinsAre, PatternIs, RowIs, RowsAre, DrawingsAre, CountIs, CellIs, CellsAre, LibraryIs, TreeIs};
 ghost use Rattle.sheets.specs.Report.{ofLibraryJudged, libraryReport, libraryNumber, ofTreeJudged, treeReport, treeNumber, Limited};
 
@@ -56,39 +59,73 @@ impl Limits {
     pub const INPUT: usize = 4096;
 }
 
-// Where the words of a pattern's row stand: its cell, its size and its symbols; how many a row has, and a table of 128 rows.
+// A pattern's row: the number of its cell and all that is known of the cell, its size and its symbols. Where its words stand, how many there
+// are, and how many a table of 128 rows has.
 pub struct PatternRow {}
 
 impl PatternRow {
     pub const CELL: usize = 0;
 
-    pub const SIZE: usize = 1;
+    pub const HELD: usize = 1;
 
-    pub const SYMBOLS: usize = 2;
+    pub const AREA: usize = 2;
 
-    pub const WORDS: usize = 18;
+    pub const HIGHEST: usize = 3;
 
-    pub const TABLE: usize = 2304;
+    pub const PINS: usize = 4;
+
+    // The figures of six pins: for each its load bin, that bin's load, its intrinsic delay and its drive.
+    pub const FIGURES: usize = 5;
+
+    pub const PIN: usize = 4;
+
+    // Within a pin's words.
+    pub const BIN: usize = 0;
+
+    pub const LOAD: usize = 1;
+
+    pub const INTRINSIC: usize = 2;
+
+    pub const DRIVE: usize = 3;
+
+    pub const SIZE: usize = 29;
+
+    pub const SYMBOLS: usize = 30;
+
+    pub const WORDS: usize = 46;
+
+    pub const TABLE: usize = 5888;
 }
 
-// A cell as decoded. Its pins are the first `pins` places of the three arrays: load bins, intrinsic delays and drives.
+// The bin loads: the first `count` are there.
+pub struct Bins {
+    pub count: usize,
+    pub loads: [u8; 4],
+}
+
+// A cell as decoded. Its pins are the first `pins` places of the four arrays: load bins, those bins' loads, intrinsic delays and drives.
 pub struct CellRecord {
     pub held: bool,
     pub area: u16,
     pub highest: u8,
     pub pins: u8,
+    pub bins: [u8; 6],
     pub loads: [u8; 6],
     pub intrinsics: [u16; 6],
     pub drives: [u8; 6],
 }
 
-// A library as decoded: the bin loads, the cells, and a row of 18 words for each pattern, each with its count.
+// A cell with its number in the library.
+pub struct NumberedCell {
+    pub number: u32,
+    pub cell: CellRecord,
+}
+
+// A library as decoded: the bin loads, how many cells there are, and a row for each of the `total` patterns.
 pub struct LibraryRecord {
-    pub bins: u32,
-    pub loads: [u8; 4],
+    pub bins: Bins,
     pub count: usize,
     pub total: usize,
-    pub cells: [CellRecord; 64],
     pub rows: [u32; PatternRow::TABLE],
 }
 
@@ -131,6 +168,7 @@ pub struct HeadRead {
 // One pin, and the scan after it.
 pub struct PinRead {
     pub scan: Scan,
+    pub bin: u8,
     pub load: u8,
     pub intrinsic: u16,
     pub drive: u8,
@@ -139,6 +177,7 @@ pub struct PinRead {
 // A cell's pins, and the scan after them.
 pub struct PinsRead {
     pub scan: Scan,
+    pub bins: [u8; 6],
     pub loads: [u8; 6],
     pub intrinsics: [u16; 6],
     pub drives: [u8; 6],
@@ -195,30 +234,33 @@ fn last_of(count: u32) -> u32
     count - 1
 }
 
-// A pin: bin number, intrinsic delay and drive.
-fn read_pin(scan: Scan, s: &[u8], bins: u32) -> PinRead
-    requires { ⌜ (bins ≤ 4) × (place scan < 2 ^ 30) ⌝ }
+// A pin: bin number with that bin's load, intrinsic delay and drive.
+fn read_pin(scan: Scan, s: &[u8], bins: Bins) -> PinRead
+    requires { ⌜ (bins .count ≤ 4) × (place scan < 2 ^ 30) ⌝ }
     ensures { λ r. ⌜ PinIs (now (s .entry)) bins scan r ⌝ }
 {
-    let load = fields::ranged(scan, s, 2, 0, last_of(bins));
-    let at = load.scan;
+    let loads = bins.loads;
+    let bin = fields::ranged(scan, s, 2, 0, last_of(bins.count as u32));
+    let at = bin.scan;
     let intrinsic = fields::ranged(at, s, 16, 0, Limits::INTRINSIC);
     let at = intrinsic.scan;
     let drive = fields::ranged(at, s, 8, 0, Limits::DRIVE);
     let at = drive.scan;
     PinRead {
         scan: at,
-        load: load.value as u8,
+        bin: bin.value as u8,
+        load: loads[bin.value as usize],
         intrinsic: intrinsic.value as u16,
         drive: drive.value as u8,
     }
 }
 
 // A cell's pins.
-fn read_pins(scan: Scan, s: &[u8], bins: u32, count: u32) -> PinsRead
-    requires { ⌜ (bins ≤ 4) × (count ≤ 6) × (place scan < 2 ^ 20) ⌝ }
+fn read_pins(scan: Scan, s: &[u8], bins: Bins, count: u32) -> PinsRead
+    requires { ⌜ (bins .count ≤ 4) × (count ≤ 6) × (place scan < 2 ^ 20) ⌝ }
     ensures { λ r. ⌜ PinsAre (now (s .entry)) bins count scan r ⌝ }
 {
+    let mut numbers = [0u8; 6];
     let mut loads = [0u8; 6];
     let mut intrinsics = [0u16; 6];
     let mut drives = [0u8; 6];
@@ -227,6 +269,7 @@ fn read_pins(scan: Scan, s: &[u8], bins: u32, count: u32) -> PinsRead
     while k < count {
         let pin = read_pin(at, s, bins);
         at = pin.scan;
+        numbers[k as usize] = pin.bin;
         loads[k as usize] = pin.load;
         intrinsics[k as usize] = pin.intrinsic;
         drives[k as usize] = pin.drive;
@@ -234,6 +277,7 @@ fn read_pins(scan: Scan, s: &[u8], bins: u32, count: u32) -> PinsRead
     }
     PinsRead {
         scan: at,
+        bins: numbers,
         loads,
         intrinsics,
         drives,
@@ -252,18 +296,10 @@ pub struct DrawingsRead {
     pub count: u32,
 }
 
-// A cell, how many patterns it has, and the scan after them.
-pub struct CellRead {
-    pub scan: Scan,
-    pub count: u32,
-    pub cell: CellRecord,
-}
-
-// The cells, how many patterns they have together, and the scan after them.
+// How many patterns the cells have together, and the scan after them.
 pub struct CellsRead {
     pub scan: Scan,
     pub total: usize,
-    pub cells: [CellRecord; 64],
 }
 
 // Whether each of the first `pins` pins stands at a leaf among the first `n` symbols.
@@ -316,13 +352,72 @@ fn read_pattern(scan: Scan, s: &[u8], pins: u32, symbols: &mut [u32]) -> Pattern
     }
 }
 
-// A pattern's row: its cell, its size and its symbols.
-fn read_row(scan: Scan, s: &[u8], pins: u32, cell: u32, row: &mut [u32]) -> Scan
-    requires { ⌜ (pins ≤ 6) × (length (now row) ≡ 18) × (place scan < 2 ^ 19) ⌝ }
-    ensures { λ r. ⌜ RowIs (now (s .entry)) pins cell scan (now (row .entry)) (now (row .exit)) r ⌝ }
+// Four words from a place on.
+pub fn write_words(table: &mut [u32], at: usize, a: u32, b: u32, c: u32, d: u32)
+    requires { ⌜ at + 4 ≤ length (now table) ⌝ }
+    ensures { λ r. ⌜ now (table .exit) ≡ sets (now (table .entry)) at (a ∷ (b ∷ (c ∷ (d ∷ [])))) ⌝ }
 {
-    row[PatternRow::CELL] = cell;
-    let read = read_pattern(scan, s, pins, &mut row[PatternRow::SYMBOLS..]);
+    table[at] = a;
+    table[at + 1] = b;
+    table[at + 2] = c;
+    table[at + 3] = d;
+}
+
+// The figures of a cell's pins into a pattern's row.
+fn write_figures(row: &mut [u32], cell: CellRecord)
+    requires { ⌜ length (now row) ≡ rowWords ⌝ }
+    ensures { λ r. ⌜ now (row .exit) ≡ sets (now (row .entry)) figuresAt (figures cell pinsMost) ⌝ }
+{
+    let mut p: usize = 0;
+    while p < Limits::PINS as usize {
+        write_words(
+            row,
+            PatternRow::FIGURES + PatternRow::PIN * p,
+            cell.bins[p] as u32,
+            cell.loads[p] as u32,
+            cell.intrinsics[p] as u32,
+            cell.drives[p] as u32,
+        );
+        p += 1;
+    }
+}
+
+// A hold mark as a word.
+fn mark(held: bool) -> u32
+    ensures { λ r. ⌜ r ≡ cond held 1 0 ⌝ }
+{
+    if held {
+        return 1;
+    }
+    0
+}
+
+// A cell's number and its words into a pattern's row.
+fn write_cell(row: &mut [u32], numbered: NumberedCell)
+    requires { ⌜ length (now row) ≡ rowWords ⌝ }
+    ensures { λ r. ⌜ now (row .exit) ≡ sets (now (row .entry)) 0 (numbered .number ∷ cellWords (numbered .cell)) ⌝ }
+{
+    let cell = numbered.cell;
+    row[PatternRow::CELL] = numbered.number;
+    write_words(
+        row,
+        PatternRow::HELD,
+        mark(cell.held),
+        cell.area as u32,
+        cell.highest as u32,
+        cell.pins as u32,
+    );
+    write_figures(row, cell);
+}
+
+// A pattern's row: its cell's words, its size and its symbols.
+fn read_row(scan: Scan, s: &[u8], numbered: NumberedCell, row: &mut [u32]) -> Scan
+    requires { ⌜ (numbered .cell .pins ≤ 6) × (length (now row) ≡ rowWords) × (place scan < 2 ^ 19) ⌝ }
+    ensures { λ r. ⌜ RowIs (now (s .entry)) numbered scan (now (row .entry)) (now (row .exit)) r ⌝ }
+{
+    let cell = numbered.cell;
+    write_cell(row, numbered);
+    let read = read_pattern(scan, s, cell.pins as u32, &mut row[PatternRow::SYMBOLS..]);
     row[PatternRow::SIZE] = read.size;
     read.scan
 }
@@ -331,26 +426,19 @@ fn read_row(scan: Scan, s: &[u8], pins: u32, cell: u32, row: &mut [u32]) -> Scan
 fn read_rows(
     scan: Scan,
     s: &[u8],
-    pins: u32,
-    cell: u32,
+    numbered: NumberedCell,
     total: usize,
     count: u32,
     rows: &mut [u32],
 ) -> Scan
-    requires { ⌜ (pins ≤ 6) × (length (now rows) ≡ 2304) × (total + count ≤ 128) × (count ≤ 7) × (place scan < 310000) ⌝ }
-    ensures { λ r. ⌜ RowsAre (now (s .entry)) pins cell total count scan (now (rows .entry)) (now (rows .exit)) r ⌝ }
+    requires { ⌜ (numbered .cell .pins ≤ 6) × (length (now rows) ≡ tableWords) × (total + count ≤ 128) × (count ≤ 7) × (place scan < 310000) ⌝ }
+    ensures { λ r. ⌜ RowsAre (now (s .entry)) numbered total count scan (now (rows .entry)) (now (rows .exit)) r ⌝ }
 {
     let mut at = scan;
     let mut k: u32 = 0;
     while k < count {
         let first = PatternRow::WORDS * (total + k as usize);
-        at = read_row(
-            at,
-            s,
-            pins,
-            cell,
-            &mut rows[first..first + PatternRow::WORDS],
-        );
+        at = read_row(at, s, numbered, &mut rows[first..first + PatternRow::WORDS]);
         k += 1;
     }
     at
@@ -380,51 +468,53 @@ fn read_count(scan: Scan, s: &[u8], total: usize) -> fields::Got
 fn read_drawings(
     scan: Scan,
     s: &[u8],
-    pins: u32,
-    cell: u32,
+    numbered: NumberedCell,
     total: usize,
     rows: &mut [u32],
 ) -> DrawingsRead
-    requires { ⌜ (pins ≤ 6) × (length (now rows) ≡ 2304) × (total ≤ 128) × (place scan < 300000) ⌝ }
-    ensures { λ r. ⌜ DrawingsAre (now (s .entry)) pins cell total scan (now (rows .entry)) (now (rows .exit)) r ⌝ }
+    requires { ⌜ (numbered .cell .pins ≤ 6) × (length (now rows) ≡ tableWords) × (total ≤ 128) × (place scan < 300000) ⌝ }
+    ensures { λ r. ⌜ DrawingsAre (now (s .entry)) numbered total scan (now (rows .entry)) (now (rows .exit)) r ⌝ }
 {
     let got = read_count(scan, s, total);
     let at = got.scan;
     let count = got.value;
     DrawingsRead {
-        scan: read_rows(at, s, pins, cell, total, count, rows),
+        scan: read_rows(at, s, numbered, total, count, rows),
         count,
     }
 }
 
-// A cell, after `total` patterns.
-fn read_cell(scan: Scan, s: &[u8], bins: u32, cell: u32, total: usize, rows: &mut [u32]) -> CellRead
-    requires { ⌜ (bins ≤ 4) × (length (now rows) ≡ 2304) × (total ≤ 128) × (place scan < 2 ^ 18) ⌝ }
-    ensures { λ r. ⌜ CellIs (now (s .entry)) bins cell total scan (now (rows .entry)) (now (rows .exit)) r ⌝ }
+// The cell with a number, after `total` patterns.
+fn read_cell(
+    scan: Scan,
+    s: &[u8],
+    bins: Bins,
+    number: u32,
+    total: usize,
+    rows: &mut [u32],
+) -> DrawingsRead
+    requires { ⌜ (bins .count ≤ 4) × (length (now rows) ≡ tableWords) × (total ≤ 128) × (place scan < 2 ^ 18) ⌝ }
+    ensures { λ r. ⌜ CellIs (now (s .entry)) bins number total scan (now (rows .entry)) (now (rows .exit)) r ⌝ }
 {
     let head = read_head(scan, s);
     let at = head.scan;
-    let count = head.pins;
-    let pins = read_pins(at, s, bins, count);
+    let pins = read_pins(at, s, bins, head.pins);
     let at = pins.scan;
-    let drawings = read_drawings(at, s, count, cell, total, rows);
+    let numbers = pins.bins;
     let loads = pins.loads;
     let intrinsics = pins.intrinsics;
     let drives = pins.drives;
-    let after = drawings.scan;
-    CellRead {
-        scan: after,
-        count: drawings.count,
-        cell: CellRecord {
-            held: head.held,
-            area: head.area,
-            highest: head.highest,
-            pins: count as u8,
-            loads,
-            intrinsics,
-            drives,
-        },
-    }
+    let cell = CellRecord {
+        held: head.held,
+        area: head.area,
+        highest: head.highest,
+        pins: head.pins as u8,
+        bins: numbers,
+        loads,
+        intrinsics,
+        drives,
+    };
+    read_drawings(at, s, NumberedCell { number, cell }, total, rows)
 }
 
 // The whole library, and the scan after it.
@@ -439,44 +529,21 @@ pub struct TreeRead {
     pub tree: TreeRecord,
 }
 
-// A cell of which nothing is read.
-fn blank_cell() -> CellRecord
-    ensures { λ r. ⌜ r ≡ blankCell ⌝ }
-{
-    CellRecord {
-        held: false,
-        area: 0,
-        highest: 0,
-        pins: 0,
-        loads: [0u8; 6],
-        intrinsics: [0u16; 6],
-        drives: [0u8; 6],
-    }
-}
-
 // The cells.
-fn read_cells(scan: Scan, s: &[u8], bins: u32, count: u32, rows: &mut [u32]) -> CellsRead
-    requires { ⌜ (bins ≤ 4) × (length (now rows) ≡ 2304) × (count ≤ 64) × (place scan < 2 ^ 10) ⌝ }
+fn read_cells(scan: Scan, s: &[u8], bins: Bins, count: u32, rows: &mut [u32]) -> CellsRead
+    requires { ⌜ (bins .count ≤ 4) × (length (now rows) ≡ tableWords) × (count ≤ 64) × (place scan < 2 ^ 10) ⌝ }
     ensures { λ r. ⌜ CellsAre (now (s .entry)) bins count scan (now (rows .entry)) (now (rows .exit)) r ⌝ }
 {
-    let blank = blank_cell();
-    let mut cells = [blank; 64];
     let mut at = scan;
     let mut total: usize = 0;
     let mut k: u32 = 0;
     while k < count {
         let read = read_cell(at, s, bins, k, total, rows);
         at = read.scan;
-        let cell = read.cell;
-        cells[k as usize] = cell;
         total += read.count as usize;
         k += 1;
     }
-    CellsRead {
-        scan: at,
-        total,
-        cells,
-    }
+    CellsRead { scan: at, total }
 }
 
 // The library sheet.
@@ -484,25 +551,26 @@ pub fn read_library(s: &[u8]) -> LibraryRead
     ensures { λ r. ⌜ LibraryIs (now (s .entry)) r ⌝ }
 {
     let start = fields::begin();
-    let bins = fields::ranged(start, s, 3, 1, Limits::BINS);
-    let at = bins.scan;
-    let loads = read_bins(at, s, bins.value);
-    let at = loads.scan;
+    let bin_count = fields::ranged(start, s, 3, 1, Limits::BINS);
+    let at = bin_count.scan;
+    let read = read_bins(at, s, bin_count.value);
+    let at = read.scan;
+    let loads = read.loads;
+    let bins = Bins {
+        count: bin_count.value as usize,
+        loads,
+    };
     let count = fields::ranged(at, s, 7, 1, Limits::CELLS);
     let at = count.scan;
     let mut rows = [0u32; PatternRow::TABLE];
-    let cells = read_cells(at, s, bins.value, count.value, &mut rows);
+    let cells = read_cells(at, s, bins, count.value, &mut rows);
     let at = cells.scan;
-    let bin_loads = loads.loads;
-    let records = cells.cells;
     LibraryRead {
         scan: fields::end(at, s),
         library: LibraryRecord {
-            bins: bins.value,
-            loads: bin_loads,
+            bins,
             count: count.value as usize,
             total: cells.total,
-            cells: records,
             rows,
         },
     }

@@ -17,8 +17,7 @@ returns c =
     let a = c .before .before .before .before .before .before .before .args in
     let got = c .before .before .before .before .read-count in
     let r = c .before .before .read-rows in
-    drawings-are (a .s .now) (a .pins) (a .cell) (a .total) (a .scan) (a .rows .now) _ (got .result) (r .result) (got .ensures) (r .ensures)
+    drawings-are (a .s .now) (a .numbered) (a .total) (a .scan) (a .rows .now) _ (got .result) (r .result) (got .ensures) (r .ensures)
 
 pub read-drawings-spec : {M : Type 1} → statement M
-read-drawings-spec =
-    tie.close (tie.spec read-count-requires read-rows-requires same-length returns)
+read-drawings-spec = tie.close (tie.spec read-count-requires read-rows-requires same-length returns)

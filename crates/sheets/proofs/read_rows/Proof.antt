@@ -9,23 +9,23 @@ use Rattle.fields.specs.declared.Scan.{Scan}
 use Rattle.shapes.specs.Shape.{Shape}
 use Rattle.fields.specs.Reading.{place, times}
 use Rattle.fields.specs.Promises.{Live}
-use Rattle.sheets.specs.LibrarySheet.{pattern}
-use Rattle.sheets.specs.Layout.{row, tableFrom}
+use Rattle.sheets.specs.Layout.{rowWords, tableFrom}
+use Rattle.sheets.specs.Promises.{rowOf, patternOf}
 use Rattle.sheets.proofs.Laws.{rows-turn}
 use Rattle.sheets.proofs.read_rows.Statement.{statement}
 use Rattle.sheets.proofs.read_rows.Tie as tie
 
 abbrev Inv-loop : tie.InvT-loop
-Inv-loop s pins cell total count rows₀ at₀ k₀ rows at k =
-    let x = times k (pattern s pins) at₀ in
+Inv-loop s numbered total count rows₀ at₀ k₀ rows at k =
+    let x = times k (patternOf s numbered) at₀ in
     (k ≤ count)
     × (length rows ≡ length rows₀)
     × (at ≡ x .1)
-    × (Live at → rows ≡ tableFrom 18 rows₀ total (map (row cell) (x .0)))
+    × (Live at → rows ≡ tableFrom rowWords rows₀ total (map (rowOf numbered) (x .0)))
     × (place at ≤ place at₀ + 416 * k)
 
 abbrev μ-loop : tie.MeasureT-loop
-μ-loop s pins cell total count rows₀ at₀ k₀ rows at k = count - k
+μ-loop s numbered total count rows₀ at₀ k₀ rows at k = count - k
 
 loop-holds : tie.Need-loop-holds Inv-loop μ-loop
 unfolding times tableFrom
@@ -59,8 +59,8 @@ read-row-requires : tie.Need-read-row-requires Inv-loop μ-loop
 read-row-requires c κs =
     let a = c .before .before .before .before .before .args in
     let i = c .before .before .loop in
-    let first = 18 * (a .total + i .k) in
-    (omega arith, length-take-le (first + 18 - first) (drop first (i .rows)) (omega (arith, length-drop first (i .rows), i .inv .1)) ∙ omega arith, omega (arith, i .inv .4))
+    let first = rowWords * (a .total + i .k) in
+    (omega arith, length-take-le (first + rowWords - first) (drop first (i .rows)) (omega (arith, length-drop first (i .rows), i .inv .1)) ∙ omega arith, omega (arith, i .inv .4))
 
 add-k : tie.Need-add-k Inv-loop μ-loop
 add-k c = omega arith
@@ -72,12 +72,12 @@ loop-again : tie.Need-loop-again Inv-loop μ-loop
 loop-again c =
     let a = c .before .before .before .before .before .before .before .before .args in
     let i = c .before .before .before .before .before .loop in
-    let first = 18 * (a .total + i .k) in
+    let first = rowWords * (a .total + i .k) in
     let r = c .before .before .read-row in
-    let turn = rows-turn (a .s .now) (a .pins) (a .cell) (a .total) (a .scan) (a .rows .now) (i .k) (i .rows) (r .last .1 .1 .1 .1 .0) (i .at) (r .result) (first + 18 - first)
+    let turn = rows-turn (a .s .now) (a .numbered) (a .total) (a .scan) (a .rows .now) (i .k) (i .rows) (r .last .1 .1 .1 .0) (i .at) (r .result) (first + rowWords - first)
     (omega arith) (omega (arith, i .inv .1)) (i .inv .2) (i .inv .3) (r .ensures) in (
       omega arith,
-      same-len-mid first (first + 18 - first) (i .rows) (r .last .1 .1 .1 .1 .0) (r .kept .1 .1 .1 .1 .0) ∙ i .inv .1,
+      same-len-mid first (first + rowWords - first) (i .rows) (r .last .1 .1 .1 .0) (r .kept .1 .1 .1 .0) ∙ i .inv .1,
       turn .0,
       turn .1,
       omega (arith, r .ensures .near, i .inv .4),
@@ -91,31 +91,12 @@ returns c =
     let a = c .before .before .before .before .args in
     let i = c .before .loop in
     let done : i .k ≡ a .count = omega arith in
-    let x : ℕ → List Shape × Scan = λ k. times k (pattern (a .s .now) (a .pins)) (a .scan) in
+    let x : ℕ → List Shape × Scan = λ k. times k (patternOf (a .s .now) (a .numbered)) (a .scan) in
     record {
       scan-is = i .inv .2 ∙ ap (λ (k : ℕ). x k .1) done;
-      laid = λ q. i .inv .3 q ∙ ap (λ (k : ℕ). tableFrom 18 (a .rows .now) (a .total) (map (row (a .cell)) (x k .0))) done;
+      laid = λ q. i .inv .3 q ∙ ap (λ (k : ℕ). tableFrom rowWords (a .rows .now) (a .total) (map (rowOf (a .numbered)) (x k .0))) done;
       near = omega (arith, i .inv .4);
     }
 
 pub read-rows-spec : {M : Type 1} → statement M
-read-rows-spec =
-    tie.close
-    (tie.spec
-    Inv-loop
-    μ-loop
-    loop-holds
-    cast-first
-    add-first
-    mul-first
-    add-read-row
-    mul-read-row
-    sub-read-row
-    part-read-row-start
-    part-read-row-end
-    read-row-requires
-    add-k
-    loop-less
-    loop-again
-    same-length
-    returns)
+read-rows-spec = tie.close (tie.spec Inv-loop μ-loop loop-holds cast-first add-first mul-first add-read-row mul-read-row sub-read-row part-read-row-start part-read-row-end read-row-requires add-k loop-less loop-again same-length returns)

@@ -5,10 +5,10 @@ use Prim.Native.Nat.{ℕ, suc, _+_}
 use mathlib.Core.Path.{_≡_}
 use mathlib.Core.List.{List}
 use lib.ListN.{set, length-set}
-use Rattle.matching.proofs.write_words.Statement.{statement}
-use Rattle.matching.proofs.write_words.Tie as tie
-use Rattle.matching.proofs.write_words.Reads as reads
-use Rattle.matching.proofs.write_words.Lts as lts
+use Rattle.sheets.proofs.write_words.Statement.{statement}
+use Rattle.sheets.proofs.write_words.Tie as tie
+use Rattle.sheets.proofs.write_words.Reads as reads
+use Rattle.sheets.proofs.write_words.Lts as lts
 
 four : (l : List ℕ) (i a b c d : ℕ) → set (set (set (set l i a) (i + 1) b) (i + 2) c) (i + 3) d ≡ set (set (set (set l i a) (suc i) b) (suc (suc i)) c) (suc (suc (suc i))) d
 four l i a b c d =
