@@ -1,82 +1,97 @@
--- A packed sheet reads back: every field stands at its place, so the cover sheet and the list sheet say what they were made from.
-use Prim.Native.Nat.{ℕ, zero, suc, _+_, _*_, _/_, _%_, _^_, _≤_, _<_}
-use mathlib.Core.Path.{_≡_, refl, sym, ap, _∙_}
-use mathlib.Core.Logic.{inl, inr}
-use mathlib.Core.Bool.{true}
-use borrow.Author.Tests.{eq-eqb}
-use mathlib.Core.List.{List, [], _∷_, _++_, List·Memᴰ, List·Memᴰ·head, List·Memᴰ·tail, append-assoc}
-use native.Mathlib.Nat.{le-refl, zero-add, mul-suc, mod-eq-of-lt, div-eq-of-lt}
-use native.Mathlib.Omega.{arith}
-use lib.ListN.{length, getD, replicate, length-replicate}
-use lib.Pow.{pow-pos}
-use Rattle.bits.specs.Bits.{after, bytesTo, restOf, bitAt, valueAt, endsAt, withField}
-use Rattle.bits.proofs.Laws.{length-field, value-field, value-beside}
+-- The cover sheet and the list sheet say what they were made from: their readers read it back.
+use Prim.Native.Nat.{ℕ, _^_, _<_}
+use mathlib.Core.Path.{refl, ap}
+use mathlib.Core.List.{List, [], _∷_, List·Memᴰ, append-nil}
+use lib.ListN.{length}
 use Rattle.covers.specs.Cover.{Point, Placed, Cover}
-use Rattle.fields.specs.Written.{Field, widths, packed}
-use Rattle.fields.proofs.Written.{packed-ends, reads-at, widths-append}
-use Rattle.covers.proofs.SheetLengths.{placed-widths, point-widths}
-use Rattle.covers.specs.CoverSheet.{placedFields, coverFields, pointFields, listFields, coverSheet, listSheet, CoverReads, ListReads}
+use Rattle.fields.specs.Reading.{Reader, done, _>>=_, times, free, field, ended}
+use Rattle.fields.specs.Written.{Field, packed}
+use Rattle.fields.specs.declared.Scan.{Scan}
+use Rattle.fields.proofs.Laws.{free-small, length-times, times-each}
+use Rattle.fields.proofs.Written.{Says, says-field, says-done, says-then, says-times, says-end, says-all}
+use Rattle.covers.specs.CoverSheet.{areaWidth, arrivalWidth, matchCountWidth, nodeWidth, patternWidth, pointCountWidth, placedFields, coverFields, pointFields, listFields, coverSheet, listSheet, placedRead, coverRead, pointRead, listRead, CoverReads, ListReads}
 
-abbrev field : ℕ → ℕ → Field
-field v w = record { value = v; width = w }
+abbrev fieldOf : ℕ → ℕ → Field
+fieldOf v w = record { value = v; width = w }
 
--- A list whose entries are packed as two fields each, after some others: both fields of entry k stand at their places.
-module _ {A : Type 0} (fields : List A → List Field) (a b : ℕ) (f g : A → ℕ) (row : (x : A) (xs : List A) → fields (x ∷ xs) ≡ field (f x) a ∷ field (g x) b ∷ fields xs) where
-  rows-read : (hs : List Field) (xs : List A) → ((x : A) → List·Memᴰ x xs → (f x < 2 ^ a) × (g x < 2 ^ b)) → (k : ℕ) (d : A) (p q : ℕ) → p ≡ widths hs + (a + b) * k → q ≡ p + a → k < length xs → (valueAt (packed (hs ++ fields xs)) p a ≡ f (getD xs k d)) × (valueAt (packed (hs ++ fields xs)) q b ≡ g (getD xs k d))
-  unfolding widths
-  rows-read hs [] fit k d p q i j h = absurd (omega arith)
-  rows-read hs (x ∷ xs) fit zero d p q i j h =
-      let one = field (f x) a ∷ [] in
-      let whole : hs ++ fields (x ∷ xs) ≡ hs ++ field (f x) a ∷ field (g x) b ∷ fields xs = ap (λ r. hs ++ r) (row x xs) in
-      let r = fit x (List·Memᴰ·head refl) in (
-        reads-at hs (field (f x) a) (field (g x) b ∷ fields xs) (r .0) whole (omega arith),
-        reads-at (hs ++ one) (field (g x) b) (fields xs) (r .1) (whole ∙ sym (append-assoc hs one (field (g x) b ∷ fields xs))) (omega (arith, widths-append hs one)),
-      )
-  rows-read hs (x ∷ xs) fit (suc k) d p q i j h =
-      let two = field (f x) a ∷ field (g x) b ∷ [] in
-      rw (row x xs, ← append-assoc hs two (fields xs)) (rows-read (hs ++ two) xs (λ y m. fit y (List·Memᴰ·tail m)) k d p q (omega (arith, widths-append hs two, mul-suc (a + b) k)) j (omega arith))
+-- An entry of two fields.
+pair-says : {A : Type 0} (all rest : List Field) (make : ℕ → ℕ → A) (w u : ℕ) {v x : ℕ} → v < 2 ^ w → x < 2 ^ u →
+    Says all (field (packed all) w free >>= (λ a. field (packed all) u free >>= (λ b. done (make a b)))) (fieldOf v w ∷ fieldOf x u ∷ []) rest (make v x)
+pair-says all rest make w u {v} {x} h g =
+    says-then (λ a. field (packed all) u free >>= (λ b. done (make a b))) (says-field w h) (says-then (λ b. done (make v b)) (says-field u g) (says-done (make v x)))
 
 -- ---- the cover sheet
 
 -- A cover that its sheet has room for.
 pub record CoverFits (c : Cover) : Type 0 where
-  pub area : c .point .area < 2 ^ 22
-  pub arrival : c .point .arrival < 2 ^ 24
-  pub count : length (c .placed) < 2 ^ 6
-  pub placed : (x : Placed) → List·Memᴰ x (c .placed) → (x .node < 2 ^ 6) × (x .pattern < 2 ^ 7)
+  pub area : c .point .area < 2 ^ areaWidth
+  pub arrival : c .point .arrival < 2 ^ arrivalWidth
+  pub count : length (c .placed) < 2 ^ matchCountWidth
+  pub placed : (x : Placed) → List·Memᴰ x (c .placed) → (x .node < 2 ^ nodeWidth) × (x .pattern < 2 ^ patternWidth)
+
+abbrev makePlaced : ℕ → ℕ → Placed
+makePlaced n p = record { node = n; pattern = p }
+
+abbrev placedEntry : Placed → List Field
+placedEntry x = fieldOf (x .node) nodeWidth ∷ fieldOf (x .pattern) patternWidth ∷ []
 
 pub cover-reads : {c : Cover} → CoverFits c → CoverReads c (coverSheet c)
-unfolding coverSheet coverFields placedFields widths
+unfolding coverSheet coverRead placedRead coverFields placedFields
 cover-reads {c} h =
-    let area = field (c .point .area) 22 in
-    let arrival = field (c .point .arrival) 24 in
-    let count = field (length (c .placed)) 6 in
-    let rest = placedFields (c .placed) in
-    let row = rows-read placedFields 6 7 (λ x. x .node) (λ x. x .pattern) (λ x xs. refl) (area ∷ arrival ∷ count ∷ []) (c .placed) (h .placed) in
+    let all = coverFields c in
+    let s = packed all in
+    let last : ℕ → ℕ → List Placed → Reader Cover = λ a t xs q. (record { point = record { area = a; arrival = t }; placed = xs }, ended s q) in
+    let matches : ℕ → ℕ → ℕ → Reader Cover = λ a t n. times n (placedRead s) >>= last a t in
+    let counted : ℕ → ℕ → Reader Cover = λ a t. field s matchCountWidth free >>= matches a t in
+    let timed : ℕ → Reader Cover = λ a. field s arrivalWidth free >>= counted a in
     record {
-      area = reads-at [] area (arrival ∷ count ∷ rest) (h .area) refl refl;
-      arrival = reads-at (area ∷ []) arrival (count ∷ rest) (h .arrival) refl refl;
-      count = reads-at (area ∷ arrival ∷ []) count rest (h .count) refl refl;
-      node = λ k d i. row k d (52 + 13 * k) (58 + 13 * k) refl (omega arith) i .0;
-      pattern = λ k d i. row k d (52 + 13 * k) (58 + 13 * k) refl (omega arith) i .1;
-      ends = packed-ends (coverFields c) (omega (arith, placed-widths (c .placed)));
+      reads =
+          says-all (ap (λ (fs : List Field). fieldOf (c .point .area) areaWidth ∷ fieldOf (c .point .arrival) arrivalWidth ∷ fieldOf (length (c .placed)) matchCountWidth ∷ fs) (append-nil (placedFields (c .placed))))
+          (says-then timed (says-field areaWidth (h .area))
+          (says-then (counted (c .point .area)) (says-field arrivalWidth (h .arrival))
+          (says-then (matches (c .point .area) (c .point .arrival)) (says-field matchCountWidth (h .count))
+          (says-then (last (c .point .area) (c .point .arrival)) (says-times all placedEntry placedFields refl (λ x xs. refl) (placedRead s) (c .placed) (λ x m ys gs. pair-says all gs makePlaced nodeWidth patternWidth (h .placed x m .0) (h .placed x m .1)))
+          (says-end c)))));
+    }
+
+-- What is read from any bytes fits.
+pub cover-read-fits : (s : List ℕ) (c : Scan) → CoverFits (coverRead s c .0)
+unfolding coverRead placedRead
+cover-read-fits s c =
+    let a = field s areaWidth free c in
+    let t = field s arrivalWidth free (a .1) in
+    let n = field s matchCountWidth free (t .1) in
+    record {
+      area = free-small s areaWidth c;
+      arrival = free-small s arrivalWidth (a .1);
+      count = rw (length-times (n .0) (placedRead s) (n .1)) (free-small s matchCountWidth (t .1));
+      placed = times-each (λ x. (x .node < 2 ^ nodeWidth) × (x .pattern < 2 ^ patternWidth)) (placedRead s)
+          (λ xs q. (free-small s nodeWidth q, free-small s patternWidth (field s nodeWidth free q .1))) (n .0) (n .1);
     }
 
 -- ---- the list sheet
 
 -- Trade-offs that a list sheet has room for.
 pub record ListFits (ps : List Point) : Type 0 where
-  pub count : length ps < 2 ^ 5
-  pub points : (p : Point) → List·Memᴰ p ps → (p .arrival < 2 ^ 24) × (p .area < 2 ^ 22)
+  pub count : length ps < 2 ^ pointCountWidth
+  pub points : (p : Point) → List·Memᴰ p ps → (p .arrival < 2 ^ arrivalWidth) × (p .area < 2 ^ areaWidth)
+
+abbrev makePoint : ℕ → ℕ → Point
+makePoint t a = record { area = a; arrival = t }
+
+abbrev pointEntry : Point → List Field
+pointEntry p = fieldOf (p .arrival) arrivalWidth ∷ fieldOf (p .area) areaWidth ∷ []
 
 pub list-reads : {ps : List Point} → ListFits ps → ListReads ps (listSheet ps)
-unfolding listSheet listFields pointFields widths
+unfolding listSheet listRead pointRead listFields pointFields
 list-reads {ps} h =
-    let count = field (length ps) 5 in
-    let row = rows-read pointFields 24 22 (λ x. x .arrival) (λ x. x .area) (λ x xs. refl) (count ∷ []) ps (h .points) in
+    let all = listFields ps in
+    let s = packed all in
+    let last : List Point → Reader (List Point) = λ xs q. (xs, ended s q) in
     record {
-      count = reads-at [] count (pointFields ps) (h .count) refl refl;
-      arrival = λ k d i. row k d (5 + 46 * k) (29 + 46 * k) refl (omega arith) i .0;
-      area = λ k d i. row k d (5 + 46 * k) (29 + 46 * k) refl (omega arith) i .1;
-      ends = packed-ends (listFields ps) (omega (arith, point-widths ps));
+      reads =
+          says-all (ap (λ (fs : List Field). fieldOf (length ps) pointCountWidth ∷ fs) (append-nil (pointFields ps)))
+          (says-then (λ n. times n (pointRead s) >>= last) (says-field pointCountWidth (h .count))
+          (says-then last (says-times all pointEntry pointFields refl (λ x xs. refl) (pointRead s) ps (λ x m ys gs. pair-says all gs makePoint arrivalWidth areaWidth (h .points x m .0) (h .points x m .1)))
+          (says-end ps)));
     }

@@ -1,55 +1,103 @@
--- The cover sheet and the list sheet as bytes.
-use Prim.Native.Nat.{ℕ, _+_, _*_, _<_}
+-- The cover sheet and the list sheet: their fields, the bytes written, and what reads them.
+use Prim.Native.Nat.{ℕ}
 use mathlib.Core.Path.{_≡_}
-use mathlib.Core.Bool.{true}
 use mathlib.Core.List.{List, [], _∷_}
-use lib.ListN.{length, getD}
-use Rattle.bits.specs.Bits.{valueAt, endsAt}
-use Rattle.fields.specs.Written.{Field, packed}
+use lib.ListN.{length}
+use Rattle.bits.specs.Bits.{cursorAt}
+use Rattle.fields.specs.declared.Scan.the-variants.{At}
+use Rattle.fields.specs.Reading.{Reader, done, _>>=_, times, start, free, field, ended}
+use Rattle.fields.specs.Written.{Field, widths, packed}
 use Rattle.covers.specs.Cover.{Point, Placed, Cover}
 
--- For each match its node, 6, and its pattern, 7.
+-- How wide the fields are, in bits.
+abbrev pub areaWidth : ℕ
+areaWidth = 22
+
+abbrev pub arrivalWidth : ℕ
+arrivalWidth = 24
+
+abbrev pub matchCountWidth : ℕ
+matchCountWidth = 6
+
+abbrev pub nodeWidth : ℕ
+nodeWidth = 6
+
+abbrev pub patternWidth : ℕ
+patternWidth = 7
+
+abbrev pub pointCountWidth : ℕ
+pointCountWidth = 5
+
+-- ---- written
+
+-- "For each match, ascending by node, node and pattern."
 unfoldable pub placedFields : List Placed → List Field
 placedFields [] = []
-placedFields (x ∷ xs) = record { value = x .node; width = 6 } ∷ record { value = x .pattern; width = 7 } ∷ placedFields xs
+placedFields (x ∷ xs) = record { value = x .node; width = nodeWidth } ∷ record { value = x .pattern; width = patternWidth } ∷ placedFields xs
 
--- Area, 22; arrival, 24; match count, 6; then the matches.
+-- "Cover sheet: area; arrival; match count; then" the matches.
 unfoldable pub coverFields : Cover → List Field
 unfolding placedFields
-coverFields c = record { value = c .point .area; width = 22 } ∷ record { value = c .point .arrival; width = 24 } ∷ record { value = length (c .placed); width = 6 } ∷ placedFields (c .placed)
+coverFields c =
+    record { value = c .point .area; width = areaWidth }
+    ∷ record { value = c .point .arrival; width = arrivalWidth }
+    ∷ record { value = length (c .placed); width = matchCountWidth }
+    ∷ placedFields (c .placed)
 
--- For each trade-off its arrival, 24, and its area, 22.
+-- "For each" trade-off "arrival and area."
 unfoldable pub pointFields : List Point → List Field
 pointFields [] = []
-pointFields (p ∷ ps) = record { value = p .arrival; width = 24 } ∷ record { value = p .area; width = 22 } ∷ pointFields ps
+pointFields (p ∷ ps) = record { value = p .arrival; width = arrivalWidth } ∷ record { value = p .area; width = areaWidth } ∷ pointFields ps
 
--- Count, 5; then the trade-offs.
+-- "List sheet: count;" then the trade-offs.
 unfoldable pub listFields : List Point → List Field
 unfolding pointFields
-listFields ps = record { value = length ps; width = 5 } ∷ pointFields ps
+listFields ps = record { value = length ps; width = pointCountWidth } ∷ pointFields ps
 
--- The cover sheet's bytes.
+-- The bytes of either, with "zero bits to the byte".
 unfoldable pub coverSheet : Cover → List ℕ
 unfolding packed coverFields
 coverSheet c = packed (coverFields c)
 
--- The list sheet's bytes.
 unfoldable pub listSheet : List Point → List ℕ
 unfolding packed listFields
 listSheet ps = packed (listFields ps)
 
--- Bytes whose fields say the cover, so that nothing of it is cut off; zero bits to the byte follow, and no byte more.
-pub record CoverReads (c : Cover) (s : List ℕ) : Type 0 where
-  pub area : valueAt s 0 22 ≡ c .point .area
-  pub arrival : valueAt s 22 24 ≡ c .point .arrival
-  pub count : valueAt s 46 6 ≡ length (c .placed)
-  pub node : (k : ℕ) (d : Placed) → k < length (c .placed) → valueAt s (52 + 13 * k) 6 ≡ getD (c .placed) k d .node
-  pub pattern : (k : ℕ) (d : Placed) → k < length (c .placed) → valueAt s (58 + 13 * k) 7 ≡ getD (c .placed) k d .pattern
-  pub ends : endsAt s (52 + 13 * length (c .placed)) ≡ true
+-- ---- read
 
--- Bytes whose fields say the trade-offs, with the same end.
+module _ (s : List ℕ) where
+  unfoldable pub placedRead : List Placed → Reader Placed
+  placedRead before = do
+    node ← field s nodeWidth free
+    pattern ← field s patternWidth free
+    done (record { node = node; pattern = pattern })
+
+  unfoldable pub coverRead : Reader Cover
+  unfolding placedRead
+  coverRead = do
+    area ← field s areaWidth free
+    arrival ← field s arrivalWidth free
+    count ← field s matchCountWidth free
+    xs ← times count placedRead
+    λ c. (record { point = record { area = area; arrival = arrival }; placed = xs }, ended s c)
+
+  unfoldable pub pointRead : List Point → Reader Point
+  pointRead before = do
+    arrival ← field s arrivalWidth free
+    area ← field s areaWidth free
+    done (record { area = area; arrival = arrival })
+
+  unfoldable pub listRead : Reader (List Point)
+  unfolding pointRead
+  listRead = do
+    count ← field s pointCountWidth free
+    ps ← times count pointRead
+    λ c. (ps, ended s c)
+
+-- Bytes that say the cover, so that nothing of it is cut off: reading them gives it, they end after its last field, and nothing is refused.
+pub record CoverReads (c : Cover) (s : List ℕ) : Type 0 where
+  pub reads : coverRead s start ≡ (c, At (cursorAt (widths (coverFields c))))
+
+-- Bytes that say the trade-offs.
 pub record ListReads (ps : List Point) (s : List ℕ) : Type 0 where
-  pub count : valueAt s 0 5 ≡ length ps
-  pub arrival : (k : ℕ) (d : Point) → k < length ps → valueAt s (5 + 46 * k) 24 ≡ getD ps k d .arrival
-  pub area : (k : ℕ) (d : Point) → k < length ps → valueAt s (29 + 46 * k) 22 ≡ getD ps k d .area
-  pub ends : endsAt s (5 + 46 * length ps) ≡ true
+  pub reads : listRead s start ≡ (ps, At (cursorAt (widths (listFields ps))))

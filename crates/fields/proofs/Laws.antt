@@ -1,16 +1,15 @@
 -- Laws about scans and fields: one for each way out of a reader.
 use mathlib.Core.Path.{_≡_, refl, sym, ap, subst, _∙_}
-use mathlib.Core.List.{List, _∷_, [], _++_}
+use mathlib.Core.Logic.{⊎-elim}
+use mathlib.Core.List.{List, _∷_, [], _++_, List·Memᴰ, List·Memᴰ·append-cases, List·Memᴰ·eq-of-singleton, List·Memᴰ·not-nil}
 use mathlib.Core.Bool.{Bool, true, false, cond, _&&_}
-use Prim.Native.Nat.{ℕ, zero, suc, _+_, _*_, _≤_, _<_, _^_}
+use Prim.Native.Nat.{ℕ, zero, suc, _+_, _-_, _*_, _≤_, _<_, _^_}
 use native.Mathlib.Omega.{arith}
-use native.Mathlib.Nat.{lt-of-lt-of-le}
-use lib.Pow.{pow-mono}
-use lib.ListN.{length, getD, length-append}
-use lib.Seq.{slice, slice-cons}
+use lib.Pow.{pow-pos}
+use lib.ListN.{length, length-append}
 use native.Mathlib.Numerals.{add-one}
-use lib.Dec.{leb, eqb}
-use borrow.Author.Tests.{leb-true, leb-false, eq-eqb, ne-eqb}
+use lib.Dec.{leb}
+use borrow.Author.Tests.{leb-true}
 use Rattle.bits.specs.Bits.{placeOf, fieldAt, valueAt, cursorAt, endsAt}
 use Rattle.bits.proofs.Laws.{value-small, place-at}
 use Rattle.bits.specs.declared.Cursor.{Cursor}
@@ -19,7 +18,7 @@ use Rattle.fields.specs.declared.Got.{Got}
 use Rattle.fields.specs.declared.Scan.{Scan}
 use Rattle.fields.specs.declared.Scan.the-variants.{At, Refused}
 use Rattle.fields.specs.declared.Fault.{Fault}
-use Rattle.fields.specs.declared.Fault.the-variants.{Truncated, Tail, Range, Drawing, Size}
+use Rattle.fields.specs.declared.Fault.the-variants.{Truncated, Tail, Range}
 use Rattle.fields.specs.declared.Verdict.{Verdict}
 use Rattle.fields.specs.declared.Verdict.the-variants.{Sound, Faulty}
 use Rattle.fields.specs.Reading.{Reader, times, start, place, free, within, field, taken, settled, ended}
@@ -146,9 +145,12 @@ module _ (s : List ℕ) (w : ℕ) (verdict : ℕ → Verdict) where
       reads-field scan r most
       (ap (λ (g : Got). (g .value, g .scan)) (er ∙ ap (settling scan got) ev) ∙ ap (after scan) e ∙ after-field scan) h
 
--- A field of at most 24 bits.
-pub free-passes : (w : ℕ) → w ≤ 24 → Passes free w 16777215
-free-passes w h x l e = omega (arith, lt-of-lt-of-le l (pow-mono h))
+-- A field of any value has w bits.
+free-passes : (w : ℕ) → Passes free w (2 ^ w - 1)
+free-passes w x l e = omega arith
+
+pub free-small : (s : List ℕ) (w : ℕ) (c : Scan) → field s w free c .0 < 2 ^ w
+free-small s w c = omega (arith, field-small s w free c (2 ^ w - 1) (free-passes w), pow-pos w)
 
 pub both : {r : Got} {x : ℕ × Scan} {reach most : ℕ} → Reads r x reach most → (r .value, r .scan) ≡ x
 both h = λ i. (h .value i, h .scan i)
@@ -162,10 +164,10 @@ module _ (s : List ℕ) (w : ℕ) (verdict : ℕ → Verdict) (c : Scan) {c′ :
   scan-at = h .scan ∙ ap (λ (k : Scan). field s w verdict k .1) e
 
 -- A field of any value, by what was found at the cursor.
-pub reads-taken : (s : List ℕ) (w : ℕ) (scan : Scan) (c : Cursor) (f : FieldRead.FieldRead) (r : Got) → w ≤ 24 → scan ≡ At c → f ≡ fieldAt s (placeOf c) w →
-    (r .value, r .scan) ≡ taken (placeOf c) free f → Reads r (field s w free scan) (place scan + w) 16777215
-reads-taken s w scan c f r h e ef er =
-    reads-field s w free scan r 16777215 (er ∙ ap (taken (placeOf c) free) ef ∙ sym (ap (field s w free) e)) (free-passes w h)
+pub reads-taken : (s : List ℕ) (w : ℕ) (scan : Scan) (c : Cursor) (f : FieldRead.FieldRead) (r : Got) → scan ≡ At c → f ≡ fieldAt s (placeOf c) w →
+    (r .value, r .scan) ≡ taken (placeOf c) free f → Reads r (field s w free scan) (place scan + w) (2 ^ w - 1)
+reads-taken s w scan c f r e ef er =
+    reads-field s w free scan r (2 ^ w - 1) (er ∙ ap (taken (placeOf c) free) ef ∙ sym (ap (field s w free) e)) (free-passes w)
 
 -- What a range lets pass.
 in-range : (least most x : ℕ) → within least most x ≡ Sound → (least ≤ x) × (x ≤ most)
@@ -204,6 +206,14 @@ length-times zero r c = refl
 length-times (suc n) r c =
     length-append (times n r c .0) (r (times n r c .0) (times n r c .1) .0 ∷ []) ∙ ap (λ (k : ℕ). k + 1) (length-times n r c) ∙ add-one n
 
+-- What every turn keeps, all that was read keeps.
+pub times-each : {A : Type 0} (P : A → Type 0) (r : List A → Reader A) → ((xs : List A) (c : Scan) → P (r xs c .0)) → (n : ℕ) (c : Scan) (x : A) → List·Memᴰ x (times n r c .0) → P x
+unfolding times
+times-each P r h zero c x m = absurd (List·Memᴰ·not-nil m)
+times-each P r h (suc n) c x m =
+    let xs = times n r c in
+    ⊎-elim (times-each P r h n c x) (λ k. subst P (sym (List·Memᴰ·eq-of-singleton k)) (h (xs .0) (xs .1))) (List·Memᴰ·append-cases (xs .0) m)
+
 -- One turn more.
 module _ {A : Type 0} (n : ℕ) (r : List A → Reader A) (c : Scan) where
   pub times-value : times (n + 1) r c .0 ≡ times n r c .0 ++ (r (times n r c .0) (times n r c .1) .0 ∷ [])
@@ -213,3 +223,11 @@ module _ {A : Type 0} (n : ℕ) (r : List A → Reader A) (c : Scan) where
   pub times-scan : times (n + 1) r c .1 ≡ r (times n r c .0) (times n r c .1) .1
   unfolding times
   times-scan = rw add-one
+
+-- One turn more, by what the turns before it read.
+pub times-more : {A : Type 0} (n : ℕ) (r : List A → Reader A) (c : Scan) {q q′ : Scan} {xs : List A} {x : A} → times n r c ≡ (xs, q) → r xs q ≡ (x, q′) →
+    times (n + 1) r c ≡ (xs ++ (x ∷ []), q′)
+unfolding times
+times-more {A} n r c {q} {q′} {xs} {x} e e′ =
+    rw add-one
+    (ap (λ (y : List A × Scan). (y .0 ++ (r (y .0) (y .1) .0 ∷ []), r (y .0) (y .1) .1)) e ∙ ap (λ (y : A × Scan). (xs ++ (y .0 ∷ []), y .1)) e′)

@@ -1,18 +1,25 @@
 -- Fields written one after another read back: each stands at its place, and the bytes end after the last.
+-- So a reader made of fields, then, n times and the end reads what was written, field by field.
 use Prim.Native.Nat.{ℕ, zero, suc, _+_, _*_, _/_, _%_, _^_, _≤_, _<_}
 use mathlib.Core.Path.{_≡_, refl, sym, ap, _∙_}
 use mathlib.Core.Logic.{inl, inr}
-use mathlib.Core.Bool.{true}
-use borrow.Author.Tests.{eq-eqb}
-use mathlib.Core.List.{List, [], _∷_, _++_}
-use native.Mathlib.Nat.{le-refl, zero-add, mod-eq-of-lt, div-eq-of-lt}
+use mathlib.Core.Bool.{Bool, true, cond}
+use borrow.Author.Tests.{eq-eqb, le-leb}
+use mathlib.Core.List.{List, [], _∷_, _++_, List·Memᴰ, List·Memᴰ·head, List·Memᴰ·tail, append-assoc, append-nil}
+use native.Mathlib.Nat.{le-refl, zero-add, add-zero, add-assoc, mod-eq-of-lt, div-eq-of-lt}
 use native.Mathlib.Omega.{arith}
-use lib.ListN.{length, replicate, length-replicate}
+use lib.ListN.{length, replicate, length-replicate, length-append}
 use lib.Pow.{pow-pos}
-use Rattle.bits.specs.Bits.{after, bytesTo, restOf, bitAt, valueAt, endsAt, withField}
-use Rattle.bits.proofs.Laws.{length-field, value-field, value-beside}
+use Rattle.bits.specs.Bits.{after, bytesTo, restOf, bitAt, valueAt, cursorAt, fieldAt, endsAt, withField}
+use Rattle.bits.proofs.Laws.{length-field, value-field, value-beside, place-at}
+use Rattle.bits.specs.declared.FieldRead.the-variants.{Value}
+use Rattle.fields.specs.declared.Scan.{Scan}
+use Rattle.fields.specs.declared.Scan.the-variants.{At, Refused}
+use Rattle.fields.specs.declared.Fault.the-variants.{Tail}
+use Rattle.fields.specs.Reading.{Reader, done, _>>=_, times, start, free, taken, field, ended}
 use Rattle.fields.specs.Written.{Field, widths, written, packed}
 use Rattle.fields.proofs.Lists.{zeros-at}
+use Rattle.fields.proofs.Laws.{times-more}
 
 length-written : (fs : List Field) (i : ℕ) (s : List ℕ) → length (written fs i s) ≡ length s
 unfolding written
@@ -69,11 +76,91 @@ packed-ends fs {p} e =
     let rest : valueAt (packed fs) w (restOf w) ≡ 0 = written-after fs 0 (replicate bytes 0) w (restOf w) (omega arith) ∙ value-zeros bytes w (restOf w) in
     rw (e, eq-eqb _ _ (length-packed fs), eq-eqb _ _ rest) refl
 
--- The same of a value that fits, where the fields and the place are known by equations.
-pub reads-at : (fs : List Field) (f : Field) (gs : List Field) {all : List Field} {p : ℕ} → f .value < 2 ^ f .width → all ≡ fs ++ f ∷ gs → p ≡ widths fs → valueAt (packed all) p (f .width) ≡ f .value
-reads-at fs f gs h e i = rw (e, i) (packed-reads fs f gs ∙ mod-eq-of-lt h)
-
 pub widths-append : (fs gs : List Field) → widths (fs ++ gs) ≡ widths fs + widths gs
 unfolding widths
 widths-append [] gs = sym (zero-add (widths gs))
 widths-append (f ∷ fs) gs = omega (arith, widths-append fs gs)
+
+-- ---- what reads a packed sheet
+
+-- The fields gs stand in the sheet of `all` from place i on.
+pub record Stands (all : List Field) (i : ℕ) (gs : List Field) : Type 0 where
+  pub before : List Field
+  pub whole : all ≡ before ++ gs
+  pub place-is : i ≡ widths before
+
+stands-next : {all : List Field} {i : ℕ} (fs : List Field) {gs : List Field} → Stands all i (fs ++ gs) → Stands all (i + widths fs) gs
+stands-next fs {gs} h = record {
+  before = h .before ++ fs;
+  whole = h .whole ∙ sym (append-assoc (h .before) fs gs);
+  place-is = omega (arith, h .place-is, widths-append (h .before) fs);
+}
+
+-- Where fs stand in that sheet, and `rest` after them to its end, the reader r reads a out of fs.
+pub record Says (all : List Field) {A : Type 0} (r : Reader A) (fs rest : List Field) (a : A) : Type 0 where
+  pub reads : (i : ℕ) → Stands all i (fs ++ rest) → r (At (cursorAt i)) ≡ (a, At (cursorAt (i + widths fs)))
+
+-- A field, with a value that fits.
+pub says-field : {all rest : List Field} {v : ℕ} (w : ℕ) → v < 2 ^ w → Says all (field (packed all) w free) (record { value = v; width = w } ∷ []) rest v
+unfolding fieldAt widths
+says-field {all} {rest} {v} w fits = record {
+  reads = λ i h.
+      let f : Field = record { value = v; width = w } in
+      let long : widths all ≡ widths (h .before) + (w + widths rest) = ap widths (h .whole) ∙ widths-append (h .before) (f ∷ rest) in
+      let room : i + w ≤ 8 * length (packed all) = omega (arith, length-packed all, h .place-is) in
+      let value : valueAt (packed all) i w ≡ v = rw (h .whole, h .place-is) (packed-reads (h .before) f rest ∙ mod-eq-of-lt fits) in
+      let found : fieldAt (packed all) i w ≡ Value v (cursorAt (i + w)) = rw (le-leb (i + w) (8 * length (packed all)) room) (ap (λ (x : ℕ). Value x (cursorAt (i + w))) value) in
+      ap (λ (p : ℕ). taken p free (fieldAt (packed all) p w)) (place-at i) ∙ ap (taken i free) found ∙ ap (λ (j : ℕ). (v, At (cursorAt (i + j)))) (sym (add-zero w));
+}
+
+-- A value made of what was read before.
+pub says-done : {all rest : List Field} {A : Type 0} (a : A) → Says all (done a) [] rest a
+unfolding widths
+says-done a = record { reads = λ i h. ap (λ (j : ℕ). (a, At (cursorAt j))) (sym (add-zero i)) }
+
+-- One reader, and then another that may look at what was read.
+pub says-then : {all rest : List Field} {A B : Type 0} {r : Reader A} (k : A → Reader B) {fs gs : List Field} {a : A} {b : B} →
+    Says all r fs (gs ++ rest) a → Says all (k a) gs rest b → Says all (r >>= k) (fs ++ gs) rest b
+says-then {all} {rest} {A} {B} k {fs} {gs} {a} {b} h g = record {
+  reads = λ i z.
+      let z′ = rw (append-assoc fs gs rest) at z in
+      ap (λ (x : A × Scan). k (x .0) (x .1)) (h .reads i z′)
+      ∙ g .reads (i + widths fs) (stands-next fs z′)
+      ∙ ap (λ (j : ℕ). (b, At (cursorAt j))) (add-assoc i (widths fs) (widths gs) ∙ ap (λ (j : ℕ). i + j) (sym (widths-append fs gs)));
+}
+
+-- The entries of a list, packed one after another, are read as often as there are entries.
+module _ {A : Type 0} (all : List Field) (entry : A → List Field) (laid : List A → List Field) (none : laid [] ≡ []) (one : (x : A) (xs : List A) → laid (x ∷ xs) ≡ entry x ++ laid xs) (r : List A → Reader A) where
+  abbrev pub Entries : List A → Type 0
+  Entries zs = (x : A) → List·Memᴰ x zs → (ys : List A) (gs : List Field) → Says all (r ys) (entry x) gs x
+
+  entries-more : (ys zs : List A) (rest : List Field) (c : Scan) (i : ℕ) → Entries zs → times (length ys) r c ≡ (ys, At (cursorAt i)) → Stands all i (laid zs ++ rest) →
+      times (length (ys ++ zs)) r c ≡ (ys ++ zs, At (cursorAt (i + widths (laid zs))))
+  unfolding widths
+  entries-more ys [] rest c i h e z = rw (append-nil ys, none, add-zero) e
+  entries-more ys (x ∷ zs) rest c i h e z =
+      let z′ = rw (append-assoc (entry x) (laid zs) rest) at (rw (one x zs) at z) in
+      let next = times-more (length ys) r c e (h x (List·Memᴰ·head refl) ys (laid zs ++ rest) .reads i z′) in
+      rw (one x zs, widths-append (entry x) (laid zs), ← add-assoc i (widths (entry x)) (widths (laid zs)), ← append-assoc ys (x ∷ []) zs)
+      (entries-more (ys ++ (x ∷ [])) zs rest c (i + widths (entry x)) (λ y m. h y (List·Memᴰ·tail m)) (rw (length-append ys (x ∷ [])) next) (stands-next (entry x) z′))
+
+  pub says-times : (xs : List A) {rest : List Field} → Entries xs → Says all (times (length xs) r) (laid xs) rest xs
+  unfolding times
+  says-times xs {rest} h = record { reads = λ i z. entries-more [] xs rest (At (cursorAt i)) i h refl z }
+
+-- The end of the sheet, after its last field.
+pub says-end : {all : List Field} {A : Type 0} (a : A) → Says all (λ c. (a, ended (packed all) c)) [] [] a
+unfolding widths
+says-end {all} a = record {
+  reads = λ i h.
+      let end : endsAt (packed all) i ≡ true = packed-ends all (h .place-is ∙ sym (ap widths (h .whole ∙ append-nil (h .before)))) in
+      ap (λ (p : ℕ). (a, cond (endsAt (packed all) p) (At (cursorAt i)) (Refused Tail p))) (place-at i)
+      ∙ ap (λ (b : Bool). (a, cond b (At (cursorAt i)) (Refused Tail i))) end
+      ∙ ap (λ (j : ℕ). (a, At (cursorAt j))) (sym (add-zero i));
+}
+
+-- The whole sheet, from its first bit on.
+pub says-all : {all fs : List Field} {A : Type 0} {r : Reader A} {a : A} → fs ≡ all → Says all r fs [] a → r start ≡ (a, At (cursorAt (widths all)))
+unfolding widths
+says-all {all} {fs} {A} {r} {a} e h =
+    h .reads 0 (record { before = []; whole = sym (append-nil fs ∙ e); place-is = refl }) ∙ ap (λ (j : ℕ). (a, At (cursorAt j))) (zero-add (widths fs) ∙ ap widths e)

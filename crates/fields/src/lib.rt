@@ -2,7 +2,7 @@
 use bits::Cursor;
 use bits::FieldRead;
 ghost use mathlib.Core.Path.{_≡_};
-ghost use Prim.Native.Nat.{_+_, _<_, _≤_, _^_};
+ghost use Prim.Native.Nat.{_+_, _-_, _<_, _≤_, _^_};
 ghost use Rattle.fields.specs.Reading.{start, place, free, within, field, ended};
 ghost use Rattle.fields.specs.Promises.{Reads, settling};
 
@@ -54,7 +54,7 @@ pub fn place_of(scan: Scan) -> usize
 // A field of any value.
 pub fn raw(scan: Scan, s: &[u8], width: usize) -> Got
     requires { ⌜ (place scan < 2 ^ 32) × (width ≤ 24) ⌝ }
-    ensures { λ r. ⌜ Reads r (field (now (s .entry)) width free scan) (place scan + width) 16777215 ⌝ }
+    ensures { λ r. ⌜ Reads r (field (now (s .entry)) width free scan) (place scan + width) (2 ^ width - 1) ⌝ }
 {
     let Scan::At(c) = scan else {
         return Got { value: 0, scan };

@@ -35,14 +35,14 @@ returns-2 : tie.Need-returns-2
 returns-2 c =
     let a = c .before .before .before .before .before .before .before .before .args in
     let k = c .before .before .before .before .before .scan .given in
-    reads-taken (a .s .now) (a .width) (a .scan) (k .0 .0) (c .before .before .field .result) _ (omega arith) (k .1) (c .before .before .field .ensures)
+    reads-taken (a .s .now) (a .width) (a .scan) (k .0 .0) (c .before .before .field .result) _ (k .1) (c .before .before .field .ensures)
     (ap (λ (p : ℕ). (0, Refused Truncated p)) (c .before .before .before .place .ensures) ∙ ap (taken (placeOf (k .0 .0)) free) (sym (c .enum-told2 .given .1)))
 
 returns-3 : tie.Need-returns-3
 returns-3 c =
     let a = c .before .before .before .before .before .before .before .before .before .args in
     let k = c .before .before .before .before .before .before .scan .given in
-    reads-taken (a .s .now) (a .width) (a .scan) (k .0 .0) (c .before .before .before .field .result) _ (omega arith) (k .1) (c .before .before .before .field .ensures)
+    reads-taken (a .s .now) (a .width) (a .scan) (k .0 .0) (c .before .before .before .field .result) _ (k .1) (c .before .before .before .field .ensures)
     (ap (taken (placeOf (k .0 .0)) free) (sym (c .before .value .given .1)))
 
 pub raw-spec : {M : Type 1} → statement M

@@ -1,8 +1,9 @@
 use borrow.Author.Needs.{needs}
 use native.Mathlib.Omega.{arith}
-use Prim.Native.Nat.{_+_}
+use Prim.Native.Nat.{_+_, _^_, _≤_}
 use mathlib.Core.Path.{subst, sym}
 use lib.ListN.{take}
+use lib.Pow.{pow-mono}
 use Rattle.fields.specs.Reading.{place, field}
 use Rattle.shapes.specs.Drawing.{leafVerdict}
 use Rattle.fields.specs.Promises.{Reads, Live}
@@ -40,7 +41,9 @@ raw-requires : tie.Need-raw-requires
 raw-requires c κs = search needs
 
 leaf-verdict-requires : tie.Need-leaf-verdict-requires
-leaf-verdict-requires c κs = search needs
+leaf-verdict-requires c κs =
+    let top : 2 ^ c .before .before .before .before .before .before .before .args .rules .width ≤ 16777216 = pow-mono (c .before .before .before .before .before .before .before .pre .0 .width) in
+    search needs
 
 settle-requires : tie.Need-settle-requires
 settle-requires c κs = search needs

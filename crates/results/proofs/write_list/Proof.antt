@@ -1,13 +1,13 @@
 use borrow.Author.Needs.{needs}
 use native.Mathlib.Omega.{arith}
-use Rattle.writing.proofs.Laws.{list-written}
-use Rattle.writing.proofs.write_list.Statement.{statement}
-use Rattle.writing.proofs.write_list.Tie as tie
-use Rattle.writing.proofs.write_list.Reads as reads
-use Rattle.writing.proofs.write_list.Lts as lts
+use Rattle.results.proofs.Laws.{list-written}
+use Rattle.results.proofs.write_list.Statement.{statement}
+use Rattle.results.proofs.write_list.Tie as tie
+use Rattle.results.proofs.write_list.Reads as reads
+use Rattle.results.proofs.write_list.Lts as lts
 use Rattle.bits.proofs.put.Reads as put-reads
-use Rattle.writing.proofs.clear.Reads as clear-reads
-use Rattle.writing.proofs.put_points.Reads as put-points-reads
+use Rattle.results.proofs.clear.Reads as clear-reads
+use Rattle.results.proofs.put_points.Reads as put-points-reads
 
 mul-bytes : tie.Need-mul-bytes
 mul-bytes c = search needs
@@ -39,7 +39,7 @@ returns c =
     let cleared = c .before .before .before .before .before .before .before .before .before .before .clear in
     let one = c .before .before .before .before .before .before .put in
     let done = c .before .before .put-points in
-    list-written (a .work .now) (a .count) (omega arith) (a .output .now) (cleared .last .0) (one .last .0) (done .last .0) (cleared .ensures) (one .ensures) (done .ensures)
+    list-written (a .points .now) (a .count) (omega arith) (a .output .now) (cleared .last .0) (one .last .0) (done .last .0) (cleared .ensures) (one .ensures) (done .ensures)
 
 pub write-list-spec : {M : Type 1} → statement M
 write-list-spec =

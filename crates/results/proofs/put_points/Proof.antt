@@ -4,23 +4,23 @@ use mathlib.Core.Path.{_≡_, refl, _∙_}
 use lib.ListN.{length}
 use Rattle.covers.specs.CoverSheet.{pointFields}
 use Rattle.fields.specs.Written.{written}
-use Rattle.writing.specs.Written.{pointsOf}
-use Rattle.writing.proofs.Laws.{point-turn, points-done}
-use Rattle.writing.proofs.put_points.Statement.{statement}
-use Rattle.writing.proofs.put_points.Tie as tie
-use Rattle.writing.proofs.put_points.Reads as reads
-use Rattle.writing.proofs.put_points.Lts as lts
+use Rattle.results.specs.Public.{pointsOf}
+use Rattle.results.proofs.Laws.{point-turn, points-done}
+use Rattle.results.proofs.put_points.Statement.{statement}
+use Rattle.results.proofs.put_points.Tie as tie
+use Rattle.results.proofs.put_points.Reads as reads
+use Rattle.results.proofs.put_points.Lts as lts
 use Rattle.bits.proofs.put.Reads as put-reads
 
 abbrev Inv-loop : tie.InvT-loop
-Inv-loop output₀ work count at₀ k₀ output at k =
+Inv-loop output₀ points count at₀ k₀ output at k =
     (k ≤ count)
     × (at + 46 * k ≡ 5 + 46 * count)
     × (length output ≡ length output₀)
-    × (written (pointFields (pointsOf k work)) at output ≡ written (pointFields (pointsOf count work)) 5 output₀)
+    × (written (pointFields (pointsOf k points)) at output ≡ written (pointFields (pointsOf count points)) 5 output₀)
 
 abbrev μ-loop : tie.MeasureT-loop
-μ-loop output₀ work count at₀ k₀ output at k = k
+μ-loop output₀ points count at₀ k₀ output at k = k
 
 loop-holds : tie.Need-loop-holds Inv-loop μ-loop
 loop-holds c = (omega arith, omega arith, refl, refl)
@@ -61,7 +61,7 @@ loop-again c =
     let i = c .before .before .before .before .before .before .before .before .before .before .loop in
     let one = c .before .before .before .before .before .before .put in
     let two = c .before .before .put2 in
-    let turn = point-turn (a .work .now) (i .k) (omega arith) (omega arith) (i .at) (i .output) (one .last .0) (two .last .0) (one .ensures) (two .ensures) in
+    let turn = point-turn (a .points .now) (i .k) (omega arith) (omega arith) (i .at) (i .output) (one .last .0) (two .last .0) (one .ensures) (two .ensures) in
     (omega arith, omega arith, turn .0 ∙ i .inv .2, turn .1 ∙ i .inv .3)
 
 same-length : tie.Need-same-length Inv-loop μ-loop
@@ -72,7 +72,7 @@ returns c =
     let a = c .before .before .before .before .args in
     let i = c .before .loop in
     let done : i .k ≡ 0 = omega arith in
-    points-done (a .work .now) (i .k) (i .at) (i .output) done ∙ i .inv .3
+    points-done (a .points .now) (i .k) (i .at) (i .output) done ∙ i .inv .3
 
 pub put-points-spec : {M : Type 1} → statement M
 put-points-spec =

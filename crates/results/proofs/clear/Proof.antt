@@ -1,10 +1,10 @@
 use native.Mathlib.Omega.{arith}
 use Prim.Native.Nat.{_≤_, _-_}
-use Rattle.writing.proofs.Laws.{Cleared, clear-none, clear-turn, clear-done}
-use Rattle.writing.proofs.clear.Statement.{statement}
-use Rattle.writing.proofs.clear.Tie as tie
-use Rattle.writing.proofs.clear.Reads as reads
-use Rattle.writing.proofs.clear.Lts as lts
+use Rattle.results.proofs.Laws.{Cleared, clear-none, clear-turn, clear-done}
+use Rattle.results.proofs.clear.Statement.{statement}
+use Rattle.results.proofs.clear.Tie as tie
+use Rattle.results.proofs.clear.Reads as reads
+use Rattle.results.proofs.clear.Lts as lts
 
 abbrev Inv-loop : tie.InvT-loop
 Inv-loop output₀ count k₀ output k = (k ≤ count) × Cleared output₀ k output

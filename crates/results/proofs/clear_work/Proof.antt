@@ -1,16 +1,16 @@
 use native.Mathlib.Omega.{arith}
 use Prim.Native.Nat.{_≤_, _-_}
-use Rattle.writing.proofs.Laws.{Cleared, clear-none, clear-turn, clear-done}
-use Rattle.writing.proofs.clear_work.Statement.{statement}
-use Rattle.writing.proofs.clear_work.Tie as tie
-use Rattle.writing.proofs.clear_work.Reads as reads
-use Rattle.writing.proofs.clear_work.Lts as lts
+use Rattle.results.proofs.Laws.{Cleared, clear-none, clear-turn, clear-done}
+use Rattle.results.proofs.clear_work.Statement.{statement}
+use Rattle.results.proofs.clear_work.Tie as tie
+use Rattle.results.proofs.clear_work.Reads as reads
+use Rattle.results.proofs.clear_work.Lts as lts
 
 abbrev Inv-loop : tie.InvT-loop
-Inv-loop work₀ k₀ work k = (k ≤ 8192) × Cleared work₀ k work
+Inv-loop work₀ count k₀ work k = (k ≤ count) × Cleared work₀ k work
 
 abbrev μ-loop : tie.MeasureT-loop
-μ-loop work₀ k₀ work k = 8192 - k
+μ-loop work₀ count k₀ work k = count - k
 
 loop-holds : tie.Need-loop-holds Inv-loop μ-loop
 loop-holds c = (omega arith, clear-none (c .args .work .now))
@@ -37,8 +37,9 @@ same-length c = omega arith
 
 returns : tie.Need-returns Inv-loop μ-loop
 returns c =
+    let a = c .before .before .args in
     let i = c .before .loop in
-    clear-done (c .before .before .args .work .now) (i .work) (i .k) 8192 (omega arith) (i .inv .1)
+    clear-done (a .work .now) (i .work) (i .k) (a .count) (omega arith) (i .inv .1)
 
 pub clear-work-spec : {M : Type 1} → statement M
 clear-work-spec =

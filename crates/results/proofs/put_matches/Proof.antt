@@ -3,11 +3,11 @@ use Prim.Native.Nat.{_≤_, _-_, _+_, _*_}
 use mathlib.Core.Path.{_≡_, refl, _∙_}
 use lib.ListN.{length}
 use Rattle.fields.specs.Written.{written}
-use Rattle.writing.proofs.Laws.{matchesFrom, match-turn, matches-done}
-use Rattle.writing.proofs.put_matches.Statement.{statement}
-use Rattle.writing.proofs.put_matches.Tie as tie
-use Rattle.writing.proofs.put_matches.Reads as reads
-use Rattle.writing.proofs.put_matches.Lts as lts
+use Rattle.results.proofs.Laws.{matchesFrom, match-turn, matches-done}
+use Rattle.results.proofs.put_matches.Statement.{statement}
+use Rattle.results.proofs.put_matches.Tie as tie
+use Rattle.results.proofs.put_matches.Reads as reads
+use Rattle.results.proofs.put_matches.Lts as lts
 use Rattle.bits.proofs.put.Reads as put-reads
 
 abbrev Inv-loop : tie.InvT-loop

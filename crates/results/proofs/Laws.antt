@@ -1,22 +1,34 @@
--- Laws about elements made zero and fields written one after another.
+-- Laws about elements made zero, fields written one after another, and a cover read.
 use Prim.Native.Nat.{ℕ, zero, suc, _+_, _-_, _*_, _/_, _%_, _≤_, _<_}
 use mathlib.Core.Path.{_≡_, refl, sym, ap, ap₂, _∙_}
 use mathlib.Core.List.{List, [], _∷_, _++_, map, map-append, reverse, reverse-append, zipWith}
-use native.Mathlib.Nat.{add-assoc, le-of-suc-le-suc}
+use native.Mathlib.Nat.{zero-add, add-assoc, le-of-suc-le-suc}
 use native.Mathlib.Omega.{arith}
 use native.Mathlib.Numerals.{add-one}
 use borrow.Author.Fill.{fill-none, fill-more}
 use lib.ListN.{length, take, drop, getD, set, replicate, length-set, length-replicate, length-reverse, length-map, List·getD-append}
 use lib.Seq.{set-append-left, slice, slice-cons, slice-empty, take-suc, length-take-le}
-use Rattle.bits.specs.Bits.{after, withDigit, withBit, withField, bytesTo}
+use Rattle.bits.specs.Bits.{cursorAt, after, withDigit, withBit, withField, bytesTo}
 use Rattle.bits.proofs.Laws.{length-bit, length-field}
-use Rattle.covers.specs.Cover.{Point}
+use Rattle.fields.specs.declared.Scan.{Scan}
+use Rattle.fields.specs.declared.Got.{Got}
+use Rattle.fields.specs.Reading.{start, times, free, field, ended}
+use Rattle.fields.specs.Promises.{Reads}
+use Rattle.fields.proofs.Lists.{take-sets}
+use Rattle.fields.proofs.Laws.{value-at, scan-at, length-times}
+use Rattle.sheets.specs.Layout.{padded}
+use Rattle.fields.specs.declared.Scan.the-variants.{At}
+use Rattle.covers.specs.Cover.{Point, Placed, Cover}
 use Rattle.fields.specs.Written.{Field, widths, written, packed}
 use Rattle.fields.proofs.Written.{length-packed}
-use Rattle.covers.specs.CoverSheet.{placedFields, coverFields, pointFields, listFields, coverSheet, listSheet}
+use Rattle.covers.specs.CoverSheet.{areaWidth, arrivalWidth, matchCountWidth, placedFields, coverFields, pointFields, listFields, coverSheet, listSheet, placedRead, coverRead, CoverReads}
 use Rattle.covers.proofs.SheetLengths.{cover-sheet-length, list-sheet-length}
 use Rattle.covers.specs.Curve.{base, pointOf}
-use Rattle.writing.specs.Written.{placedOf, coverOf, pointsOf, Written}
+use Rattle.results.specs.declared.CoverRecord.{CoverRecord}
+use Rattle.results.specs.declared.CoverRead.{CoverRead}
+use Rattle.results.specs.declared.MatchesRead.{MatchesRead}
+use Rattle.results.specs.Public.{placedOf, coverOf, pointsOf, Written, CoverIs}
+use Rattle.results.specs.Inside.{MatchesAre}
 
 -- ---- elements made zero from the front on
 
@@ -107,35 +119,38 @@ pub matches-done : (ns ps : List ℕ) (k count i : ℕ) (s : List ℕ) → k ≡
 unfolding written placedFields placedOf zipWith
 matches-done ns ps k count i s e = rw (e, slice-empty count ns)
 
-placed-length : (count : ℕ) (ns ps : List ℕ) → count ≤ length ns → count ≤ length ps → length (placedOf (take count ns) (take count ps)) ≡ count
+pub placed-length : (count : ℕ) (ns ps : List ℕ) → count ≤ length ns → count ≤ length ps → length (placedOf (take count ns) (take count ps)) ≡ count
 unfolding placedOf zipWith
 placed-length zero ns ps hn hp = refl
 placed-length (suc k) [] ps hn hp = absurd (omega arith)
 placed-length (suc k) (n ∷ ns) [] hn hp = absurd (omega arith)
 placed-length (suc k) (n ∷ ns) (p ∷ ps) hn hp = ap suc (placed-length k ns ps (le-of-suc-le-suc hn) (le-of-suc-le-suc hp))
 
--- The first three fields, then the matches.
-pub cover-written : (area arrival : ℕ) (ns ps : List ℕ) (count : ℕ) → count ≤ length ns → count ≤ length ps → (entry s₀ s₁ s₂ s₃ exit : List ℕ) →
-    let n = (52 + 13 * count + 7) / 8 in
-    let xs = placedOf (take count ns) (take count ps) in
-    s₀ ≡ replicate n 0 ++ drop n entry → s₁ ≡ withField s₀ 0 22 area → s₂ ≡ withField s₁ 22 24 arrival → s₃ ≡ withField s₂ 46 6 count → exit ≡ written (placedFields xs) 52 s₃ →
-    Written (coverSheet (coverOf area arrival xs)) entry exit n
-unfolding coverSheet coverFields
-cover-written area arrival ns ps count hn hp entry s₀ s₁ s₂ s₃ exit e₀ e₁ e₂ e₃ e =
-    let n = (52 + 13 * count + 7) / 8 in
-    let xs = placedOf (take count ns) (take count ps) in
-    let c = coverOf area arrival xs in
-    let many : length xs ≡ count = placed-length count ns ps hn hp in
-    let matches : Field = record { value = length xs; width = 6 } in
-    let late : Field = record { value = arrival; width = 24 } in
-    let wide : Field = record { value = area; width = 22 } in
-    sheet-written (coverFields c) entry exit n
-    (ap (λ (k : ℕ). (52 + 13 * k + 7) / 8) (sym many) ∙ sym (cover-sheet-length c))
-    (e
-    ∙ field-put matches (placedFields xs) 46 s₂ s₃ (e₃ ∙ ap (withField s₂ 46 6) (sym many))
-    ∙ field-put late (matches ∷ placedFields xs) 22 s₁ s₂ e₂
-    ∙ field-put wide (late ∷ matches ∷ placedFields xs) 0 s₀ s₁ e₁
-    ∙ ap (written (coverFields c) 0) e₀)
+-- A cover as the code keeps it, with room for its matches.
+module _ (r : CoverRecord) (hn : r .count ≤ length (r .nodes)) (hp : r .count ≤ length (r .patterns)) where
+  many : length (coverOf r .placed) ≡ r .count
+  many = placed-length (r .count) (r .nodes) (r .patterns) hn hp
+
+  pub cover-length : length (coverSheet (coverOf r)) ≡ (52 + 13 * r .count + 7) / 8
+  cover-length = cover-sheet-length (coverOf r) ∙ ap (λ (k : ℕ). (52 + 13 * k + 7) / 8) many
+
+  -- The first three fields, then the matches.
+  pub cover-written : (entry s₀ s₁ s₂ s₃ exit : List ℕ) →
+      let n = (52 + 13 * r .count + 7) / 8 in
+      s₀ ≡ replicate n 0 ++ drop n entry → s₁ ≡ withField s₀ 0 22 (r .area) → s₂ ≡ withField s₁ 22 24 (r .arrival) → s₃ ≡ withField s₂ 46 6 (r .count) →
+      exit ≡ written (placedFields (coverOf r .placed)) 52 s₃ → Written (coverSheet (coverOf r)) entry exit n
+  unfolding coverSheet coverFields
+  cover-written entry s₀ s₁ s₂ s₃ exit e₀ e₁ e₂ e₃ e =
+      let c = coverOf r in
+      let xs = c .placed in
+      let matches : Field = record { value = length xs; width = 6 } in
+      let late : Field = record { value = r .arrival; width = 24 } in
+      sheet-written (coverFields c) entry exit ((52 + 13 * r .count + 7) / 8) (sym cover-length)
+      (e
+      ∙ field-put matches (placedFields xs) 46 s₂ s₃ (e₃ ∙ ap (withField s₂ 46 6) (sym many))
+      ∙ field-put late (matches ∷ placedFields xs) 22 s₁ s₂ e₂
+      ∙ field-put (record { value = r .area; width = 22 }) (late ∷ matches ∷ placedFields xs) 0 s₀ s₁ e₁
+      ∙ ap (written (coverFields c) 0) e₀)
 
 -- ---- the list sheet
 
@@ -164,22 +179,68 @@ pub points-done : (ws : List ℕ) (k i : ℕ) (s : List ℕ) → k ≡ 0 → s �
 unfolding written pointFields pointsOf
 points-done ws k i s e = rw e
 
-points-length : (count : ℕ) (ws : List ℕ) → count ≤ length ws → length (pointsOf count ws) ≡ count
+pub points-length : (count : ℕ) (ws : List ℕ) → count ≤ length ws → length (pointsOf count ws) ≡ count
 unfolding pointsOf
 points-length count ws h = length-reverse (map pointOf (take count ws)) ∙ length-map (take count ws) pointOf ∙ length-take-le count ws h
 
--- The count, then the points.
-pub list-written : (ws : List ℕ) (count : ℕ) → count ≤ length ws → (entry s₀ s₁ exit : List ℕ) →
-    let n = (5 + 46 * count + 7) / 8 in
-    let ps = pointsOf count ws in
-    s₀ ≡ replicate n 0 ++ drop n entry → s₁ ≡ withField s₀ 0 5 count → exit ≡ written (pointFields ps) 5 s₁ → Written (listSheet ps) entry exit n
-unfolding listSheet listFields
-list-written ws count h entry s₀ s₁ exit e₀ e₁ e =
-    let n = (5 + 46 * count + 7) / 8 in
-    let ps = pointsOf count ws in
-    let many : length ps ≡ count = points-length count ws h in
-    sheet-written (listFields ps) entry exit n
-    (ap (λ (k : ℕ). (5 + 46 * k + 7) / 8) (sym many) ∙ sym (list-sheet-length ps))
-    (e
-    ∙ field-put (record { value = length ps; width = 5 }) (pointFields ps) 0 s₀ s₁ (e₁ ∙ ap (withField s₀ 0 5) (sym many))
-    ∙ ap (written (listFields ps) 0) e₀)
+module _ (ws : List ℕ) (count : ℕ) (h : count ≤ length ws) where
+  pub list-length : length (listSheet (pointsOf count ws)) ≡ (5 + 46 * count + 7) / 8
+  list-length = list-sheet-length (pointsOf count ws) ∙ ap (λ (k : ℕ). (5 + 46 * k + 7) / 8) (points-length count ws h)
+
+  -- The count, then the points.
+  pub list-written : (entry s₀ s₁ exit : List ℕ) →
+      let n = (5 + 46 * count + 7) / 8 in
+      let ps = pointsOf count ws in
+      s₀ ≡ replicate n 0 ++ drop n entry → s₁ ≡ withField s₀ 0 5 count → exit ≡ written (pointFields ps) 5 s₁ → Written (listSheet ps) entry exit n
+  unfolding listSheet listFields
+  list-written entry s₀ s₁ exit e₀ e₁ e =
+      let ps = pointsOf count ws in
+      sheet-written (listFields ps) entry exit ((5 + 46 * count + 7) / 8) (sym list-length)
+      (e
+      ∙ field-put (record { value = length ps; width = 5 }) (pointFields ps) 0 s₀ s₁ (e₁ ∙ ap (withField s₀ 0 5) (sym (points-length count ws h)))
+      ∙ ap (written (listFields ps) 0) e₀)
+
+-- ---- a cover read
+
+-- The first n elements of an array that holds n.
+take-padded : (l : List ℕ) (n m : ℕ) → length l ≡ n → n ≤ m → take n (padded m 0 l) ≡ l
+take-padded l n m e h =
+    ap (λ (k : ℕ). take k (padded m 0 l)) (sym e ∙ sym (zero-add (length l))) ∙ take-sets (replicate m 0) 0 l (omega (arith, length-replicate {A = ℕ} m 0))
+
+placed-parts : (xs : List Placed) → placedOf (map (λ (x : Placed). x .node) xs) (map (λ (x : Placed). x .pattern) xs) ≡ xs
+unfolding placedOf zipWith
+placed-parts [] = refl
+placed-parts (x ∷ xs) = ap (λ (l : List Placed). x ∷ l) (placed-parts xs)
+
+-- By what the parts promise: the three fields, the matches, the end.
+pub cover-read : (s : List ℕ) (area arrival count : Got) (ms : MatchesRead) (c end : Scan) {i j k a t n : ℕ} → c ≡ start →
+    Reads area (field s areaWidth free c) i a → Reads arrival (field s arrivalWidth free (area .scan)) j t → Reads count (field s matchCountWidth free (arrival .scan)) k n → n ≤ 63 →
+    MatchesAre s (count .value) (count .scan) ms → end ≡ ended s (ms .scan) →
+    CoverIs s (record { scan = end; cover = record { area = area .value; arrival = arrival .value; count = count .value; nodes = ms .nodes; patterns = ms .patterns } })
+unfolding coverRead
+cover-read s area arrival count ms c end e ha ht hn few hm he =
+    let ea = scan-at s areaWidth free c ha e in
+    let et = scan-at s arrivalWidth free (area .scan) ht ea in
+    let vn = value-at s matchCountWidth free (arrival .scan) hn et in
+    let en = scan-at s matchCountWidth free (arrival .scan) hn et in
+    let small : count .value ≤ 63 = omega (arith, hn .small) in
+    let x = times (count .value) (placedRead s) (count .scan) in
+    let many = length-times (count .value) (placedRead s) (count .scan) in
+    let same = ap₂ (λ (m : ℕ) (q : Scan). times m (placedRead s) q) vn en in
+    let placed : placedOf (take (count .value) (ms .nodes)) (take (count .value) (ms .patterns)) ≡ x .0 =
+    ap₂ (λ (ns ps : List ℕ). placedOf ns ps)
+    (ap (take (count .value)) (hm .nodes) ∙ take-padded (map (λ (y : Placed). y .node) (x .0)) (count .value) 64 (length-map (x .0) (λ (y : Placed). y .node) ∙ many) (omega arith))
+    (ap (take (count .value)) (hm .patterns) ∙ take-padded (map (λ (y : Placed). y .pattern) (x .0)) (count .value) 64 (length-map (x .0) (λ (y : Placed). y .pattern) ∙ many) (omega arith))
+    ∙ placed-parts (x .0) in
+    record {
+      scan-is = he ∙ ap (ended s) (hm .scan-is ∙ ap (λ (y : List Placed × Scan). y .1) same);
+      cover-is = λ d. record {
+        point = record { area = value-at s areaWidth free c ha e d; arrival = value-at s arrivalWidth free (area .scan) ht ea d };
+        placed = (placed ∙ ap (λ (y : List Placed × Scan). y .0) same) d;
+      };
+      few = small;
+    }
+
+-- Bytes that say a cover are read as that cover, and not refused.
+pub cover-back : {c : Cover} {s : List ℕ} {r : CoverRead} → CoverReads c s → CoverIs s r → (coverOf (r .cover) ≡ c) × (r .scan ≡ At (cursorAt (widths (coverFields c))))
+cover-back h g = (g .cover-is ∙ ap (λ (x : Cover × Scan). x .0) (h .reads), g .scan-is ∙ ap (λ (x : Cover × Scan). x .1) (h .reads))

@@ -1,0 +1,2 @@
+-- Laws that the proofs of `results` cite.
+pub mod Laws

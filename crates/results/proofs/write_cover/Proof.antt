@@ -1,0 +1,86 @@
+use borrow.Author.Needs.{needs}
+use native.Mathlib.Omega.{arith}
+use Prim.Native.Nat.{_≤_}
+use mathlib.Core.Path.{_≡_}
+use lib.ListN.{length}
+use Rattle.results.proofs.Laws.{cover-written}
+use Rattle.results.proofs.write_cover.Statement.{statement}
+use Rattle.results.proofs.write_cover.Tie as tie
+use Rattle.results.proofs.write_cover.Reads as reads
+use Rattle.results.proofs.write_cover.Lts as lts
+use Rattle.bits.proofs.put.Reads as put-reads
+use Rattle.results.proofs.clear.Reads as clear-reads
+use Rattle.results.proofs.put_matches.Reads as put-matches-reads
+
+-- the arrays have room: said at the start, because later places hold too much to search
+room : (c : tie.Start) → (c .args .cover .count ≤ length (c .args .cover .nodes)) × (c .args .cover .count ≤ length (c .args .cover .patterns))
+room c =
+    let n : length (c .args .cover .nodes) ≡ 64 = search needs in
+    let p : length (c .args .cover .patterns) ≡ 64 = search needs in
+    (omega arith, omega arith)
+
+mul-bytes : tie.Need-mul-bytes
+mul-bytes c = search needs
+
+add-bytes : tie.Need-add-bytes
+add-bytes c = search needs
+
+add-bytes-2 : tie.Need-add-bytes-2
+add-bytes-2 c = search needs
+
+clear-requires : tie.Need-clear-requires
+clear-requires c κs = search needs
+
+put-requires : tie.Need-put-requires
+put-requires c κs = search needs
+
+put-requires-2 : tie.Need-put-requires-2
+put-requires-2 c κs = search needs
+
+cast-put : tie.Need-cast-put
+cast-put c = search needs
+
+put-requires-3 : tie.Need-put-requires-3
+put-requires-3 c κs = search needs
+
+slice-aggregate-put-matches : tie.Need-slice-aggregate-put-matches
+slice-aggregate-put-matches c = search needs
+
+slice-aggregate-put-matches-2 : tie.Need-slice-aggregate-put-matches-2
+slice-aggregate-put-matches-2 c = search needs
+
+put-matches-requires : tie.Need-put-matches-requires
+put-matches-requires c κs = let all = room (c .before .before .before .before .before .before .before .before .before .before .before .before .before .before .before .before .before .before .before .before .before .before) in omega arith
+
+same-length : tie.Need-same-length
+same-length c = search needs
+
+returns : tie.Need-returns
+returns c =
+    let a = c .before .before .before .before .before .before .before .before .before .before .before .before .before .before .before .before .before .before .before .before .before .before .before .before .before .args in
+    let all = room (c .before .before .before .before .before .before .before .before .before .before .before .before .before .before .before .before .before .before .before .before .before .before .before .before .before) in
+    let cleared = c .before .before .before .before .before .before .before .before .before .before .before .before .before .before .before .before .before .before .before .before .clear in
+    let one = c .before .before .before .before .before .before .before .before .before .before .before .before .before .before .before .before .put in
+    let two = c .before .before .before .before .before .before .before .before .before .before .before .before .put2 in
+    let three = c .before .before .before .before .before .before .before .before .put3 in
+    let done = c .before .before .put-matches in
+    cover-written (a .cover) (all .0) (all .1) (a .output .now) (cleared .last .0) (one .last .0) (two .last .0) (three .last .0) (done .last .0)
+    (cleared .ensures) (one .ensures) (two .ensures) (three .ensures) (done .ensures)
+
+pub write-cover-spec : {M : Type 1} → statement M
+write-cover-spec =
+    tie.close
+    (tie.spec
+    mul-bytes
+    add-bytes
+    add-bytes-2
+    clear-requires
+    put-requires
+    put-requires-2
+    cast-put
+    put-requires-3
+    slice-aggregate-put-matches
+    slice-aggregate-put-matches-2
+    put-matches-requires
+    same-length
+    returns)

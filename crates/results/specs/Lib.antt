@@ -1,0 +1,3 @@
+-- What the contracts of `results` say.
+pub mod Public
+pub mod Inside

@@ -1,0 +1,43 @@
+-- What is written and read: covers and points as the code keeps them, and a sheet at the front of an output.
+use Prim.Native.Nat.{ℕ, _+_, _*_, _≤_}
+use mathlib.Core.Path.{_≡_}
+use mathlib.Core.List.{List, _++_, map, reverse, zipWith}
+use lib.ListN.{length, take, drop}
+use Rattle.fields.specs.Reading.{start}
+use Rattle.covers.specs.Cover.{Point, Placed, Cover}
+use Rattle.covers.specs.Curve.{pointOf}
+use Rattle.covers.specs.CoverSheet.{areaWidth, arrivalWidth, matchCountWidth, nodeWidth, patternWidth, pointCountWidth, coverRead}
+use Rattle.results.specs.declared.CoverRecord.{CoverRecord}
+use Rattle.results.specs.declared.CoverRead.{CoverRead}
+
+-- Matches from their nodes and their patterns.
+unfoldable pub placedOf : List ℕ → List ℕ → List Placed
+unfolding zipWith
+placedOf = zipWith (λ n p. record { node = n; pattern = p })
+
+-- The cover that a record keeps.
+abbrev pub coverOf : CoverRecord → Cover
+coverOf r = record { point = record { area = r .area; arrival = r .arrival }; placed = placedOf (take (r .count) (r .nodes)) (take (r .count) (r .patterns)) }
+
+-- The points of the first `count` words, the last word's first.
+unfoldable pub pointsOf : ℕ → List ℕ → List Point
+unfolding pointOf
+pointsOf count words = reverse (map pointOf (take count words))
+
+-- How many bits the sheet of a cover with so many matches takes, and the list sheet of so many points.
+abbrev pub coverBits : ℕ → ℕ
+coverBits count = areaWidth + arrivalWidth + matchCountWidth + (nodeWidth + patternWidth) * count
+
+abbrev pub listBits : ℕ → ℕ
+listBits count = pointCountWidth + (arrivalWidth + areaWidth) * count
+
+-- The sheet stands at the front of the output, all after it is kept, and r is the sheet's length.
+pub record Written (sheet entry exit : List ℕ) (r : ℕ) : Type 0 where
+  pub bytes : r ≡ length sheet
+  pub output : exit ≡ sheet ++ drop (length sheet) entry
+
+-- The bytes s were read as a cover sheet: where the scan stands or was refused, and the cover (after a refusal, what was read before it).
+pub record CoverIs (s : List ℕ) (r : CoverRead) : Type 0 where
+  pub scan-is : r .scan ≡ coverRead s start .1
+  pub cover-is : coverOf (r .cover) ≡ coverRead s start .0
+  pub few : r .cover .count ≤ 63

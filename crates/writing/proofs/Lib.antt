@@ -1,2 +1,0 @@
--- Laws that the proofs of `writing` cite.
-pub mod Laws

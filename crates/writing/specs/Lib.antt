@@ -1,2 +1,0 @@
--- What the contracts of `writing` say.
-pub mod Written
