@@ -7,8 +7,8 @@ use mathlib.Core.Option.{Option, none, some, Option·map, Option·none-ne-some, 
 use native.Mathlib.Numerals.{add-one}
 use native.Mathlib.Nat.{add-zero, add-assoc}
 use native.Mathlib.Omega.{arith}
-use lib.ListN.{length, getD, set, take, length-append, length-map}
-use lib.Seq.{sets, take-suc, take-all}
+use lib.ListN.{length, getD, take, drop, length-append, length-map}
+use lib.Seq.{sets, sets-eq, take-suc, take-all, take-append-seam}
 use Rattle.fields.proofs.Lists.{sets-append, at-mem}
 use Rattle.sheets.specs.Model.{Shape, Pin, Cell, Library, Tree}
 use Rattle.covers.specs.Lists.{firstSuch}
@@ -26,17 +26,19 @@ use Rattle.covers.proofs.Listing.{few-matches}
 use Rattle.covers.proofs.Nodes.{input-in, nodes-within}
 use Rattle.covers.proofs.Bounds.{match-cell}
 use Rattle.covers.proofs.FromSheets.{binned}
-use Rattle.choosing.specs.declared.CoverRecord.{CoverRecord}
+use Rattle.filling.proofs.Node.{leaf-here}
+use Rattle.results.specs.declared.CoverRecord.{CoverRecord}
+use Rattle.results.specs.Public.{placedOf, coverOf}
+use Rattle.results.proofs.Laws.{placed-parts}
 use Rattle.choosing.specs.declared.Goal.{Goal}
 use Rattle.choosing.specs.declared.Inputs.{Inputs}
 use Rattle.choosing.specs.Promises.{noInput, goalOf, goalAt, InputsAre, Prepared, below, Driven, Chooses, appended}
-use Rattle.choosing.proofs.Stub.{leaf-here}
 use Rattle.choosing.proofs.Gate.{parts, size-at, ready}
 
 -- The matches of a choice, if there is one.
-unfoldable pub placedOf : Option Cover → List Placed
-placedOf none = []
-placedOf (some c) = c .placed
+unfoldable pub chosenPlaced : Option Cover → List Placed
+chosenPlaced none = []
+chosenPlaced (some c) = c .placed
 
 module _ (l : Library) (cell : Cell) (load t : ℕ) where
   -- The choice of one input, and the matches of the choices of several.
@@ -45,7 +47,7 @@ module _ (l : Library) (cell : Cell) (load t : ℕ) where
 
   unfoldable pub inputsPlaced : List Input → List Placed
   inputsPlaced [] = []
-  inputsPlaced (i ∷ is) = placedOf (inputChoice i) ++ inputsPlaced is
+  inputsPlaced (i ∷ is) = chosenPlaced (inputChoice i) ++ inputsPlaced is
 
   -- Each input is chosen, and the whole lists what they list.
   pub each-chosen : (is : List Input) {d : Cover} → chosenInputs (under l (choice l)) cell load t is ≡ some d → (i : Input) → List·Memᴰ i is → (c : Cover) × (inputChoice i ≡ some c)
@@ -60,30 +62,30 @@ module _ (l : Library) (cell : Cell) (load t : ℕ) where
       each-chosen is (r .3) i k
 
   pub all-placed : (is : List Input) {d : Cover} → chosenInputs (under l (choice l)) cell load t is ≡ some d → d .placed ≡ inputsPlaced is
-  unfolding chosenInputs under inputsPlaced placedOf nothing together delayed
+  unfolding chosenInputs under inputsPlaced chosenPlaced nothing together delayed
   all-placed [] e = ap (λ (c : Cover). c .placed) (sym (Option·some-injective _ _ e))
   all-placed (j ∷ is) {d} e =
       let r = chosen-some (Option·map (delayed (inputDelay cell load j)) (inputChoice j)) (chosenInputs (under l (choice l)) cell load t is) e in
       let k = map-eq-some-iff (delayed (inputDelay cell load j)) (inputChoice j) .0 (r .2) in
       ap (λ (c : Cover). c .placed) (r .4)
-      ∙ ap₂ (λ (xs ys : List Placed). xs ++ ys) (ap (λ (c : Cover). c .placed) (sym (k .2)) ∙ sym (ap placedOf (k .1))) (all-placed is (r .3))
+      ∙ ap₂ (λ (xs ys : List Placed). xs ++ ys) (ap (λ (c : Cover). c .placed) (sym (k .2)) ∙ sym (ap chosenPlaced (k .1))) (all-placed is (r .3))
 
-  placed-last : (js : List Input) (i : Input) → inputsPlaced (js ++ (i ∷ [])) ≡ inputsPlaced js ++ placedOf (inputChoice i)
+  placed-last : (js : List Input) (i : Input) → inputsPlaced (js ++ (i ∷ [])) ≡ inputsPlaced js ++ chosenPlaced (inputChoice i)
   unfolding inputsPlaced
-  placed-last [] i = append-nil (placedOf (inputChoice i))
-  placed-last (j ∷ js) i = ap (λ (xs : List Placed). placedOf (inputChoice j) ++ xs) (placed-last js i) ∙ sym (append-assoc (placedOf (inputChoice j)) (inputsPlaced js) (placedOf (inputChoice i)))
+  placed-last [] i = append-nil (chosenPlaced (inputChoice i))
+  placed-last (j ∷ js) i = ap (λ (xs : List Placed). chosenPlaced (inputChoice j) ++ xs) (placed-last js i) ∙ sym (append-assoc (chosenPlaced (inputChoice j)) (inputsPlaced js) (chosenPlaced (inputChoice i)))
 
-  pub placed-more : (is : List Input) (k : ℕ) → k < length is → inputsPlaced (take (k + 1) is) ≡ inputsPlaced (take k is) ++ placedOf (inputChoice (getD is k noInput))
+  pub placed-more : (is : List Input) (k : ℕ) → k < length is → inputsPlaced (take (k + 1) is) ≡ inputsPlaced (take k is) ++ chosenPlaced (inputChoice (getD is k noInput))
   placed-more is k h = ap (λ (j : ℕ). inputsPlaced (take j is)) (add-one k) ∙ ap inputsPlaced (take-suc is k noInput h) ∙ placed-last (take k is) (getD is k noInput)
 
   -- No more matches than gates, so what is listed before an input leaves room for it.
-  pub spread-few : {low high g : ℕ} {is : List Input} → Spread low high g is → ((i : Input) → List·Memᴰ i is → length (placedOf (inputChoice i)) ≤ gates (i .shape)) → (k : ℕ) → k < length is →
+  pub spread-few : {low high g : ℕ} {is : List Input} → Spread low high g is → ((i : Input) → List·Memᴰ i is → length (chosenPlaced (inputChoice i)) ≤ gates (i .shape)) → (k : ℕ) → k < length is →
       length (inputsPlaced (take k is)) + gates (getD is k noInput .shape) ≤ g
   unfolding inputsPlaced
   spread-few (last a) h k l = absurd (omega arith)
   spread-few (next {i = i} {is = is} a b s) h zero l = omega arith
   spread-few (next {i = i} {is = is} a b s) h (suc k) l =
-      omega (arith, length-append (placedOf (inputChoice i)) (inputsPlaced (take k is)), h i (List·Memᴰ·head refl), spread-few s (λ j m. h j (List·Memᴰ·tail m)) k (omega arith))
+      omega (arith, length-append (chosenPlaced (inputChoice i)) (inputsPlaced (take k is)), h i (List·Memᴰ·head refl), spread-few s (λ j m. h j (List·Memᴰ·tail m)) k (omega arith))
 
 -- ---- a cover's record
 
@@ -104,6 +106,18 @@ appended-more c xs ys =
     run f l =
         ap (λ (n : ℕ). sets (sets l (c .count) (map f xs)) (c .count + n) (map f ys)) (sym (length-map xs f))
         ∙ sym (sets-append l (c .count) (map f xs) (map f ys)) ∙ ap (sets l (c .count)) (sym (map-append f xs ys))
+
+-- The cover that a record with no match is, with matches appended.
+pub appended-cover : (c : CoverRecord) (xs : List Placed) → c .count ≡ 0 → length xs ≤ length (c .nodes) → length xs ≤ length (c .patterns) →
+    coverOf (appended c xs) ≡ record { point = record { area = c .area; arrival = c .arrival }; placed = xs }
+appended-cover c xs e hn hp =
+    ap (λ (ps : List Placed). record { point = record { area = c .area; arrival = c .arrival }; placed = ps }) (ap₂ placedOf (front (λ x. x .node) (c .nodes) hn) (front (λ x. x .pattern) (c .patterns) hp) ∙ placed-parts xs)
+  where
+    front : (f : Placed → ℕ) (ns : List ℕ) → length xs ≤ length ns → take (c .count + length xs) (sets ns (c .count) (map f xs)) ≡ map f xs
+    front f ns h =
+        let vs = map f xs in
+        let many : c .count + length xs ≡ length vs = omega (arith, length-map xs f, e) in
+        ap₂ (λ (n i : ℕ). take n (sets ns i vs)) many e ∙ ap (take (length vs)) (sets-eq vs ns 0 (omega (arith, length-map xs f))) ∙ take-append-seam vs (drop (0 + length vs) ns)
 
 -- ---- the match at a gate
 
@@ -166,7 +180,7 @@ pub record Following (most : ℕ) (l : Library) (t : Tree) (rows ss zs : List �
 module _ {most : ℕ} {l : Library} {t : Tree} {rows ss zs : List ℕ} {room : ℕ} {work : List ℕ} {n : ℕ} {inputs : Inputs} {start : ℕ} (top : Topmost most l t rows ss zs room work n inputs start)
     {k : ℕ} (inside : k < inputs .count) {cover : CoverRecord} (so-far : cover .count ≡ start + length (placedTo top k)) {room′ : ℕ} (same : room ≡ room′) {next : Goal} (asked : next ≡ goalAt inputs k) where
   pub following : Following most l t rows ss zs room′ work n next cover (placedTo top k) (placedTo top (k + 1))
-  unfolding placedOf
+  unfolding chosenPlaced
   following =
       let m = top .match in
       let cell = m .pattern .cell in
@@ -190,7 +204,7 @@ module _ {most : ℕ} {l : Library} {t : Tree} {rows ss zs : List ℕ} {room : �
         smaller = omega (arith, size-at (ready (top .prepared) driven), size-at (record { decoded = top .prepared .decoded; here = top .here; room-is = top .prepared .room-is }), input-smaller (top .fitting) mem);
         chosen = c .0;
         choice-is = c .1;
-        more = placed-more l cell (top .load) (top .time) (m .inputs) k is ∙ ap (λ (o : Option Cover). placedTo top k ++ placedOf o) (c .1);
+        more = placed-more l cell (top .load) (top .time) (m .inputs) k is ∙ ap (λ (o : Option Cover). placedTo top k ++ chosenPlaced o) (c .1);
       })
     where
       pin-bin : (i : Input) → feeds (top .match .pattern .cell) i .bin < length (l .bins)
@@ -201,8 +215,8 @@ module _ {most : ℕ} {l : Library} {t : Tree} {rows ss zs : List ℕ} {room : �
       pin-load : (p : Pin) → pinLoad l p ≡ getD (l .bins) (p .bin) 0
       pin-load p = unfold pinLoad in refl
 
-      few-placed : (j : Input) → (c : Cover) × (inputChoice l (top .match .pattern .cell) (top .load) (top .time) j ≡ some c) → length (placedOf (inputChoice l (top .match .pattern .cell) (top .load) (top .time) j)) ≤ gates (j .shape)
-      few-placed j x = unfold placedOf in
+      few-placed : (j : Input) → (c : Cover) × (inputChoice l (top .match .pattern .cell) (top .load) (top .time) j ≡ some c) → length (chosenPlaced (inputChoice l (top .match .pattern .cell) (top .load) (top .time) j)) ≤ gates (j .shape)
+      few-placed j x = unfold chosenPlaced in
           let cell = top .match .pattern .cell in
           rw (x .1) (few-matches (choice-handed l (pinLoad l (feeds cell j)) (j .node) (j .shape) (top .time - inputDelay cell (top .load) j) (x .1) .legal))
 

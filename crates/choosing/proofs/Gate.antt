@@ -3,7 +3,7 @@ use Prim.Native.Nat.{ℕ, zero, suc, _+_, _*_, _%_, _≤_, _<_}
 use mathlib.Core.Path.{_≡_, refl, sym, ap, ap₂, subst, _∙_}
 use mathlib.Core.Logic.{_⊎_, inl, inr, _↔_}
 use mathlib.Core.Bool.{Bool, true, false, cond, _&&_, false≢true}
-use mathlib.Core.List.{List, [], _∷_, map, List·Memᴰ}
+use mathlib.Core.List.{List, [], _∷_, List·Memᴰ}
 use mathlib.Core.Option.{Option, none, some, Option·none-ne-some, Option·some-injective, map-eq-some-iff}
 use native.Mathlib.Decide.{ℕ-discrete}
 use native.Mathlib.Numerals.{add-one}
@@ -15,7 +15,7 @@ use Rattle.covers.specs.Lists.{select, firstSuch}
 use Rattle.covers.specs.Match.{Match, legal, fitting, matches}
 use Rattle.covers.specs.Cover.{Point, Cover, topped}
 use Rattle.covers.specs.Enumeration.{matchCovers, under, covers, allBelow}
-use Rattle.covers.specs.Tradeoff.{Node, nodes}
+use Rattle.covers.specs.Tradeoff.{Node}
 use Rattle.covers.specs.Choice.{least, reaches, chosenInputs, withInputs, firstReaching, gateChoice, choice}
 use Rattle.covers.specs.Curve.{Filled, base, curve, gates, lookup, pointOf}
 use Rattle.covers.proofs.Basics.{lt-or-le, at-all, at-below, in-select}
@@ -30,14 +30,16 @@ use Rattle.covers.proofs.Overfull.{nodes-ascend}
 use Rattle.covers.proofs.Curve.{curve-is, lookup-is-least}
 use Rattle.covers.proofs.Filling.{fromTable, reaches-from-table}
 use Rattle.covers.proofs.FromSheets.{binned}
+use Rattle.matching.specs.Found.{matchWords, matchRow}
+use Rattle.matching.specs.Promises.{Ready}
 use Rattle.matching.proofs.Patterns.{fitting-sound}
 use Rattle.matching.proofs.Walking.{stands-size}
 use Rattle.curves.specs.Words.{absent, pointLimit, tableOf}
-use Rattle.curves.specs.Best.{rowWords, rowOf, legalBest, RowSafe, Matches}
+use Rattle.curves.specs.Best.{rowOf, legalBest, RowSafe}
 use Rattle.curves.specs.Promises.{Worth}
 use Rattle.curves.proofs.Laws.{part-length}
-use Rattle.choosing.specs.Stub.{matchRow, Ready}
-use Rattle.choosing.proofs.Stub.{legal-is, row-is-match, noMatch, here, node-within, gate-here, headed, FoundIs, matchAt, match-in, row-holds, rows-ready}
+use Rattle.filling.proofs.Rows.{legal-is, row-is-match}
+use Rattle.filling.proofs.Node.{noMatch, here, node-within, gate-here, headed, FoundIs, match-in, row-holds, rows-ready}
 use Rattle.choosing.specs.declared.Goal.{Goal}
 use Rattle.choosing.specs.declared.Inputs.{Inputs}
 use Rattle.choosing.specs.Promises.{FirstRow, RowHolds, InputsAre, Prepared, Drives, at-root, below, Driven}
@@ -217,10 +219,10 @@ module _ {most : ℕ} {l : Library} {t : Tree} {rows ss zs found₀ work : List 
 -- The row that was picked for a word, and its match.
 pub record Picked (l : Library) (goal : Goal) (s : Shape) (found : List ℕ) (w r : ℕ) : Type 0 where
   pub match : Match
-  pub inside : rowWords * r + rowWords ≤ length found
+  pub inside : matchWords * r + matchWords ≤ length found
   pub held : RowHolds l (rowOf found r) match
   pub safe : RowSafe (rowOf found r)
-  pub long : length (rowOf found r) ≡ rowWords
+  pub long : length (rowOf found r) ≡ matchWords
   pub number : getD (rowOf found r) 0 0 < 128
   pub word : least (suc (goal .time)) (covers l (goal .load) (goal .node) s) ≡ some (pointOf w)
   pub first : firstReaching l (goal .load) (goal .node) s (pointOf w) ≡ some match
@@ -234,13 +236,13 @@ picked {l = l} dec {goal} {s} drv small {found} are w r worth f =
     let q = first-found dec drv are w g e r f in
     let held = row-held dec drv are r (q .0) in
     let safe = rows-ready (ready dec drv) are (dec .area) in
-    let within : rowWords * r + rowWords ≤ length found = omega (arith, q .0, safe .room) in
+    let within : matchWords * r + matchWords ≤ length found = omega (arith, q .0, safe .room) in
     record {
       match = getD (fitting l (goal .node) s) r noMatch;
       inside = within;
       held = held;
       safe = safe .rows r (q .0);
-      long = part-length rowWords (rowWords * r) found within;
+      long = part-length matchWords (matchWords * r) found within;
       number = omega (arith, number-small dec drv are r (q .0), pattern-at l (rowOf found r) (getD (fitting l (goal .node) s) r noMatch) held);
       word = e;
       first = q .1;

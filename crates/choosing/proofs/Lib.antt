@@ -1,5 +1,4 @@
 -- The laws of `choosing`, in reading order.
-pub mod Stub
 pub mod Reading
 pub mod Gate
 pub mod Below

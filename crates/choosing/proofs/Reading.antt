@@ -14,12 +14,12 @@ use Rattle.covers.specs.Match.{Match, delay}
 use Rattle.covers.specs.Cover.{Point, inputDelay}
 use Rattle.covers.specs.Curve.{pointOf, wordOf}
 use Rattle.covers.proofs.Basics.{lt-or-le}
+use Rattle.matching.specs.Found.{inputSize, inputPlace, inputWords, matchRow}
+use Rattle.matching.proofs.Written.{length-row, row-input}
 use Rattle.curves.specs.Words.{absent, pointLimit, matchLimit}
-use Rattle.curves.specs.Best.{rowCount, inputSize, inputPlace, inputNode, inputBin, inputLoad, inputIntrinsic, inputDrive}
+use Rattle.curves.specs.Best.{rowCount, inputNode, inputBin, inputLoad, inputIntrinsic, inputDrive}
 use Rattle.curves.specs.Promises.{Worth}
 use Rattle.curves.proofs.Laws.{word-point}
-use Rattle.choosing.specs.Stub.{inputWords, matchRow}
-use Rattle.choosing.proofs.Stub.{length-row, row-input}
 use Rattle.choosing.specs.declared.Goal.{Goal}
 use Rattle.choosing.specs.Promises.{RowHolds, goalOf, noInput}
 

@@ -1,5 +1,5 @@
 -- What the choice of a cover is lent and what it promises, by the choice rule.
-use Prim.Native.Nat.{ℕ, suc, _+_, _-_, _*_, _%_, _≤_, _<_}
+use Prim.Native.Nat.{ℕ, suc, _+_, _-_, _%_, _≤_, _<_}
 use mathlib.Core.Path.{_≡_}
 use mathlib.Core.List.{List, map, List·Memᴰ}
 use mathlib.Core.Option.{some}
@@ -12,11 +12,12 @@ use Rattle.covers.specs.Enumeration.{covers}
 use Rattle.covers.specs.Tradeoff.{nodes}
 use Rattle.covers.specs.Choice.{least}
 use Rattle.covers.specs.Curve.{base, gates, pointOf}
+use Rattle.matching.specs.Found.{matchTable, matchRow}
+use Rattle.matching.specs.Promises.{Decoded}
 use Rattle.curves.specs.Words.{WorkArea}
-use Rattle.curves.specs.Best.{rowWords, rowOf, legalBest}
+use Rattle.curves.specs.Best.{rowOf, legalBest}
 use Rattle.curves.specs.Stored.{Stored}
-use Rattle.choosing.specs.Stub.{matchRow, Decoded, matchTable}
-use Rattle.choosing.specs.declared.CoverRecord.{CoverRecord}
+use Rattle.results.specs.declared.CoverRecord.{CoverRecord}
 use Rattle.choosing.specs.declared.Goal.{Goal}
 use Rattle.choosing.specs.declared.Inputs.{Inputs}
 

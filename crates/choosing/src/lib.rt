@@ -1,39 +1,22 @@
 // The choice of a cover under a required time, from the curves in the work area.
-use curves::Row;
 use curves::Words;
+use matching::Row;
+use results::CoverRecord;
 use sheets::Limits;
 ghost use mathlib.Core.Path.{_≡_};
-ghost use mathlib.Core.List.{[], _∷_, map};
+ghost use mathlib.Core.List.{[], _∷_};
 ghost use mathlib.Core.Option.{some};
 ghost use Prim.Native.Nat.{suc, _+_, _-_, _*_, _<_, _≤_};
 ghost use lib.ListN.{length, getD};
 ghost use Rattle.sheets.specs.Model.{Shape, Library, Tree};
-ghost use Rattle.covers.specs.Match.{Match, fitting};
+ghost use Rattle.covers.specs.Match.{Match};
 ghost use Rattle.covers.specs.Cover.{Point, Cover};
 ghost use Rattle.covers.specs.Enumeration.{covers};
 ghost use Rattle.covers.specs.Choice.{least, firstReaching, choice};
 ghost use Rattle.curves.specs.Words.{pointLimit};
-ghost use Rattle.curves.specs.Best.{rowWords, RowSafe, Matches};
-ghost use Rattle.sheets.specs.Layout.{tableFrom};
-ghost use Rattle.choosing.specs.Stub.{Ready, matchRow, matchWords};
+ghost use Rattle.curves.specs.Best.{RowSafe, Matches};
+ghost use Rattle.matching.specs.Found.{matchWords};
 ghost use Rattle.choosing.specs.Promises.{FirstRow, RowHolds, goalAt, InputsAre, Prepared, Driven, Chooses, appended};
-
-pub struct CoverRecord {
-    pub area: u32,
-    pub arrival: u32,
-    pub count: usize,
-    pub nodes: [u8; 64],
-    pub patterns: [u8; 64],
-}
-
-pub fn find_matches<'a>(rows: &'a [u32], symbols: &'a [u32], sizes: &'a [u8], n: usize, table: &mut [u32]) -> usize
-    requires { ⌜ ((l : Library) × ((t : Tree) × ((s : Shape) × Ready l t (now rows) (now symbols) (now sizes) n (length (now table)) s))) ⌝ }
-    ensures { λ r. ⌜ ((l : Library) (t : Tree) (s : Shape) → Ready l t (now (rows .entry)) (now (symbols .entry)) (now (sizes .entry)) n (length (now (table .entry))) s →
-        (r ≡ length (fitting l n s))
-        × (now (table .exit) ≡ tableFrom matchWords (now (table .entry)) 0 (map (matchRow l) (fitting l n s)))) ⌝ }
-{
-    0
-}
 
 // What is asked of a node: the load that it drives, the bin of that load and the time by which it is to arrive. At the root, whose load need
 // not be that of a bin, bin 0 has the curve.
@@ -101,7 +84,7 @@ fn time_left(time: u32, intrinsic: u32, drive: u32, load: u32) -> u32
 
 // The inputs of the match in a row, which drives a load and is to arrive by `time`.
 fn read_inputs(row: &[u32], load: u32, time: u32) -> Inputs
-    requires { ⌜ RowSafe (now row) × (length (now row) ≡ rowWords) × (getD (now row) 0 0 < 128) × (load ≤ 255) ⌝ }
+    requires { ⌜ RowSafe (now row) × (length (now row) ≡ matchWords) × (getD (now row) 0 0 < 128) × (load ≤ 255) ⌝ }
     ensures { λ r. ⌜ ((l : Library) (m : Match) → RowHolds l (now (row .entry)) m → InputsAre l m load time r) ⌝ }
 {
     let mut nodes = [0u8; 16];
@@ -149,7 +132,7 @@ fn choose_match<'a>(
         Words::BINS * goal.node + goal.bin,
         (goal.time + 1) as u64,
     );
-    let count = find_matches(rows, symbols, sizes, goal.node, found);
+    let count = matching::find_matches(rows, symbols, sizes, goal.node, found);
     let first = Row::WORDS * first_reaching(found, count, symbols, work, most, load, w);
     read_inputs(
         &found[first..first + Row::WORDS],

@@ -1,15 +1,15 @@
 -- The choice of a cover. It ends because the nodes in the subtree fall; what it lists is by the laws of `Below`.
 use native.Mathlib.Omega.{arith}
 use Prim.Native.Nat.{ℕ, _+_, _-_, _≤_, _<_}
-use mathlib.Core.Path.{_≡_, refl, sym, ap, subst, _∙_}
+use mathlib.Core.Path.{_≡_, refl, sym, ap, _∙_}
 use mathlib.Core.List.{List, [], _∷_}
 use mathlib.Core.Option.{some}
 use lib.ListN.{length, getD}
 use Rattle.sheets.specs.Model.{Shape, Library, Tree}
 use Rattle.covers.specs.Cover.{Placed, Cover}
 use Rattle.covers.specs.Choice.{choice}
-use Rattle.choosing.specs.declared.CoverRecord.{CoverRecord}
-use Rattle.choosing.proofs.Stub.{gate-here}
+use Rattle.results.specs.declared.CoverRecord.{CoverRecord}
+use Rattle.filling.proofs.Node.{gate-here}
 use Rattle.choosing.specs.Promises.{Chooses, appended}
 use Rattle.choosing.proofs.Gate.{Limits, limits, ready, chosen-there}
 use Rattle.choosing.proofs.Below.{Topmost, placedTo, few-inputs, placed-start, placed-all, Following, following, leaf-appended, gate-top, appended-none, appended-more}

@@ -7,16 +7,16 @@ use lib.ListN.{length, getD, take, drop}
 use Rattle.sheets.specs.Model.{Shape, Library, Tree}
 use Rattle.covers.specs.Match.{Match}
 use Rattle.covers.specs.Curve.{base}
-use Rattle.curves.specs.Best.{rowWords, RowSafe}
-use Rattle.choosing.specs.Stub.{matchTable}
-use Rattle.choosing.proofs.Stub.{FoundIs, gate-here, rows-ready}
+use Rattle.matching.specs.Found.{matchWords, matchTable}
+use Rattle.curves.specs.Best.{RowSafe}
+use Rattle.filling.proofs.Node.{FoundIs, gate-here, rows-ready}
 use Rattle.choosing.specs.Promises.{RowHolds, InputsAre, Prepared, Driven}
 use Rattle.choosing.proofs.Gate.{Limits, limits, ready, word-found, Picked, picked, picked-inputs}
 use Rattle.choosing.proofs.choose_match.Statement.{statement}
 use Rattle.choosing.proofs.choose_match.Tie as tie
 use Rattle.choosing.proofs.choose_match.Reads as reads
 use Rattle.choosing.proofs.choose_match.Lts as lts
-use Rattle.choosing.proofs.find_matches.Reads as find-matches-reads
+use Rattle.matching.proofs.find_matches.Reads as find-matches-reads
 use Rattle.choosing.proofs.first_reaching.Reads as first-reaching-reads
 use Rattle.choosing.proofs.read_inputs.Reads as read-inputs-reads
 use Rattle.curves.proofs.look_up.Reads as look-up-reads
@@ -45,7 +45,7 @@ own-row : (c : lts.After-first-reaching claims reads.Pre reads.Post) → let p =
 own-row c = let p = c .before .before .before .before .before .before .before .before .before .before .before .before .before .before .before .pre in the-row c (p .0) (p .1 .0) (p .1 .1 .0) (p .1 .1 .1 .0) (p .1 .1 .1 .1)
 
 -- It is within the table, which is not long.
-few : (c : lts.After-first-reaching claims reads.Pre reads.Post) → rowWords * c .first-reaching .result + rowWords ≤ matchTable
+few : (c : lts.After-first-reaching claims reads.Pre reads.Post) → matchWords * c .first-reaching .result + matchWords ≤ matchTable
 few c = omega (arith, own-row c .inside, c .before .before .before .before .find-matches .kept .1 .1 .1 .1 .0, c .before .before .before .before .before .before .before .before .before .before .before .before .before .before .before .pre .1 .1 .1 .0 .room-is)
 
 mul-look-up : tie.Need-mul-look-up
@@ -103,8 +103,8 @@ read-inputs-requires c κs =
     let k = own-row (c .before .before) in
     let r = c .before .before .first-reaching .result in
     let t = c .before .before .before .before .before .before .find-matches .last .1 .1 .1 .1 .0 in
-    let part : rowWords * r + rowWords - rowWords * r ≡ rowWords = omega arith in
-    subst (λ (n : ℕ). let row = take n (drop (rowWords * r) t) in RowSafe row × (length row ≡ rowWords) × (getD row 0 0 < 128) × (c .before .before .before .before .before .before .before .before .before .before .before .before .before .before .before .before .before .args .goal .load ≤ 255)) (sym part)
+    let part : matchWords * r + matchWords - matchWords * r ≡ matchWords = omega arith in
+    subst (λ (n : ℕ). let row = take n (drop (matchWords * r) t) in RowSafe row × (length row ≡ matchWords) × (getD row 0 0 < 128) × (c .before .before .before .before .before .before .before .before .before .before .before .before .before .before .before .before .before .args .goal .load ≤ 255)) (sym part)
     (k .safe, k .long, k .number, near (c .before .before .before .before .before .before .before .before .before .before .before .before .before .before .before .before .before) .load-small)
 
 same-length : tie.Need-same-length
@@ -117,9 +117,9 @@ returns c = λ l t s dec drv.
     let f = c .before .before .before .before .before .before .before .find-matches .last .1 .1 .1 .1 .0 in
     let w = c .before .before .before .before .before .before .before .before .before .look-up .result in
     let x = c .read-inputs .result in
-    let part : rowWords * r + rowWords - rowWords * r ≡ rowWords = omega arith in
+    let part : matchWords * r + matchWords - matchWords * r ≡ matchWords = omega arith in
     picked-inputs (the-row (c .before .before .before) l t s dec drv) x
-    (subst (λ (n : ℕ). (l : Library) (m : Match) → RowHolds l (take n (drop (rowWords * r) f)) m → InputsAre l m (a .goal .load) (w % base) x) part (c .read-inputs .ensures))
+    (subst (λ (n : ℕ). (l : Library) (m : Match) → RowHolds l (take n (drop (matchWords * r) f)) m → InputsAre l m (a .goal .load) (w % base) x) part (c .read-inputs .ensures))
 
 pub choose-match-spec : {M : Type 1} → statement M
 choose-match-spec =

@@ -1,12 +1,11 @@
 -- The loop over the found rows, left with the first that reaches: none before it does.
 use native.Mathlib.Omega.{arith}
 use Prim.Native.Nat.{ℕ, _+_, _-_, _%_, _≤_, _<_}
-use mathlib.Core.Path.{_≡_, sym, subst}
+use mathlib.Core.Path.{_≡_, subst}
 use mathlib.Core.Logic.{_⊎_, inl, inr}
-use mathlib.Core.List.{List}
 use Rattle.covers.proofs.Basics.{lt-or-le}
 use Rattle.covers.specs.Curve.{base}
-use Rattle.curves.specs.Best.{rowOf, legalBest}
+use Rattle.curves.specs.Best.{rowOf}
 use Rattle.curves.proofs.Laws.{row-tables}
 use Rattle.choosing.specs.Promises.{Reaches}
 use Rattle.choosing.proofs.Reading.{reached, unreached}

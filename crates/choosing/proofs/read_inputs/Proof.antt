@@ -5,7 +5,7 @@ use mathlib.Core.Path.{_≡_, refl, _∙_}
 use lib.ListN.{length, getD, length-set}
 use Rattle.sheets.specs.Model.{Library}
 use Rattle.covers.specs.Match.{Match}
-use Rattle.curves.specs.Best.{rowCount, inputPlace}
+use Rattle.curves.specs.Best.{rowCount}
 use Rattle.choosing.specs.Promises.{RowHolds, goalOf, noInput}
 use Rattle.choosing.proofs.Reading.{goalIn, count-at, pattern-at, inputs-turn}
 use Rattle.choosing.proofs.read_inputs.Statement.{statement}
