@@ -1,2 +1,3 @@
 -- What the contracts of `filling` say.
+pub mod Temp
 pub mod Promises
