@@ -240,8 +240,7 @@ module _ {most : ℕ} {l : Library} {t : Tree} {rows ss zs : List ℕ} {room : �
   gate-top g c e inputs are same from =
       let p = all .driven .some-cover in
       let m = parts l (goal .load) (goal .node) s (goal .time) g (p .1) e in
-      let is = are (p .0) (p .1) (m .match) (m .first) in
-      (
+      let is = are (p .0) (p .1) (m .match) (m .first) in (
         record {
           shape = s;
           load = goal .load;

@@ -73,9 +73,10 @@ first-reaching-requires c κs =
     let p = c .before .before .before .before .before .before .before .before .before .before .before .before .before .before .pre in
     let dec = p .1 .1 .1 .0 in
     let drv = p .1 .1 .1 .1 in
-    let w = c .before .before .before .before .before .look-up in
-    (rows-ready (ready dec drv) (the-rows (c .before .before .before) (p .0) (p .1 .0) (p .1 .1 .0) dec drv) (dec .area),
-      (near (c .before .before .before .before .before .before .before .before .before .before .before .before .before .before) .load-small, word-found dec drv (w .result) (w .ensures) (gate-here (ready dec drv) (p .1 .1 .1 .2)) .0))
+    let w = c .before .before .before .before .before .look-up in (
+      rows-ready (ready dec drv) (the-rows (c .before .before .before) (p .0) (p .1 .0) (p .1 .1 .0) dec drv) (dec .area),
+      (near (c .before .before .before .before .before .before .before .before .before .before .before .before .before .before) .load-small, word-found dec drv (w .result) (w .ensures) (gate-here (ready dec drv) (p .1 .1 .1 .2)) .0),
+    )
 
 mul-first : tie.Need-mul-first
 mul-first c = omega (arith, few c)
