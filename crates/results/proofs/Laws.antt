@@ -207,7 +207,7 @@ take-padded : (l : List ℕ) (n m : ℕ) → length l ≡ n → n ≤ m → take
 take-padded l n m e h =
     ap (λ (k : ℕ). take k (padded m 0 l)) (sym e ∙ sym (zero-add (length l))) ∙ take-sets (replicate m 0) 0 l (omega (arith, length-replicate {A = ℕ} m 0))
 
-placed-parts : (xs : List Placed) → placedOf (map (λ (x : Placed). x .node) xs) (map (λ (x : Placed). x .pattern) xs) ≡ xs
+pub placed-parts : (xs : List Placed) → placedOf (map (λ (x : Placed). x .node) xs) (map (λ (x : Placed). x .pattern) xs) ≡ xs
 unfolding placedOf zipWith
 placed-parts [] = refl
 placed-parts (x ∷ xs) = ap (λ (l : List Placed). x ∷ l) (placed-parts xs)
