@@ -11,7 +11,7 @@ use native.Mathlib.Omega.{arith}
 use lib.ListN.{length, getD}
 use lib.Dec.{ltb}
 use Rattle.sheets.specs.Model.{Shape, size, Library, Tree, patterns}
-use Rattle.covers.specs.Lists.{select, firstSuch}
+use Rattle.covers.specs.Lists.{keepIf, select, firstSuch}
 use Rattle.covers.specs.Match.{Match, legal, fitting, matches}
 use Rattle.covers.specs.Cover.{Point, Cover, topped}
 use Rattle.covers.specs.Enumeration.{matchCovers, under, covers, allBelow}
@@ -53,7 +53,7 @@ module _ {A : Type 0} where
   first-select sel test [] = refl
   first-select sel test (x ∷ xs) = go (sel x) (first-select sel test xs)
     where
-      go : (b : Bool) → firstSuch test (select sel xs) ≡ firstSuch (λ y. sel y && test y) xs → firstSuch test (cond b (x ∷ select sel xs) (select sel xs)) ≡ cond (b && test x) (some x) (firstSuch (λ y. sel y && test y) xs)
+      go : (b : Bool) → firstSuch test (select sel xs) ≡ firstSuch (λ y. sel y && test y) xs → firstSuch test (keepIf b x (select sel xs)) ≡ cond (b && test x) (some x) (firstSuch (λ y. sel y && test y) xs)
       go true e = unfold firstSuch in ap (λ (o : Option A). cond (test x) (some x) o) e
       go false e = e
 

@@ -21,7 +21,7 @@ use Rattle.covers.specs.Tradeoff.{Node, nodes, tradeoffs, tradeoffsOf, insert, 
 use Rattle.covers.specs.Curve.{Filled, curve, gates}
 use Rattle.covers.proofs.Basics.{lt-or-le, at-all, true-any, false-any}
 use Rattle.covers.proofs.Matching.{size-pos}
-use Rattle.covers.proofs.Unroll.{covers-unroll}
+use Rattle.covers.proofs.Tradeoffs.{leaf-tradeoffs}
 use Rattle.covers.proofs.Nodes.{root-in}
 use Rattle.covers.proofs.Ascending.{ascending-range, ascending-unique}
 use Rattle.covers.proofs.Overfull.{nodes-ascend, overfull-named, LastOf, nowhere, at, highest-unique}
@@ -54,17 +54,8 @@ index-of (y ∷ l) (List·Memᴰ·head e) = (0, omega arith, sym e)
 index-of (y ∷ l) (List·Memᴰ·tail m) = let r = index-of l m in (suc (r .0), omega (arith, r .1), r .2)
 
 -- A leaf has one trade-off.
-one-point : (p : Point) → length (tradeoffsOf (p ∷ [])) ≤ 1
-unfolding tradeoffsOf select insert
-one-point p = go (not (beaten (p ∷ []) p))
-  where
-    go : (b : Bool) → length (foldr insert [] (cond b (p ∷ []) [])) ≤ 1
-    go true = omega arith
-    go false = omega arith
-
 leaf-few : (l : Library) (load n x : ℕ) → length (tradeoffs l load n (leaf x)) ≤ 1
-unfolding tradeoffs coversStep points
-leaf-few l load n x = subst (λ (cs : List Cover). length (tradeoffsOf (points cs)) ≤ 1) (sym (covers-unroll l load n (leaf x))) (one-point (leafCover x load .point))
+leaf-few l load n x = omega (arith, ap length (leaf-tradeoffs l load n x))
 
 -- ---- what a node's counts say
 

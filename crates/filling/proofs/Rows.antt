@@ -11,7 +11,8 @@ use lib.Dec.{leb, ltb, leb·suc-suc, leb·suc-zero}
 use lib.Seq.{take-suc, take-all}
 use borrow.Author.Tests.{le-leb, lt-leb}
 use Rattle.sheets.specs.Model.{Shape, leaf, inv, nand, Pin, Cell, Library}
-use Rattle.covers.specs.Lists.{select}
+use Rattle.covers.proofs.Basics.{select-append}
+use Rattle.covers.specs.Lists.{keepIf, select}
 use Rattle.covers.specs.Match.{Input, Match, usable, legal, delay, pinLoad}
 use Rattle.covers.specs.Cover.{Point, late, raised, feeds, inputDelay, leafPoint}
 use Rattle.covers.specs.Choice.{before, lesser}
@@ -105,16 +106,6 @@ best-more best load end [] ys = refl
 best-more best load end (m ∷ xs) ys =
     ap (lesser (bestMatch best load end m)) (best-more best load end xs ys) ∙ sym (lesser-assoc (bestMatch best load end m) (bestOf best load end xs) (bestOf best load end ys))
 
-select-more : (test : Match → Bool) (xs : List Match) (m : Match) → select test (xs ++ (m ∷ [])) ≡ select test xs ++ cond (test m) (m ∷ []) []
-unfolding select
-select-more test [] m = refl
-select-more test (x ∷ xs) m = go (test x) (select-more test xs m)
-  where
-    go : (b : Bool) → select test (xs ++ (m ∷ [])) ≡ select test xs ++ cond (test m) (m ∷ []) [] →
-        cond b (x ∷ select test (xs ++ (m ∷ []))) (select test (xs ++ (m ∷ []))) ≡ cond b (x ∷ select test xs) (select test xs) ++ cond (test m) (m ∷ []) []
-    go true e = ap (λ (q : List Match). x ∷ q) e
-    go false e = e
-
 -- All rows of a node's matches: the least point of the legal ones.
 module _ (most : ℕ) (l : Library) (symbols work found : List ℕ) (load end : ℕ) (ms : List Match) (d : Match)
     (rows : (j : ℕ) → j < length ms → Holds l (rowOf found j) (getD ms j d)) (heads : (m : Match) → List·Memᴰ m ms → Headed symbols (m .inputs)) where
@@ -124,15 +115,15 @@ module _ (most : ℕ) (l : Library) (symbols work found : List ℕ) (load end : 
   abbrev best : List Match → Option Point
   best = bestOf (fromTable l (tableOf most work)) load end
 
-  one-row : (j : ℕ) → j < length ms → let m = getD ms j d in legalBest most symbols work (rowOf found j) load end ≡ best (cond (allowed m) (m ∷ []) [])
-  unfolding legalBest bestOf lesser matchRow
+  one-row : (j : ℕ) → j < length ms → let m = getD ms j d in legalBest most symbols work (rowOf found j) load end ≡ best (select allowed (m ∷ []))
+  unfolding legalBest bestOf lesser matchRow select keepIf
   one-row j h =
       let m = getD ms j d in
       let limit : ltb load (rowIllegal (rowOf found j)) ≡ allowed m = ap (ltb load) (rows j h 2 (omega arith)) ∙ legal-is (m .pattern .cell) load in
       ap₂ (λ (b : Bool) (o : Option Point). cond b o none) limit (row-is-match most l symbols work (rowOf found j) m load end (rows j h) (heads m (at-mem ms j d h)))
       ∙ go (allowed m)
     where
-      go : (b : Bool) → cond b (bestMatch (fromTable l (tableOf most work)) load end (getD ms j d)) none ≡ best (cond b (getD ms j d ∷ []) [])
+      go : (b : Bool) → cond b (bestMatch (fromTable l (tableOf most work)) load end (getD ms j d)) none ≡ best (keepIf b (getD ms j d) [])
       go true = unfold bestOf in sym (lesser-none (bestMatch (fromTable l (tableOf most work)) load end (getD ms j d)))
       go false = unfold bestOf in refl
 
@@ -142,8 +133,8 @@ module _ (most : ℕ) (l : Library) (symbols work found : List ℕ) (load end : 
   rows-so-far (suc n) h =
       let m = getD ms n d in
       ap₂ lesser (rows-so-far n (omega arith)) (one-row n h)
-      ∙ sym (best-more (fromTable l (tableOf most work)) load end (select allowed (take n ms)) (cond (allowed m) (m ∷ []) []))
-      ∙ ap best (sym (ap (select allowed) (take-suc ms n d h) ∙ select-more allowed (take n ms) m))
+      ∙ sym (best-more (fromTable l (tableOf most work)) load end (select allowed (take n ms)) (select allowed (m ∷ [])))
+      ∙ ap best (sym (ap (select allowed) (take-suc ms n d h) ∙ select-append allowed (take n ms) (m ∷ [])))
 
   pub rows-are-best : rowsBest most symbols work found load end (length ms) ≡ best (select allowed ms)
   rows-are-best = rows-so-far (length ms) (omega arith) ∙ ap (λ (q : List Match). best (select allowed q)) (take-all (length ms) ms (omega arith))
