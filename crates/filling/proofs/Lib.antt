@@ -1,5 +1,4 @@
 -- Laws that join the tables to the theorems about covers.
-pub mod Temp
 pub mod Rows
 pub mod Node
 pub mod Steps

@@ -7,7 +7,7 @@ use mathlib.Core.Option.{Option, some, Option·none-ne-some, Option·some-inject
 use Prim.Native.Nat.{ℕ, suc, _+_, _-_, _*_, _≤_, _<_}
 use native.Mathlib.Decide.{ℕ-discrete}
 use native.Mathlib.Omega.{arith}
-use lib.ListN.{length, getD, take, drop, set, replicate}
+use lib.ListN.{length, getD, take, set, replicate}
 use lib.Seq.{sets, getD-set-same, getD-set-other, set-out}
 use Rattle.shapes.specs.Shape as Shapes
 use Rattle.sheets.specs.Model.{Shape, leaf, inv, nand, size, leaves, Cell, Library, Tree}
@@ -17,7 +17,7 @@ use Rattle.covers.specs.Match.{Input, Match, fitting, matches, pinAt, pinLoad}
 use Rattle.covers.specs.Cover.{Point, Cover, feeds, raised, topped, IsCover, bare, matching}
 use Rattle.covers.specs.Enumeration.{covers}
 use Rattle.covers.specs.Choice.{least}
-use Rattle.covers.specs.Tradeoff.{Node, nodes}
+use Rattle.covers.specs.Tradeoff.{Node}
 use Rattle.covers.specs.Curve.{Filled, base, byDeadline, curve, gates}
 use Rattle.covers.proofs.Basics.{at-all, lt-or-le}
 use Rattle.covers.proofs.Least.{In, LeastOf, absent, found as reached, least-is}
@@ -29,12 +29,15 @@ use Rattle.covers.proofs.Curve.{curve-found}
 use Rattle.covers.proofs.Filling.{best-from-table}
 use Rattle.covers.proofs.FromSheets.{limited, binned}
 use Rattle.fields.proofs.Lists.{at-mem, zeros-at}
-use Rattle.filling.specs.Temp.{matchWords, inputWords, matchRow, Ready}
+use Rattle.matching.specs.Found.{matchWords, inputSize, inputPlace, inputWords, matchRow}
+use Rattle.matching.specs.Promises.{Ready}
 use Rattle.matching.specs.Standing.{Stands, Subject}
-use Rattle.filling.proofs.Temp.{length-row, row-input, fitting-few, SoundMatch, fitting-sound, match-row-at, decoded-stands, decoded-subject}
-use Rattle.matching.proofs.Tables.{length-table}
+use Rattle.matching.proofs.Written.{length-row, row-input}
+use Rattle.matching.proofs.Patterns.{SoundMatch, fitting-sound, fitting-few, match-row-at}
+use Rattle.matching.proofs.Standing.{stands-everywhere, subject-everywhere}
+use Rattle.sheets.proofs.Tables.{length-table}
 use Rattle.curves.specs.Words.{tableOf, WorkArea}
-use Rattle.curves.specs.Best.{symbolLimit, rowOf, rowCount, inputSize, inputPlace, InputSafe, RowSafe, Sources, Matches, Above, rowsBest}
+use Rattle.curves.specs.Best.{symbolLimit, rowOf, rowCount, RowSafe, Sources, Matches, Above, rowsBest}
 use Rattle.curves.specs.Promises.{bestBefore, nodePoints, PointsFit, Fit}
 use Rattle.curves.proofs.Laws.{part-word}
 use Rattle.filling.proofs.Rows.{Heads, Headed, Holds, rows-are-best}
@@ -81,7 +84,7 @@ cover-area {l} sound (matching {d = r} m f k e) g =
 
 module _ {l : Library} {t : Tree} {rows ss zs : List ℕ} {n room : ℕ} {s : Shape} (g : Ready l t rows ss zs n room s) where
   pub here : Subject ss zs n s
-  here = decoded-subject (g .decoded) (record { number = n; shape = s }) (g .here)
+  here = subject-everywhere (g .decoded) (record { number = n; shape = s }) (g .here)
 
   pub node-within : n < 64
   node-within = omega (arith, here .ends, size-pos s)
@@ -118,7 +121,7 @@ module _ {l : Library} {t : Tree} {rows ss zs : List ℕ} {n room : ℕ} {s : Sh
       go (nand a b) h = h .0
 
   pub headed : {m : Match} → List·Memᴰ m (fitting l n s) → Headed ss (m .inputs)
-  headed {m} k i j = heads-of (nodeOf i) (decoded-stands (g .decoded) (nodeOf i) (nodes-within 0 (t .shape) (g .here) (fits-in (m .pattern .drawing) n s (m .inputs) (fitting-are l n s k .1) i j)))
+  headed {m} k i j = heads-of (nodeOf i) (stands-everywhere (g .decoded) (nodeOf i) (nodes-within 0 (t .shape) (g .here) (fits-in (m .pattern .drawing) n s (m .inputs) (fitting-are l n s k .1) i j)))
 
   -- Where an input stands.
   place-of : {m : Match} → List·Memᴰ m (fitting l n s) → (i : Input) → List·Memᴰ i (m .inputs) → (n < i .node) × (i .node < 64)
@@ -195,7 +198,7 @@ module _ {l : Library} {t : Tree} {rows ss zs : List ℕ} {n : ℕ} {found₀ : 
   pub rows-ready : {most : ℕ} {work : List ℕ} → WorkArea most work → Matches most found count ss work
   rows-ready w = record {
     rows = row-safe;
-    room = omega (arith, f .many, fitting-few n s l sound, ap length (f .table), length-table matchWords found₀ 0 (map (matchRow l) (fitting l n s)), g .room-is);
+    room = omega (arith, f .many, fitting-few n s l, sound .few-patterns, ap length (f .table), length-table matchWords found₀ 0 (map (matchRow l) (fitting l n s)), g .room-is);
     sources = sources g w;
   }
 

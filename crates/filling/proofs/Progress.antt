@@ -10,9 +10,10 @@ use native.Mathlib.Numerals.{add-one}
 use lib.Dec.{ltb}
 use lib.ListN.{length, getD, length-take, length-reverse}
 use borrow.Author.Tests.{lt-ltb, le-ltb}
+use Rattle.sheets.specs.declared.Bins.{Bins}
 use Rattle.sheets.specs.declared.TreeRecord.{TreeRecord}
 use Rattle.sheets.specs.Model.{Shape, leaf, inv, nand, size, Library, Tree}
-use Rattle.sheets.specs.Layout.{padded, treeLaid}
+use Rattle.sheets.specs.Layout.{libraryLaid, treeLaid}
 use Rattle.covers.specs.Lists.{select}
 use Rattle.covers.specs.Cover.{Point, Cover, leafCover}
 use Rattle.covers.specs.Enumeration.{covers, coversStep}
@@ -26,11 +27,10 @@ use Rattle.covers.proofs.Ascending.{ascending-range, ascending-unique}
 use Rattle.covers.proofs.Overfull.{nodes-ascend, overfull-named, LastOf, nowhere, at, highest-unique}
 use Rattle.covers.proofs.Filling.{filled-start, filled-next}
 use Rattle.fields.proofs.Lists.{at-mem}
-use Rattle.matching.proofs.Written.{in-padded}
+use Rattle.sheets.proofs.Laws.{in-padded}
 use Rattle.curves.specs.Words.{stored, tableOf, Small, ZeroBelow}
 use Rattle.curves.specs.Stored.{Stored}
 use Rattle.curves.proofs.Laws.{zero-curves}
-use Rattle.filling.specs.declared.Bins.{Bins}
 use Rattle.filling.specs.declared.Turn.{Turn}
 use Rattle.filling.specs.declared.Counts.{Counts}
 use Rattle.filling.specs.Promises.{loadAt, curveUnder, FillReady, NodeDone, Exceeds, FillStart}
@@ -38,7 +38,7 @@ use Rattle.filling.specs.Promises.{loadAt, curveUnder, FillReady, NodeDo
 -- ---- nodes and their trade-offs
 
 -- Every number within a tree is a node's.
-pub node-at : (n : ℕ) (s : Shape) (k : ℕ) → n ≤ k → k < n + size s → (x : Shape) × List·Memᴰ (record { number = k; shape = x }) (nodes n s)
+node-at : (n : ℕ) (s : Shape) (k : ℕ) → n ≤ k → k < n + size s → (x : Shape) × List·Memᴰ (record { number = k; shape = x }) (nodes n s)
 unfolding nodes size
 node-at n (leaf z) k h g = let e : k ≡ n = omega arith in (leaf z, rw e (List·Memᴰ·head refl))
 node-at n (inv s) k h g = ⊎-elim (λ l. let r = node-at (suc n) s k l (omega arith) in (r .0, List·Memᴰ·tail (r .1))) (λ l. let e : k ≡ n = omega arith in (inv s, rw e (List·Memᴰ·head refl))) (lt-or-le n k)
@@ -153,9 +153,11 @@ module _ {l : Library} {t : Tree} {rows : List ℕ} {bins : Bins} {tree : TreeRe
   load-is = ap (λ (r : TreeRecord). r .load) (g .tree-is)
 
   bins-is : bins .count ≡ length (l .bins)
+  unfolding libraryLaid
   bins-is = ap (λ (b : Bins). b .count) (g .bins-are)
 
   bins-at : (b : ℕ) → b < bins .count → getD (bins .loads) b 0 ≡ getD (l .bins) b 0
+  unfolding libraryLaid
   bins-at b h = ap (λ (q : Bins). getD (q .loads) b 0) (g .bins-are) ∙ in-padded 4 0 0 (l .bins) b (g .decoded .library .few-bins) (omega (arith, bins-is))
 
   pub begun : Progress most l t (tree .count) work₀

@@ -20,9 +20,9 @@ use Rattle.covers.proofs.Points.{lesser-assoc, lesser-none}
 use Rattle.covers.proofs.Deadline.{bestInputs, bestMatch, bestOf}
 use Rattle.covers.proofs.Filling.{fromCurve, fromTable}
 use Rattle.fields.proofs.Lists.{at-mem}
-use Rattle.filling.specs.Temp.{inputWords, inputsWords, firstIllegal, matchRow}
+use Rattle.matching.specs.Found.{inputSize, inputPlace, inputWords, inputsWords, firstIllegal, matchRow}
 use Rattle.curves.specs.Words.{tableOf}
-use Rattle.curves.specs.Best.{rowOf, rowIllegal, inputSize, inputPlace, inputNode, inputBin, inputLoad, inputIntrinsic, inputDrive, inputBest, inputLate, rowDelay, inputsBest, rowBest, legalBest, rowsBest}
+use Rattle.curves.specs.Best.{rowOf, rowIllegal, inputNode, inputBin, inputLoad, inputIntrinsic, inputDrive, inputBest, inputLate, rowDelay, inputsBest, rowBest, legalBest, rowsBest}
 
 -- What stands at an input's node is the head of its shape.
 abbrev pub Heads : ℕ → Shape → Type 0

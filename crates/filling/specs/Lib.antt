@@ -1,3 +1,2 @@
 -- What the contracts of `filling` say.
-pub mod Temp
 pub mod Promises

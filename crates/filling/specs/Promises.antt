@@ -5,19 +5,20 @@ use mathlib.Core.Bool.{Bool, true, false}
 use mathlib.Core.List.{List}
 use mathlib.Core.Option.{none, some}
 use lib.ListN.{length, getD, take}
+use Rattle.sheets.specs.declared.Bins.{Bins}
 use Rattle.sheets.specs.declared.TreeRecord.{TreeRecord}
 use Rattle.sheets.specs.Model.{Shape, Library, Tree}
-use Rattle.sheets.specs.Layout.{padded, treeLaid}
+use Rattle.sheets.specs.Layout.{libraryLaid, treeLaid}
 use Rattle.covers.specs.Cover.{Point}
 use Rattle.covers.specs.Enumeration.{covers}
 use Rattle.covers.specs.Tradeoff.{overfullNode}
 use Rattle.covers.specs.Curve.{Filled, curve, gates}
-use Rattle.filling.specs.Temp.{matchTable, Ready, Decoded}
+use Rattle.matching.specs.Found.{matchTable}
+use Rattle.matching.specs.Promises.{Ready, Decoded}
 use Rattle.curves.specs.Words.{tableOf, AgreeFrom, ZeroBelow, WorkArea, Small}
 use Rattle.curves.specs.Best.{Matches, Above}
 use Rattle.curves.specs.Promises.{PointsFit, nodePoints}
 use Rattle.curves.specs.Stored.{Stored}
-use Rattle.filling.specs.declared.Bins.{Bins}
 use Rattle.filling.specs.declared.Turn.{Turn}
 use Rattle.filling.specs.declared.Counts.{Counts}
 use Rattle.filling.specs.declared.Filling.{Filling}
@@ -94,7 +95,7 @@ Exceeds turn false r = (b : ℕ) → b < turn .bins .count → getD (r .points) 
 -- a node may have one; a count is told in a byte.
 pub record FillStart (l : Library) (t : Tree) (rows : List ℕ) (bins : Bins) (tree : TreeRecord) (most : ℕ) (found work : List ℕ) : Type 0 where
   pub decoded : Decoded l t rows (tree .symbols) (tree .sizes)
-  pub bins-are : bins ≡ record { count = length (l .bins); loads = padded 4 0 (l .bins) }
+  pub bins-are : bins ≡ libraryLaid l .bins
   pub tree-is : tree ≡ treeLaid t
   pub room : length found ≡ matchTable
   pub work-length : length work ≡ 256 * (most + 1)

@@ -1,31 +1,10 @@
 // Every node's curves, filled from the highest number down.
 use curves::Words;
+use sheets::Bins;
 use sheets::TreeRecord;
-ghost use Prim.Native.Nat.{_+_, _*_, _<_, _≤_};
+ghost use Prim.Native.Nat.{_≤_};
 ghost use Rattle.sheets.specs.Model.{Shape, Library, Tree};
-ghost use Rattle.filling.specs.Temp.{matchRow, Ready};
 ghost use Rattle.filling.specs.Promises.{NodeReady, NodeFilled, FillReady, NodeDone, Exceeds, FillStart, FillingIs};
-ghost use mathlib.Core.Path.{_≡_};
-ghost use mathlib.Core.List.{map};
-ghost use lib.ListN.{length};
-ghost use Rattle.covers.specs.Match.{fitting};
-ghost use Rattle.sheets.specs.Layout.{tableFrom};
-
-// TEMPORARY
-pub struct Bins {
-    pub count: usize,
-    pub loads: [u8; 4],
-}
-
-// TEMPORARY
-fn find_matches<'a>(rows: &'a [u32], symbols: &'a [u32], sizes: &'a [u8], n: usize, table: &mut [u32]) -> usize
-    requires { ⌜ ((l : Library) × ((t : Tree) × ((s : Shape) × Ready l t (now rows) (now symbols) (now sizes) n (length (now table)) s))) ⌝ }
-    ensures { λ r. ⌜ ((l : Library) (t : Tree) (s : Shape) → Ready l t (now (rows .entry)) (now (symbols .entry)) (now (sizes .entry)) n (length (now (table .entry))) s →
-        (r ≡ length (fitting l n s))
-        × (now (table .exit) ≡ tableFrom 84 (now (table .entry)) 0 (map (matchRow l) (fitting l n s)))) ⌝ }
-{
-    0
-}
 
 // A node, the loads considered there, and how many trade-offs it may have.
 pub struct Turn {
@@ -57,7 +36,15 @@ fn fill_node(found: &[u32], count: usize, symbols: &[u32], work: &mut [u64], tur
     while 0 < b {
         b -= 1;
         let at = Words::BINS * turn.node + b;
-        points[b] = curves::curve(found, count, symbols, work, turn.most, loads[b] as u32, at) as u8;
+        points[b] = curves::curve(
+            found,
+            count,
+            symbols,
+            work,
+            turn.most,
+            loads[b] as u32,
+            at,
+        ) as u8;
     }
     Counts { points }
 }
@@ -79,7 +66,7 @@ fn fill_at<'a>(
     if 2 <= symbols[node] {
         return Counts { points: [0u8; 4] };
     }
-    let count = find_matches(rows, symbols, sizes, node, found);
+    let count = matching::find_matches(rows, symbols, sizes, node, found);
     fill_node(found, count, symbols, work, turn)
 }
 
@@ -123,8 +110,15 @@ pub fn fill(
             return Filling::Overfull(node);
         }
     }
-    let bins = Bins { count: 1, loads: [tree.load, 0u8, 0u8, 0u8] };
-    let turn = Turn { node: 0, bins, most };
+    let bins = Bins {
+        count: 1,
+        loads: [tree.load, 0u8, 0u8, 0u8],
+    };
+    let turn = Turn {
+        node: 0,
+        bins,
+        most,
+    };
     let counts = fill_at(rows, &tree.symbols, &tree.sizes, turn, found, work);
     if too_many(counts, turn) {
         return Filling::Overfull(0);
