@@ -98,19 +98,19 @@ chosen-there l load n s time {p} e = let q = map-eq-some-iff (λ (c : Cover). c 
 pub size-at : {l : Library} {t : Tree} {rows ss zs : List ℕ} {n room : ℕ} {s : Shape} → Ready l t rows ss zs n room s → getD zs n 0 ≡ size s
 size-at {ss = ss} {zs} {n} {s = s} g = stands-size ss zs n s (here g .stands)
 
-pub record Limits (goal : Goal) (ss zs : List ℕ) : Type 0 where
+-- What is small there.
+pub record Limits (goal : Goal) (ss : List ℕ) : Type 0 where
   pub node-small : goal .node < 64
   pub load-small : goal .load ≤ 255
   pub bin-small : goal .bin < 4
   pub symbols-long : length ss ≡ 64
-  pub sizes-long : length zs ≡ 64
 
 module _ {most : ℕ} {l : Library} {t : Tree} {rows ss zs : List ℕ} {room : ℕ} {work : List ℕ} (dec : Prepared most l t rows ss zs room work) {goal : Goal} {s : Shape} (drv : Driven l t goal s) where
   pub ready : Ready l t rows ss zs (goal .node) room s
   ready = record { decoded = dec .decoded; here = drv .node; room-is = dec .room-is }
 
-  pub limits : Limits goal ss zs
-  limits = record { node-small = node-within ready; load-small = light (drv .drives); bin-small = low (drv .drives); symbols-long = here ready .symbols-long; sizes-long = here ready .sizes-long }
+  pub limits : Limits goal ss
+  limits = record { node-small = node-within ready; load-small = light (drv .drives); bin-small = low (drv .drives); symbols-long = here ready .symbols-long }
     where
       light : Drives l t goal → goal .load ≤ 255
       light (at-root a b c) = omega (arith, dec .decoded .tree .load)

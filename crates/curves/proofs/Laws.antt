@@ -18,7 +18,7 @@ use Rattle.covers.proofs.Points.{point-path, both-assoc, Leq, smaller, earlier,
 use Rattle.covers.proofs.Basics.{lt-or-le}
 use Rattle.curves.specs.Words.{absent, areaLimit, pointLimit, matchLimit, stored, slot, tableOf, Small, ZeroBelow, WorkArea}
 use Rattle.matching.specs.Found.{matchWords, inputSize, inputPlace}
-use Rattle.curves.specs.Best.{rowOf, rowArea, rowIllegal, rowCount, inputNode, inputBin, inputLoad, rowDelay, inputBest, inputLate, inputsBest, rowBest, legalBest, rowsBest, RowSafe, Tables, Matches}
+use Rattle.curves.specs.Best.{rowOf, rowArea, rowIllegal, rowCount, inputNode, inputBin, inputLoad, rowDelay, inputBest, inputLate, inputsBest, rowBest, legalBest, rowsBest, Tables, Matches}
 use Rattle.curves.specs.Promises.{Worth}
 
 -- ---- words

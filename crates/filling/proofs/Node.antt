@@ -7,7 +7,7 @@ use mathlib.Core.Option.{Option, some, Option·none-ne-some, Option·some-inject
 use Prim.Native.Nat.{ℕ, suc, _+_, _-_, _*_, _≤_, _<_}
 use native.Mathlib.Decide.{ℕ-discrete}
 use native.Mathlib.Omega.{arith}
-use lib.ListN.{length, getD, take, drop, set, replicate}
+use lib.ListN.{length, getD, take, set, replicate}
 use lib.Seq.{sets, getD-set-same, getD-set-other, set-out}
 use Rattle.shapes.specs.Shape as Shapes
 use Rattle.sheets.specs.Model.{Shape, leaf, inv, nand, size, leaves, Cell, Library, Tree}
@@ -17,7 +17,7 @@ use Rattle.covers.specs.Match.{Input, Match, fitting, matches, pinAt, pinLoad}
 use Rattle.covers.specs.Cover.{Point, Cover, feeds, raised, topped, IsCover, bare, matching}
 use Rattle.covers.specs.Enumeration.{covers}
 use Rattle.covers.specs.Choice.{least}
-use Rattle.covers.specs.Tradeoff.{Node, nodes}
+use Rattle.covers.specs.Tradeoff.{Node}
 use Rattle.covers.specs.Curve.{Filled, base, byDeadline, curve, gates}
 use Rattle.covers.proofs.Basics.{at-all, lt-or-le}
 use Rattle.covers.proofs.Least.{In, LeastOf, absent, found as reached, least-is}
@@ -37,7 +37,7 @@ use Rattle.matching.proofs.Patterns.{SoundMatch, fitting-sound, fitting-few, ma
 use Rattle.matching.proofs.Standing.{stands-everywhere, subject-everywhere}
 use Rattle.sheets.proofs.Tables.{length-table}
 use Rattle.curves.specs.Words.{tableOf, WorkArea}
-use Rattle.curves.specs.Best.{symbolLimit, rowOf, rowCount, InputSafe, RowSafe, Sources, Matches, Above, rowsBest}
+use Rattle.curves.specs.Best.{symbolLimit, rowOf, rowCount, RowSafe, Sources, Matches, Above, rowsBest}
 use Rattle.curves.specs.Promises.{bestBefore, nodePoints, PointsFit, Fit}
 use Rattle.curves.proofs.Laws.{part-word}
 use Rattle.filling.proofs.Rows.{Heads, Headed, Holds, rows-are-best}

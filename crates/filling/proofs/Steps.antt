@@ -10,13 +10,12 @@ use lib.ListN.{length, getD, take, set, length-map, length-take, length-set}
 use lib.Seq.{sets, getD-set-same, getD-set-other, take-all}
 use Rattle.covers.specs.Cover.{Point}
 use Rattle.covers.specs.Curve.{base, byDeadline, wordOf}
-use Rattle.curves.specs.Words.{curveAt, tableOf, stored, Small, AgreeFrom, ZeroBelow, WorkArea}
+use Rattle.curves.specs.Words.{curveAt, tableOf, stored, AgreeFrom, ZeroBelow, WorkArea}
 use Rattle.curves.specs.Best.{rowsBest, Matches}
 use Rattle.curves.specs.Promises.{bestBefore, nodePoints, PointsFit, CurveStored}
 use Rattle.curves.proofs.Laws.{slot-within}
 use Rattle.curves.proofs.Frames.{curve-other, curve-laid, rows-same, deadline-all, deadline-few}
 use Rattle.filling.specs.declared.Turn.{Turn}
-use Rattle.filling.specs.declared.Counts.{Counts}
 use Rattle.filling.specs.Promises.{loadAt, firstCurve, nextCurve, pointsUnder, NodeReady, NodeFilled}
 
 module _ (symbols work₀ found : List ℕ) (count : ℕ) (turn : Turn) where

@@ -55,7 +55,7 @@ module _ (t : ℕ) where
   abbrev Turning : Type 0
   Turning = choose-lts.After-input-goal (of-choose t) (choose-at t) choose.Post choose-Inv-loop choose-μ-loop
 
-  near : (c : Entry) → Limits (c .args .goal) (c .args .symbols .now) (c .args .sizes .now)
+  near : (c : Entry) → Limits (c .args .goal) (c .args .symbols .now)
   near c = let all = c .pre .1 .1 .1 .1 in limits (all .prepared) (all .driven)
 
   -- the match at the top, for whatever was lent at the entry

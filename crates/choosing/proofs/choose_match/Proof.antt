@@ -24,7 +24,7 @@ use Rattle.curves.proofs.look_up.Reads as look-up-reads
 abbrev claims : lts.Claims
 claims = (look-up-reads.Asked, look-up-reads.Learnt, find-matches-reads.Asked, find-matches-reads.Learnt, first-reaching-reads.Asked, first-reaching-reads.Learnt, read-inputs-reads.Asked, read-inputs-reads.Learnt)
 
-near : (c : lts.Start claims reads.Pre reads.Post) → Limits (c .args .goal) (c .args .symbols .now) (c .args .sizes .now)
+near : (c : lts.Start claims reads.Pre reads.Post) → Limits (c .args .goal) (c .args .symbols .now)
 near c = let p = c .pre .1 .1 .1 in limits (p .0) (p .1)
 
 -- The rows found, for every library and tree that was decoded.

@@ -1,6 +1,6 @@
 use borrow.Author.Needs.{needs}
 use native.Mathlib.Omega.{arith}
-use Rattle.filling.proofs.Node.{here, node-within, leaf-here, gate-here, FoundIs}
+use Rattle.filling.proofs.Node.{here, node-within, leaf-here, gate-here}
 use Rattle.filling.proofs.At.{leaf-done, gate-ready, gate-done}
 use Rattle.filling.proofs.fill_at.Statement.{statement}
 use Rattle.filling.proofs.fill_at.Tie as tie
