@@ -4,5 +4,6 @@ pub mod LibrarySheet
 pub mod TreeSheet
 pub mod Report
 pub mod Layout
+pub mod Reach
 pub mod Promises
 pub mod Sound

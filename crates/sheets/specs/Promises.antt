@@ -23,6 +23,7 @@ use Rattle.sheets.specs.declared.TreeRead.{TreeRead}
 use Rattle.sheets.specs.Model.{Shape, Pin, binLoadOf, size, Cell, patternsFrom}
 use Rattle.sheets.specs.LibrarySheet.{binLoad, head, pin, pattern, countVerdict, drawings, cell, library}
 use Rattle.sheets.specs.TreeSheet.{tree}
+use Rattle.sheets.specs.Reach.{binBits, headBits, pinBits, patternBits, countBits, drawingsBits, cellBits, libraryBits, treeBits}
 use Rattle.sheets.specs.Layout.{padded, pinsMost, cellLaid, rowWords, row, tableFrom, patternRows, libraryLaid, treeLaid}
 
 -- The row of a pattern of a cell.
@@ -33,7 +34,7 @@ module _ (s : List ℕ) where
   pub record BinsAre (count : ℕ) (scan : Scan) (r : BinsRead) : Type 0 where
     pub loads : r .loads ≡ padded 4 0 (times count (binLoad s) scan .0)
     pub scan-is : r .scan ≡ times count (binLoad s) scan .1
-    pub near : place (r .scan) ≤ place scan + 8 * count
+    pub near : place (r .scan) ≤ place scan + binBits * count
 
   pub record HeadIs (scan : Scan) (r : HeadRead) : Type 0 where
     pub held : r .held ≡ head s scan .0 .held
@@ -42,7 +43,7 @@ module _ (s : List ℕ) where
     pub pins : r .pins ≡ head s scan .0 .pins
     pub few : r .pins ≤ 6
     pub scan-is : r .scan ≡ head s scan .1
-    pub near : place (r .scan) ≤ place scan + 28
+    pub near : place (r .scan) ≤ place scan + headBits
 
   pub record PinIs (bins : Bins) (scan : Scan) (r : PinRead) : Type 0 where
     pub bin : r .bin ≡ pin s (bins .count) [] scan .0 .bin
@@ -50,7 +51,7 @@ module _ (s : List ℕ) where
     pub intrinsic : r .intrinsic ≡ pin s (bins .count) [] scan .0 .intrinsic
     pub drive : r .drive ≡ pin s (bins .count) [] scan .0 .drive
     pub scan-is : r .scan ≡ pin s (bins .count) [] scan .1
-    pub near : place (r .scan) ≤ place scan + 26
+    pub near : place (r .scan) ≤ place scan + pinBits
 
   pub record PinsAre (bins : Bins) (count : ℕ) (scan : Scan) (r : PinsRead) : Type 0 where
     pub bins-are : r .bins ≡ padded pinsMost 0 (map (λ (p : Pin). p .bin) (times count (pin s (bins .count)) scan .0))
@@ -58,7 +59,7 @@ module _ (s : List ℕ) where
     pub intrinsics : r .intrinsics ≡ padded pinsMost 0 (map (λ (p : Pin). p .intrinsic) (times count (pin s (bins .count)) scan .0))
     pub drives : r .drives ≡ padded pinsMost 0 (map (λ (p : Pin). p .drive) (times count (pin s (bins .count)) scan .0))
     pub scan-is : r .scan ≡ times count (pin s (bins .count)) scan .1
-    pub near : place (r .scan) ≤ place scan + 26 * count
+    pub near : place (r .scan) ≤ place scan + pinBits * count
 
   -- A pattern, its symbols laid out in l, which became l′.
   pub record PatternIs (pins : ℕ) (scan : Scan) (l l′ : List ℕ) (r : PatternRead) : Type 0 where
@@ -66,7 +67,7 @@ module _ (s : List ℕ) where
     pub size-is : Live (r .scan) → r .size ≡ size (pattern s pins [] scan .0)
     pub small : r .size ≤ 16
     pub laid : Live (r .scan) → l′ ≡ sets l 0 (symbols (pattern s pins [] scan .0))
-    pub near : place (r .scan) ≤ place scan + 416
+    pub near : place (r .scan) ≤ place scan + patternBits
 
   -- The patterns of a cell, and the row of one.
   abbrev pub patternOf : NumberedCell → List Shape → Reader Shape
@@ -76,17 +77,17 @@ module _ (s : List ℕ) where
     pub scan-is : r ≡ patternOf numbered [] scan .1
     pub laid : Live r → l′ ≡ sets l 0 (rowOf numbered (patternOf numbered [] scan .0))
     pub few : Live r → length (rowOf numbered (patternOf numbered [] scan .0)) ≤ rowWords
-    pub near : place r ≤ place scan + 416
+    pub near : place r ≤ place scan + patternBits
 
   -- So many patterns of a cell, their rows laid out in l from row `total` on.
   pub record RowsAre (numbered : NumberedCell) (total count : ℕ) (scan : Scan) (l l′ : List ℕ) (r : Scan) : Type 0 where
     pub scan-is : r ≡ times count (patternOf numbered) scan .1
     pub laid : Live r → l′ ≡ tableFrom rowWords l total (map (rowOf numbered) (times count (patternOf numbered) scan .0))
-    pub near : place r ≤ place scan + 416 * count
+    pub near : place r ≤ place scan + patternBits * count
 
   -- A pattern count.
   pub record CountIs (total : ℕ) (scan : Scan) (r : Got) : Type 0 where
-    pub reads : Reads r (field s 3 (countVerdict total) scan) (place scan + 3) 7
+    pub reads : Reads r (field s 3 (countVerdict total) scan) (place scan + countBits) 7
     pub fits : total + r .value ≤ 128
 
   pub record DrawingsAre (numbered : NumberedCell) (total : ℕ) (scan : Scan) (l l′ : List ℕ) (r : DrawingsRead) : Type 0 where
@@ -94,7 +95,7 @@ module _ (s : List ℕ) where
     pub count-is : r .count ≡ length (drawings s (numbered .cell .pins) total scan .0)
     pub laid : Live (r .scan) → l′ ≡ tableFrom rowWords l total (map (rowOf numbered) (drawings s (numbered .cell .pins) total scan .0))
     pub fits : total + r .count ≤ 128
-    pub near : place (r .scan) ≤ place scan + 2915
+    pub near : place (r .scan) ≤ place scan + drawingsBits
 
   pub record CellIs (bins : Bins) (number total : ℕ) (scan : Scan) (l l′ : List ℕ) (r : DrawingsRead) : Type 0 where
     pub scan-is : r .scan ≡ cell s (bins .count) total scan .1
@@ -102,7 +103,7 @@ module _ (s : List ℕ) where
     pub laid : Live (r .scan) →
         let c = cell s (bins .count) total scan .0 in l′ ≡ tableFrom rowWords l total (map (row number (cellLaid (bins .loads) c)) (c .drawings))
     pub fits : total + r .count ≤ 128
-    pub near : place (r .scan) ≤ place scan + 3099
+    pub near : place (r .scan) ≤ place scan + cellBits
 
   -- The cells of a library with so many bins, each read after the patterns of those before it.
   abbrev pub cellAfter : ℕ → List Cell → Reader Cell
@@ -115,7 +116,7 @@ module _ (s : List ℕ) where
     pub laid : Live (r .scan) →
         l′ ≡ tableFrom rowWords l 0 (patternRows (bins .loads) (patternsFrom 0 (times count (cellAfter (bins .count)) scan .0)))
     pub fits : r .total ≤ 128
-    pub near : place (r .scan) ≤ place scan + 3099 * count
+    pub near : place (r .scan) ≤ place scan + cellBits * count
 
   -- The whole library and the whole tree: the sheet's scan and, if it was not refused, the record that lays out its value. The counts
   -- keep their limits either way.
@@ -125,10 +126,10 @@ module _ (s : List ℕ) where
     pub bins-few : r .library .bins .count ≤ 4
     pub cells-few : r .library .count ≤ 64
     pub patterns-few : r .library .total ≤ 128
-    pub near : place (r .scan) < 1048576
+    pub near : place (r .scan) ≤ libraryBits
 
   pub record TreeIs (r : TreeRead) : Type 0 where
     pub scan-is : r .scan ≡ tree s start .1
     pub laid : Live (r .scan) → r .tree ≡ treeLaid (tree s start .0)
     pub nodes-few : r .tree .count ≤ 64
-    pub near : place (r .scan) < 1048576
+    pub near : place (r .scan) ≤ treeBits

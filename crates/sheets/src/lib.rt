@@ -6,13 +6,13 @@ use shapes::Rules;
 ghost use mathlib.Core.Path.{_≡_};
 ghost use mathlib.Core.Bool.{cond};
 ghost use mathlib.Core.List.{[], _∷_};
-ghost use Prim.Native.Nat.{_+_, _-_, _<_, _≤_, _^_};
+ghost use Prim.Native.Nat.{_+_, _-_, _*_, _≤_};
 ghost use lib.ListN.{length, take};
 ghost use lib.Seq.{sets};
-ghost use Rattle.fields.specs.Reading.{place};
 ghost use Rattle.fields.specs.Answer.{onSuccess, Bounded};
 ghost use Rattle.sheets.specs.LibrarySheet.{hasAll, complete, countVerdict};
 ghost use Rattle.sheets.specs.Layout.{rowWords, tableWords, figuresAt, pinsMost, figures, cellWords};
+ghost use Rattle.sheets.specs.Reach.{InReach, binBits, headBits, pinBits, patternBits, countBits, drawingsBits, cellBits};
 ghost use Rattle.sheets.specs.Promises.{BinsAre, HeadIs, PinIs, PinsAre, PatternIs, RowIs, RowsAre, DrawingsAre, CountIs, CellIs, CellsAre, LibraryIs, TreeIs};
 ghost use Rattle.sheets.specs.Report.{ofLibraryJudged, libraryWord, libraryReport, libraryNumber, ofTreeJudged, treeReport, treeNumber};
 
@@ -186,7 +186,7 @@ pub struct PinsRead {
 
 // The bin loads: each above the one before.
 fn read_bins(scan: Scan, s: &[u8], count: u32) -> BinsRead
-    requires { ⌜ (count ≤ 4) × (place scan < 2 ^ 20) ⌝ }
+    requires { ⌜ (count ≤ 4) × InReach scan (binBits * count) ⌝ }
     ensures { λ r. ⌜ BinsAre (now (s .entry)) count scan r ⌝ }
 {
     let mut loads = [0u8; 4];
@@ -205,7 +205,7 @@ fn read_bins(scan: Scan, s: &[u8], count: u32) -> BinsRead
 
 // A cell's hold mark, area, highest load and pin count.
 fn read_head(scan: Scan, s: &[u8]) -> HeadRead
-    requires { ⌜ place scan < 2 ^ 20 ⌝ }
+    requires { ⌜ InReach scan headBits ⌝ }
     ensures { λ r. ⌜ HeadIs (now (s .entry)) scan r ⌝ }
 {
     let held = fields::ranged(scan, s, 1, 0, 1);
@@ -237,7 +237,7 @@ fn last_of(count: u32) -> u32
 
 // A pin: bin number with that bin's load, intrinsic delay and drive.
 fn read_pin(scan: Scan, s: &[u8], bins: Bins) -> PinRead
-    requires { ⌜ (bins .count ≤ 4) × (place scan < 2 ^ 30) ⌝ }
+    requires { ⌜ (bins .count ≤ 4) × InReach scan pinBits ⌝ }
     ensures { λ r. ⌜ PinIs (now (s .entry)) bins scan r ⌝ }
 {
     let loads = bins.loads;
@@ -258,7 +258,7 @@ fn read_pin(scan: Scan, s: &[u8], bins: Bins) -> PinRead
 
 // A cell's pins.
 fn read_pins(scan: Scan, s: &[u8], bins: Bins, count: u32) -> PinsRead
-    requires { ⌜ (bins .count ≤ 4) × (count ≤ 6) × (place scan < 2 ^ 20) ⌝ }
+    requires { ⌜ (bins .count ≤ 4) × (count ≤ 6) × InReach scan (pinBits * count) ⌝ }
     ensures { λ r. ⌜ PinsAre (now (s .entry)) bins count scan r ⌝ }
 {
     let mut numbers = [0u8; 6];
@@ -333,7 +333,7 @@ fn completed(whole: bool, first: usize, after: Scan) -> Scan
 
 // A pattern of a cell with so many pins.
 fn read_pattern(scan: Scan, s: &[u8], pins: u32, symbols: &mut [u32]) -> PatternRead
-    requires { ⌜ (pins ≤ 6) × (length (now symbols) ≡ 16) × (place scan < 2 ^ 19) ⌝ }
+    requires { ⌜ (pins ≤ 6) × (length (now symbols) ≡ 16) × InReach scan patternBits ⌝ }
     ensures { λ r. ⌜ PatternIs (now (s .entry)) pins scan (now (symbols .entry)) (now (symbols .exit)) r ⌝ }
 {
     let rules = Rules {
@@ -413,7 +413,7 @@ fn write_cell(row: &mut [u32], numbered: NumberedCell)
 
 // A pattern's row: its cell's words, its size and its symbols.
 fn read_row(scan: Scan, s: &[u8], numbered: NumberedCell, row: &mut [u32]) -> Scan
-    requires { ⌜ (numbered .cell .pins ≤ 6) × (length (now row) ≡ rowWords) × (place scan < 2 ^ 19) ⌝ }
+    requires { ⌜ (numbered .cell .pins ≤ 6) × (length (now row) ≡ rowWords) × InReach scan patternBits ⌝ }
     ensures { λ r. ⌜ RowIs (now (s .entry)) numbered scan (now (row .entry)) (now (row .exit)) r ⌝ }
 {
     let cell = numbered.cell;
@@ -432,7 +432,7 @@ fn read_rows(
     count: u32,
     rows: &mut [u32],
 ) -> Scan
-    requires { ⌜ (numbered .cell .pins ≤ 6) × (length (now rows) ≡ tableWords) × (total + count ≤ 128) × (count ≤ 7) × (place scan < 310000) ⌝ }
+    requires { ⌜ (numbered .cell .pins ≤ 6) × (length (now rows) ≡ tableWords) × (total + count ≤ 128) × InReach scan (patternBits * count) ⌝ }
     ensures { λ r. ⌜ RowsAre (now (s .entry)) numbered total count scan (now (rows .entry)) (now (rows .exit)) r ⌝ }
 {
     let mut at = scan;
@@ -458,7 +458,7 @@ fn count_verdict(total: usize, count: u32) -> Verdict
 
 // A cell's pattern count, after `total` patterns.
 fn read_count(scan: Scan, s: &[u8], total: usize) -> fields::Got
-    requires { ⌜ (total ≤ 128) × (place scan < 2 ^ 20) ⌝ }
+    requires { ⌜ (total ≤ 128) × InReach scan countBits ⌝ }
     ensures { λ r. ⌜ CountIs (now (s .entry)) total scan r ⌝ }
 {
     let got = fields::raw(scan, s, 3);
@@ -473,7 +473,7 @@ fn read_drawings(
     total: usize,
     rows: &mut [u32],
 ) -> DrawingsRead
-    requires { ⌜ (numbered .cell .pins ≤ 6) × (length (now rows) ≡ tableWords) × (total ≤ 128) × (place scan < 300000) ⌝ }
+    requires { ⌜ (numbered .cell .pins ≤ 6) × (length (now rows) ≡ tableWords) × (total ≤ 128) × InReach scan drawingsBits ⌝ }
     ensures { λ r. ⌜ DrawingsAre (now (s .entry)) numbered total scan (now (rows .entry)) (now (rows .exit)) r ⌝ }
 {
     let got = read_count(scan, s, total);
@@ -494,7 +494,7 @@ fn read_cell(
     total: usize,
     rows: &mut [u32],
 ) -> DrawingsRead
-    requires { ⌜ (bins .count ≤ 4) × (length (now rows) ≡ tableWords) × (total ≤ 128) × (place scan < 2 ^ 18) ⌝ }
+    requires { ⌜ (bins .count ≤ 4) × (length (now rows) ≡ tableWords) × (total ≤ 128) × InReach scan cellBits ⌝ }
     ensures { λ r. ⌜ CellIs (now (s .entry)) bins number total scan (now (rows .entry)) (now (rows .exit)) r ⌝ }
 {
     let head = read_head(scan, s);
@@ -532,7 +532,7 @@ pub struct TreeRead {
 
 // The cells.
 fn read_cells(scan: Scan, s: &[u8], bins: Bins, count: u32, rows: &mut [u32]) -> CellsRead
-    requires { ⌜ (bins .count ≤ 4) × (length (now rows) ≡ tableWords) × (count ≤ 64) × (place scan < 2 ^ 10) ⌝ }
+    requires { ⌜ (bins .count ≤ 4) × (length (now rows) ≡ tableWords) × InReach scan (cellBits * count) ⌝ }
     ensures { λ r. ⌜ CellsAre (now (s .entry)) bins count scan (now (rows .entry)) (now (rows .exit)) r ⌝ }
 {
     let mut at = scan;

@@ -7,6 +7,7 @@ use Rattle.fields.specs.Reading.{place, times}
 use Rattle.fields.proofs.Laws.{times-value, times-scan}
 use Rattle.sheets.specs.LibrarySheet.{binLoad, last}
 use Rattle.sheets.specs.Layout.{padded}
+use Rattle.sheets.specs.Reach.{binBits}
 use Rattle.sheets.proofs.Laws.{filled-more, last-more, bin-range}
 use Rattle.sheets.proofs.read_bins.Statement.{statement}
 use Rattle.sheets.proofs.read_bins.Tie as tie
@@ -19,7 +20,7 @@ Inv-loop s count loads₀ at₀ before₀ k₀ loads at before k =
     × (before ≡ last (x .0))
     × (before ≤ 255)
     × (at ≡ x .1)
-    × (place at ≤ place at₀ + 8 * k)
+    × (place at ≤ place at₀ + binBits * k)
 
 abbrev μ-loop : tie.MeasureT-loop
 μ-loop s count loads₀ at₀ before₀ k₀ loads at before k = count - k

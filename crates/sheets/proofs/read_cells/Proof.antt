@@ -9,6 +9,7 @@ use Rattle.fields.specs.Promises.{Live}
 use Rattle.sheets.specs.Model.{Cell, patternsFrom}
 use Rattle.sheets.specs.Layout.{rowWords, tableFrom, patternRows}
 use Rattle.sheets.specs.Promises.{cellAfter}
+use Rattle.sheets.specs.Reach.{cellBits}
 use Rattle.sheets.proofs.Cells.{turn-scan, turn-total, turn-rows}
 use Rattle.sheets.proofs.read_cells.Statement.{statement}
 use Rattle.sheets.proofs.read_cells.Tie as tie
@@ -22,7 +23,7 @@ Inv-loop s bins count rows₀ at₀ total₀ k₀ rows at total k =
     × (total ≤ 128)
     × (at ≡ x .1)
     × (Live at → rows ≡ tableFrom rowWords rows₀ 0 (patternRows (bins .loads) (patternsFrom 0 (x .0))))
-    × (place at ≤ place at₀ + 3099 * k)
+    × (place at ≤ place at₀ + cellBits * k)
 
 abbrev μ-loop : tie.MeasureT-loop
 μ-loop s bins count rows₀ at₀ total₀ k₀ rows at total k = count - k

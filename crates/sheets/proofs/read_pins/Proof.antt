@@ -8,6 +8,7 @@ use Rattle.fields.proofs.Laws.{times-scan}
 use Rattle.sheets.specs.Model.{Pin, binLoadOf}
 use Rattle.sheets.specs.LibrarySheet.{pin}
 use Rattle.sheets.specs.Layout.{padded, pinsMost}
+use Rattle.sheets.specs.Reach.{pinBits}
 use Rattle.sheets.proofs.Laws.{filled-more}
 use Rattle.sheets.proofs.read_pins.Statement.{statement}
 use Rattle.sheets.proofs.read_pins.Tie as tie
@@ -21,7 +22,7 @@ Inv-loop s bins count numbers₀ loads₀ intrinsics₀ drives₀ at₀ k₀ num
     × (intrinsics ≡ padded pinsMost 0 (map (λ (p : Pin). p .intrinsic) (x .0)))
     × (drives ≡ padded pinsMost 0 (map (λ (p : Pin). p .drive) (x .0)))
     × (at ≡ x .1)
-    × (place at ≤ place at₀ + 26 * k)
+    × (place at ≤ place at₀ + pinBits * k)
 
 abbrev μ-loop : tie.MeasureT-loop
 μ-loop s bins count numbers₀ loads₀ intrinsics₀ drives₀ at₀ k₀ numbers loads intrinsics drives at k = count - k

@@ -11,6 +11,7 @@ use Rattle.fields.specs.Reading.{place, times}
 use Rattle.fields.specs.Promises.{Live}
 use Rattle.sheets.specs.Layout.{rowWords, tableFrom}
 use Rattle.sheets.specs.Promises.{rowOf, patternOf}
+use Rattle.sheets.specs.Reach.{patternBits}
 use Rattle.sheets.proofs.Laws.{rows-turn}
 use Rattle.sheets.proofs.read_rows.Statement.{statement}
 use Rattle.sheets.proofs.read_rows.Tie as tie
@@ -22,7 +23,7 @@ Inv-loop s numbered total count rows₀ at₀ k₀ rows at k =
     × (length rows ≡ length rows₀)
     × (at ≡ x .1)
     × (Live at → rows ≡ tableFrom rowWords rows₀ total (map (rowOf numbered) (x .0)))
-    × (place at ≤ place at₀ + 416 * k)
+    × (place at ≤ place at₀ + patternBits * k)
 
 abbrev μ-loop : tie.MeasureT-loop
 μ-loop s numbered total count rows₀ at₀ k₀ rows at k = count - k
