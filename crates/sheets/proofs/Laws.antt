@@ -27,9 +27,9 @@ use Rattle.fields.specs.Promises.{Live}
 use Rattle.shapes.specs.Promises.{Laid, NodeRead}
 use Rattle.sheets.specs.LibrarySheet.{last, binLoad, complete, hasAll, pattern, patternRules, countVerdict}
 use Rattle.sheets.specs.Layout.{padded, sizeAt, symbolsAt, rowWords, cellWords, tableFrom}
-use Rattle.sheets.specs.Promises.{PatternIs, rowOf, patternOf, RowIs}
-use Rattle.sheets.specs.declared.NumberedCell.{NumberedCell}
-use Rattle.sheets.specs.declared.PatternRead.{PatternRead}
+use Rattle.sheets.specs.Inside.{PatternIs, rowOf, patternOf, RowIs}
+use Rattle.sheets.specs.declared.library.NumberedCell.{NumberedCell}
+use Rattle.sheets.specs.declared.library.PatternRead.{PatternRead}
 use Rattle.sheets.specs.Reach.{patternBits}
 use Rattle.sheets.proofs.Rows.{row-written, length-row}
 

@@ -5,5 +5,6 @@ pub mod TreeSheet
 pub mod Report
 pub mod Layout
 pub mod Reach
-pub mod Promises
+pub mod Public
+pub mod Inside
 pub mod Sound
