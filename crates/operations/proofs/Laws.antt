@@ -18,15 +18,15 @@ use Rattle.fields.specs.Reading.{start, place}
 use Rattle.fields.specs.Promises.{Live}
 use Rattle.fields.specs.Answer.{Answer, refused, success, onSuccess, places, Bounded}
 use Rattle.fields.proofs.Lists.{zeros-at}
-use Rattle.sheets.specs.declared.LibraryRecord.{LibraryRecord}
-use Rattle.sheets.specs.declared.TreeRecord.{TreeRecord}
-use Rattle.sheets.specs.declared.LibraryRead.{LibraryRead}
-use Rattle.sheets.specs.declared.TreeRead.{TreeRead}
+use Rattle.sheets.specs.declared.library.LibraryRecord.{LibraryRecord}
+use Rattle.sheets.specs.declared.tree.TreeRecord.{TreeRecord}
+use Rattle.sheets.specs.declared.library.LibraryRead.{LibraryRead}
+use Rattle.sheets.specs.declared.tree.TreeRead.{TreeRead}
 use Rattle.sheets.specs.Model.{Library, Tree, patterns}
 use Rattle.sheets.specs.Layout.{rowWords, patternTable, libraryLaid, treeLaid}
 use Rattle.sheets.specs.LibrarySheet.{library as libraryOf}
 use Rattle.sheets.specs.TreeSheet.{tree as treeOf}
-use Rattle.sheets.specs.Promises.{LibraryIs, TreeIs}
+use Rattle.sheets.specs.Public.{LibraryIs, TreeIs}
 use Rattle.sheets.specs.Report.{libraryNumber, treeNumber}
 use Rattle.sheets.specs.Sound.{SoundTree}
 use Rattle.sheets.proofs.Sound.{library-limits, tree-limits}

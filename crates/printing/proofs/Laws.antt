@@ -15,10 +15,10 @@ use borrow.Author.Tests.{lt-ltb, le-ltb, ltb-false, le-leb, lt-leb}
 use Rattle.bits.specs.declared.Field.the-variants.{Value}
 use Rattle.bits.specs.Bits.{valueAt, cursorAt, fieldAt}
 use Rattle.fields.specs.Promises.{Live}
-use Rattle.sheets.specs.declared.LibraryRead.{LibraryRead}
-use Rattle.sheets.specs.declared.LibraryRecord.{LibraryRecord}
+use Rattle.sheets.specs.declared.library.LibraryRead.{LibraryRead}
+use Rattle.sheets.specs.declared.library.LibraryRecord.{LibraryRecord}
 use Rattle.sheets.specs.LibrarySheet.{library as libraryOf}
-use Rattle.sheets.specs.Promises.{LibraryIs}
+use Rattle.sheets.specs.Public.{LibraryIs}
 use Rattle.fields.specs.Reading.{start}
 use Rattle.writing.specs.Written.{Written}
 use Rattle.lines.specs.Text.{decimal, spaced, line, Appended}

@@ -3,7 +3,7 @@ use bits::Cursor;
 use bits::Field;
 use mapper::Reply;
 use sheets::Limits;
-use sheets::PatternRow;
+use sheets::library::PatternRow;
 use writing::Sheet;
 ghost use mathlib.Core.List.{[], _∷_};
 ghost use mathlib.Core.Path.{_≡_};
@@ -133,7 +133,7 @@ fn put_cover(text: &mut [u8], output: &[u8], bytes: usize, library: &[u8]) -> us
     requires { ⌜ (bytes ≤ length (now output)) × Live (libraryOf (now library) start .1) × Printable (take bytes (now output)) (rowsOf (now library)) (now text) ⌝ }
     ensures { λ r. ⌜ Appended (sheetText (take bytes (now (output .entry))) (rowsOf (now (library .entry)))) (now (text .entry)) 0 (now (text .exit)) r ⌝ }
 {
-    let read = sheets::read_library(library);
+    let read = sheets::library::read_library(library);
     let decoded = read.library;
     let rows = decoded.rows;
     put_sheet(text, &output[..bytes], &rows)

@@ -13,8 +13,8 @@ use Rattle.operations.proofs.operate.Reads as reads
 use Rattle.operations.proofs.operate.Lts as lts
 use Rattle.operations.proofs.least_output.Reads as least-output-reads
 use Rattle.operations.proofs.with_library.Reads as with-library-reads
-use Rattle.sheets.proofs.library_number.Reads as library-number-reads
-use Rattle.sheets.proofs.read_library.Reads as read-library-reads
+use Rattle.sheets.proofs.library.library_number.Reads as library-number-reads
+use Rattle.sheets.proofs.library.read_library.Reads as read-library-reads
 
 least-output-requires : tie.Need-least-output-requires
 least-output-requires c κs = search needs

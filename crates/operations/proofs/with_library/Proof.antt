@@ -9,8 +9,8 @@ use Rattle.operations.proofs.with_library.Tie as tie
 use Rattle.operations.proofs.with_library.Reads as reads
 use Rattle.operations.proofs.with_library.Lts as lts
 use Rattle.operations.proofs.with_records.Reads as with-records-reads
-use Rattle.sheets.proofs.read_tree.Reads as read-tree-reads
-use Rattle.sheets.proofs.tree_number.Reads as tree-number-reads
+use Rattle.sheets.proofs.tree.read_tree.Reads as read-tree-reads
+use Rattle.sheets.proofs.tree.tree_number.Reads as tree-number-reads
 
 read-tree-requires : tie.Need-read-tree-requires
 read-tree-requires c κs = search needs
