@@ -8,18 +8,17 @@ use mathlib.Core.Option.{Option, none, some}
 use native.Mathlib.Nat.{zero-add, add-zero, add-suc, suc-add}
 use native.Mathlib.Numerals.{add-one}
 use native.Mathlib.Omega.{arith}
-use lib.ListN.{length, getD, take, drop, replicate, length-append, length-map, length-drop, length-replicate}
-use lib.Seq.{sets, take-suc, length-take-le, getD-take, getD-drop}
+use lib.ListN.{length, getD, take, drop, length-append, length-map}
+use lib.Seq.{sets, take-suc, length-take-le}
 use borrow.Rule.Slice.PartMut.{putMid}
 use Rattle.fields.proofs.Lists.{mid-sets, at-mem, at-map}
-use Rattle.shapes.proofs.Drawn.{length-symbols}
-use Rattle.sheets.specs.Model.{Shape, leaf, inv, nand, size, leaves, Cell, Library, Pattern, Tree, drawn, patternsFrom, patterns}
+use Rattle.sheets.specs.Model.{Shape, leaf, inv, nand, size, leaves, Library, Pattern, Tree, patterns}
 use Rattle.sheets.specs.Layout.{tableFrom, pinsMost, pinWords, figuresAt, rowWords}
 use Rattle.covers.specs.Match.{Input, Match, joined, laid, matched, found, fittingFrom, fitting, pinAt, pinLoad}
 use Rattle.covers.proofs.Matching.{Whenever, never, holds, whenever}
 use Rattle.matching.specs.declared.Walked.{Walked}
 use Rattle.matching.specs.Found.{matchWords, matchTable, matchRow}
-use Rattle.sheets.specs.Sound.{IsGate, SoundCell, SoundDrawing, SoundLibrary}
+use Rattle.sheets.specs.Sound.{IsGate, SoundCell, SoundLibrary}
 use Rattle.matching.specs.Promises.{PatternHeld, Walkable, WalkedIs, Writable, Tried, Ready}
 use Rattle.sheets.proofs.Laws.{table-append}
 use Rattle.sheets.proofs.Tables.{row-at}

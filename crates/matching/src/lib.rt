@@ -159,7 +159,13 @@ fn write_match<'a>(table: &mut [u32], walked: Walked, row: &'a [u32], pattern: u
 }
 
 // The matches of a node: a row for each in the table, in the order of pattern numbers. Answers how many there are.
-pub fn find_matches<'a>(rows: &'a [u32], symbols: &'a [u32], sizes: &'a [u8], n: usize, table: &mut [u32]) -> usize
+pub fn find_matches<'a>(
+    rows: &'a [u32],
+    symbols: &'a [u32],
+    sizes: &'a [u8],
+    n: usize,
+    table: &mut [u32],
+) -> usize
     requires { ⌜ ((l : Library) × ((t : Tree) × ((s : Shape) × Ready l t (now rows) (now symbols) (now sizes) n (length (now table)) s))) ⌝ }
     ensures { λ r. ⌜ ((l : Library) (t : Tree) (s : Shape) → Ready l t (now (rows .entry)) (now (symbols .entry)) (now (sizes .entry)) n (length (now (table .entry))) s →
         (r ≡ length (fitting l n s))
