@@ -23,12 +23,13 @@ use Rattle.sheets.specs.declared.tree.TreeRecord.{TreeRecord}
 use Rattle.sheets.specs.declared.library.LibraryRead.{LibraryRead}
 use Rattle.sheets.specs.declared.tree.TreeRead.{TreeRead}
 use Rattle.sheets.specs.Model.{Library, Tree, patterns}
-use Rattle.sheets.specs.Layout.{rowWords, patternTable, libraryLaid, treeLaid}
+use Rattle.sheets.specs.Layout.{rowWords, tableWords, patternRows, patternTable, libraryLaid, treeLaid}
 use Rattle.sheets.specs.LibrarySheet.{library as libraryOf}
 use Rattle.sheets.specs.TreeSheet.{tree as treeOf}
 use Rattle.sheets.specs.Public.{LibraryIs, TreeIs}
 use Rattle.sheets.specs.Report.{libraryNumber, treeNumber}
 use Rattle.sheets.specs.Sound.{SoundTree}
+use Rattle.sheets.proofs.Tables.{length-table}
 use Rattle.sheets.proofs.Sound.{library-limits, tree-limits}
 use Rattle.covers.specs.Cover.{Point, Cover}
 use Rattle.covers.specs.Tradeoff.{nodes, overfull, overfullNode, tradeoffs}
@@ -51,7 +52,7 @@ use Rattle.mapper.specs.declared.Mapped.{Mapped}
 use Rattle.mapper.specs.declared.Listed.{Listed}
 use Rattle.mapper.specs.Found.{ofFinding, ofMapped, ofListed}
 use Rattle.operations.specs.declared.Task.{Task}
-use Rattle.operations.specs.declared.Task.the-variants.{Cover, Tradeoffs}
+use Rattle.operations.specs.declared.Task.the-variants as Task
 use Rattle.operations.specs.declared.Reply.{Reply}
 use Rattle.operations.specs.declared.Reply.the-variants as Reply
 use Rattle.operations.specs.Public.{ofReply, Operated}
@@ -84,6 +85,15 @@ start-of {l} {t} {library} {tree} g work work′ e =
       some-most = omega arith;
       bounded = omega arith;
     }
+
+-- There are no more rows than the table has room for.
+pub rows-long : {l : Library} {t : Tree} {library : LibraryRecord} {tree : TreeRecord} → Laid l t library tree → length (library .rows) ≡ tableWords
+unfolding libraryLaid
+rows-long {l} g = ap (λ (r : LibraryRecord). length (r .rows)) (g .read .library-is) ∙ length-table rowWords (replicate tableWords 0) 0 (patternRows (l .bins) (patterns l)) ∙ length-replicate {A = ℕ} tableWords 0
+
+pub total-few : {l : Library} {t : Tree} {library : LibraryRecord} {tree : TreeRecord} → Laid l t library tree → library .total ≤ 128
+unfolding libraryLaid
+total-few g = omega (arith, ap (λ (r : LibraryRecord). r .total) (g .read .library-is), g .read .sound .few-patterns)
 
 -- Cleared a second time, after the words in front were lent: those beyond are as they were.
 pub cleared-again : (n : ℕ) (work before part after : List ℕ) → before ≡ replicate n 0 ++ drop n work → length part ≡ length (midOf 0 (n - 0) before) → n ≤ length before → after ≡ replicate n 0 ++ drop n (putMid 0 (n - 0) before part) → after ≡ cleared n work
@@ -161,8 +171,8 @@ worked f none (some a) work = refl
 
 task-worked : (task : Task) (l : Library) (t : Tree) (work : List ℕ) → workAfter (taskAnswer task capacity l t) work ≡ cleared (workWords capacity) work
 unfolding taskAnswer mapAnswer mapped listAnswer listed
-task-worked Cover l t work = worked coverSheet (overfullNode capacity l t) (choice l (t .load) 0 (t .shape) (t .required)) work
-task-worked Tradeoffs l t work = worked listSheet (overfullNode capacity l t) (nonempty (tradeoffs l (t .load) 0 (t .shape))) work
+task-worked Task.Cover l t work = worked coverSheet (overfullNode capacity l t) (choice l (t .load) 0 (t .shape) (t .required)) work
+task-worked Task.Tradeoffs l t work = worked listSheet (overfullNode capacity l t) (nonempty (tradeoffs l (t .load) 0 (t .shape))) work
 
 -- After a refusal of a sheet it is as it was.
 -- And its number fits a word.
