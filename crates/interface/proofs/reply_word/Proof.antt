@@ -1,19 +1,17 @@
 use borrow.Author.Needs.{needs}
 use mathlib.Core.Path.{sym, ap, subst, _∙_}
-use Rattle.covers.specs.Outcome.{word}
-use Rattle.mapper.specs.Said.{ofReply, Limited}
+use Rattle.fields.specs.Answer.{word, Bounded}
+use Rattle.operations.specs.Public.{ofReply}
+use Rattle.operations.specs.declared.Reply.{Reply}
 use Rattle.interface.proofs.reply_word.Statement.{statement}
 use Rattle.interface.proofs.reply_word.Tie as tie
-use Rattle.interface.proofs.reply_word.Reads as reads
-use Rattle.interface.proofs.reply_word.Lts as lts
-use Rattle.interface.proofs.refusal.Reads as refusal-reads
 
 enum-known-reply : tie.Need-enum-known-reply
 enum-known-reply c = search needs
 
 refusal-requires : tie.Need-refusal-requires
-unfolding Limited
-refusal-requires c κs = subst Limited (c .before .reply .given .1) (c .before .before .before .pre)
+unfolding ofReply Bounded
+refusal-requires c κs = let h = subst (λ (r : Reply). Bounded (ofReply r)) (c .before .reply .given .1) (c .before .before .before .pre) in (h .1, h .2)
 
 enum-known-reply-2 : tie.Need-enum-known-reply-2
 enum-known-reply-2 c = search needs

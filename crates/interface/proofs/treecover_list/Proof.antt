@@ -1,8 +1,8 @@
 use borrow.Author.Needs.{needs}
 use Prim.Native.Nat.{ℕ}
-use mathlib.Core.Path.{sym, ap, subst, _∙_}
+use mathlib.Core.Path.{_≡_, sym, ap, subst, _∙_}
 use lib.ListN.{length}
-use Rattle.fields.specs.Answer.{Answer, word}
+use Rattle.fields.specs.Answer.{Answer, word, ofWord}
 use Rattle.fields.proofs.Answer.{word-reads}
 use Rattle.covers.specs.Outcome.{listBytes, observed}
 use Rattle.covers.specs.Demands.{ListDemands, WhereSound}
@@ -27,8 +27,10 @@ returns c =
     let a = c .before .before .before .before .before .before .before .before .before .before .before .before .args in
     let call = c .before .before .before .before .before .list in
     let done = call .ensures .0 in
-    let said = ap (λ (w : ℕ). ofWord w) (c .reply-word .ensures) ∙ word-reads (ofReply (call .result)) (done .bounded) in
-    (c .reply-word .ensures ∙ ap word (done .reply-is), (done .leaves, subst (λ (a : Answer ℕ). ?) (sym said) (call .ensures .1)))
+    let said : ofWord (c .reply-word .result) ≡ ofReply (call .result) = ap ofWord (c .reply-word .ensures) ∙ word-reads (ofReply (call .result)) (done .bounded) in (
+      c .reply-word .ensures ∙ ap word (done .reply-is),
+      (done .leaves, subst (λ (q : Answer ℕ). WhereSound ListDemands listBytes (a .library .now) (a .tree .now) (length (a .output .now)) (length (a .work .now)) (observed q (call .last .1 .1 .0))) (sym said) (call .ensures .1)),
+    )
 
 pub treecover-list-spec : {M : Type 1} → statement M
 treecover-list-spec = tie.close (tie.spec list-requires reply-word-requires same-length same-length-2 returns)
