@@ -2,7 +2,7 @@
 use Prim.Native.Nat.{ℕ, zero, suc, _+_, _-_, _*_, _/_, _%_, _≤_, _<_}
 use mathlib.Core.Path.{_≡_, refl, sym, ap, ap₂, _∙_}
 use mathlib.Core.List.{List, [], _∷_, _++_, map, map-append, reverse, reverse-append, zipWith}
-use native.Mathlib.Nat.{add-assoc, le-of-suc-le-suc}
+use native.Mathlib.Nat.{zero-add, add-assoc, le-of-suc-le-suc}
 use native.Mathlib.Omega.{arith}
 use native.Mathlib.Numerals.{add-one}
 use borrow.Author.Fill.{fill-none, fill-more}
@@ -10,14 +10,23 @@ use lib.ListN.{length, take, drop, getD, set, replicate, length-set, length-repl
 use lib.Seq.{set-append-left, slice, slice-cons, slice-empty, take-suc, length-take-le}
 use Rattle.bits.specs.Bits.{after, withDigit, withBit, withField, bytesTo}
 use Rattle.bits.proofs.Laws.{length-bit, length-field}
-use Rattle.covers.specs.Cover.{Point}
+use Rattle.fields.specs.declared.Scan.{Scan}
+use Rattle.fields.specs.declared.Got.{Got}
+use Rattle.fields.specs.Reading.{start, times, free, field, ended}
+use Rattle.fields.specs.Promises.{Reads}
+use Rattle.fields.proofs.Lists.{take-sets}
+use Rattle.fields.proofs.Laws.{value-at, scan-at, length-times}
+use Rattle.sheets.specs.Layout.{padded}
+use Rattle.covers.specs.Cover.{Point, Placed}
 use Rattle.fields.specs.Written.{Field, widths, written, packed}
 use Rattle.fields.proofs.Written.{length-packed}
-use Rattle.covers.specs.CoverSheet.{placedFields, coverFields, pointFields, listFields, coverSheet, listSheet}
+use Rattle.covers.specs.CoverSheet.{areaWidth, arrivalWidth, matchCountWidth, placedFields, coverFields, pointFields, listFields, coverSheet, listSheet, placedRead, coverRead}
 use Rattle.covers.proofs.SheetLengths.{cover-sheet-length, list-sheet-length}
 use Rattle.covers.specs.Curve.{base, pointOf}
 use Rattle.results.specs.declared.CoverRecord.{CoverRecord}
-use Rattle.results.specs.Public.{placedOf, coverOf, pointsOf, Written}
+use Rattle.results.specs.declared.MatchesRead.{MatchesRead}
+use Rattle.results.specs.Public.{placedOf, coverOf, pointsOf, Written, CoverIs}
+use Rattle.results.specs.Inside.{MatchesAre}
 
 -- ---- elements made zero from the front on
 
@@ -188,3 +197,44 @@ module _ (ws : List ℕ) (count : ℕ) (h : count ≤ length ws) where
       (e
       ∙ field-put (record { value = length ps; width = 5 }) (pointFields ps) 0 s₀ s₁ (e₁ ∙ ap (withField s₀ 0 5) (sym (points-length count ws h)))
       ∙ ap (written (listFields ps) 0) e₀)
+
+-- ---- a cover read
+
+-- The first n elements of an array that holds n.
+take-padded : (l : List ℕ) (n m : ℕ) → length l ≡ n → n ≤ m → take n (padded m 0 l) ≡ l
+take-padded l n m e h =
+    ap (λ (k : ℕ). take k (padded m 0 l)) (sym e ∙ sym (zero-add (length l))) ∙ take-sets (replicate m 0) 0 l (omega (arith, length-replicate {A = ℕ} m 0))
+
+placed-parts : (xs : List Placed) → placedOf (map (λ (x : Placed). x .node) xs) (map (λ (x : Placed). x .pattern) xs) ≡ xs
+unfolding placedOf zipWith
+placed-parts [] = refl
+placed-parts (x ∷ xs) = ap (λ (l : List Placed). x ∷ l) (placed-parts xs)
+
+-- By what the parts promise: the three fields, the matches, the end.
+pub cover-read : (s : List ℕ) (area arrival count : Got) (ms : MatchesRead) (c end : Scan) {i j k a t n : ℕ} → c ≡ start →
+    Reads area (field s areaWidth free c) i a → Reads arrival (field s arrivalWidth free (area .scan)) j t → Reads count (field s matchCountWidth free (arrival .scan)) k n → n ≤ 63 →
+    MatchesAre s (count .value) (count .scan) ms → end ≡ ended s (ms .scan) →
+    CoverIs s (record { scan = end; cover = record { area = area .value; arrival = arrival .value; count = count .value; nodes = ms .nodes; patterns = ms .patterns } })
+unfolding coverRead
+cover-read s area arrival count ms c end e ha ht hn few hm he =
+    let ea = scan-at s areaWidth free c ha e in
+    let et = scan-at s arrivalWidth free (area .scan) ht ea in
+    let vn = value-at s matchCountWidth free (arrival .scan) hn et in
+    let en = scan-at s matchCountWidth free (arrival .scan) hn et in
+    let small : count .value ≤ 63 = omega (arith, hn .small) in
+    let x = times (count .value) (placedRead s) (count .scan) in
+    let many = length-times (count .value) (placedRead s) (count .scan) in
+    let same = ap₂ (λ (m : ℕ) (q : Scan). times m (placedRead s) q) vn en in
+    let placed : placedOf (take (count .value) (ms .nodes)) (take (count .value) (ms .patterns)) ≡ x .0 =
+    ap₂ (λ (ns ps : List ℕ). placedOf ns ps)
+    (ap (take (count .value)) (hm .nodes) ∙ take-padded (map (λ (y : Placed). y .node) (x .0)) (count .value) 64 (length-map (x .0) (λ (y : Placed). y .node) ∙ many) (omega arith))
+    (ap (take (count .value)) (hm .patterns) ∙ take-padded (map (λ (y : Placed). y .pattern) (x .0)) (count .value) 64 (length-map (x .0) (λ (y : Placed). y .pattern) ∙ many) (omega arith))
+    ∙ placed-parts (x .0) in
+    record {
+      scan-is = he ∙ ap (ended s) (hm .scan-is ∙ ap (λ (y : List Placed × Scan). y .1) same);
+      cover-is = λ d. record {
+        point = record { area = value-at s areaWidth free c ha e d; arrival = value-at s arrivalWidth free (area .scan) ht ea d };
+        placed = (placed ∙ ap (λ (y : List Placed × Scan). y .0) same) d;
+      };
+      few = small;
+    }
