@@ -5,36 +5,40 @@ use mathlib.Core.Bool.{Bool}
 use mathlib.Core.List.{List, [], _∷_, _++_, map, map-append, append-assoc, append-nil, List·Memᴰ, List·Memᴰ·head, List·Memᴰ·tail, List·Memᴰ·not-nil}
 use mathlib.Core.Option.{Option, none, some, Option·map, Option·none-ne-some, Option·some-injective, map-eq-some-iff}
 use native.Mathlib.Numerals.{add-one}
+use native.Mathlib.Nat.{add-zero, add-assoc}
 use native.Mathlib.Omega.{arith}
-use lib.ListN.{length, getD, set, take, length-append, length-map}
-use lib.Seq.{sets, take-suc, take-all}
+use lib.ListN.{length, getD, take, drop, length-append, length-map}
+use lib.Seq.{sets, sets-eq, take-suc, take-all, take-append-seam}
 use Rattle.fields.proofs.Lists.{sets-append, at-mem}
-use Rattle.sheets.specs.declared.CellRecord.{CellRecord}
 use Rattle.sheets.specs.Model.{Shape, Pin, Cell, Library, Tree}
 use Rattle.covers.specs.Lists.{firstSuch}
 use Rattle.covers.specs.Match.{Input, Match, IsMatch, matches, pinAt, pinLoad}
 use Rattle.covers.specs.Cover.{Point, Placed, Cover, nothing, together, delayed, topped, feeds, inputDelay}
 use Rattle.covers.specs.Enumeration.{under, covers}
-use Rattle.covers.specs.Tradeoff.{nodes as nodesFrom}
+use Rattle.covers.specs.Tradeoff.{nodes}
 use Rattle.covers.specs.Choice.{least, chosenInputs, firstReaching, choice}
+use Rattle.covers.specs.Curve.{base, gates}
 use Rattle.covers.proofs.Basics.{at-all, FirstOf, nowhere, somewhere, first-of}
 use Rattle.covers.proofs.Least.{least-is, least-some}
-use Rattle.covers.specs.Curve.{gates}
 use Rattle.covers.proofs.Matching.{Spread, last, next, matches-are, match-inside, spread-in, input-smaller}
 use Rattle.covers.proofs.Handed.{chosen-some, choice-point, choice-handed}
 use Rattle.covers.proofs.Listing.{few-matches}
 use Rattle.covers.proofs.Nodes.{input-in, nodes-within}
 use Rattle.covers.proofs.Bounds.{match-cell}
 use Rattle.covers.proofs.FromSheets.{binned}
-use Rattle.matching.proofs.Written.{in-padded}
+use Rattle.filling.proofs.Node.{leaf-here}
+use Rattle.results.specs.declared.CoverRecord.{CoverRecord}
+use Rattle.results.specs.Public.{placedOf, coverOf}
+use Rattle.results.proofs.Laws.{placed-parts}
+use Rattle.choosing.specs.declared.Goal.{Goal}
 use Rattle.choosing.specs.declared.Inputs.{Inputs}
-use Rattle.choosing.specs.Promises.{noInput, InputsAre, below, Driven, Chooses, Listed}
-use Rattle.choosing.proofs.Gate.{Parts, parts, size-here, leaf-here}
+use Rattle.choosing.specs.Promises.{noInput, goalOf, goalAt, InputsAre, Prepared, below, Driven, Chooses, appended}
+use Rattle.choosing.proofs.Gate.{parts, size-at, ready}
 
 -- The matches of a choice, if there is one.
-unfoldable pub placedOf : Option Cover → List Placed
-placedOf none = []
-placedOf (some c) = c .placed
+unfoldable pub chosenPlaced : Option Cover → List Placed
+chosenPlaced none = []
+chosenPlaced (some c) = c .placed
 
 module _ (l : Library) (cell : Cell) (load t : ℕ) where
   -- The choice of one input, and the matches of the choices of several.
@@ -43,7 +47,7 @@ module _ (l : Library) (cell : Cell) (load t : ℕ) where
 
   unfoldable pub inputsPlaced : List Input → List Placed
   inputsPlaced [] = []
-  inputsPlaced (i ∷ is) = placedOf (inputChoice i) ++ inputsPlaced is
+  inputsPlaced (i ∷ is) = chosenPlaced (inputChoice i) ++ inputsPlaced is
 
   -- Each input is chosen, and the whole lists what they list.
   pub each-chosen : (is : List Input) {d : Cover} → chosenInputs (under l (choice l)) cell load t is ≡ some d → (i : Input) → List·Memᴰ i is → (c : Cover) × (inputChoice i ≡ some c)
@@ -58,56 +62,64 @@ module _ (l : Library) (cell : Cell) (load t : ℕ) where
       each-chosen is (r .3) i k
 
   pub all-placed : (is : List Input) {d : Cover} → chosenInputs (under l (choice l)) cell load t is ≡ some d → d .placed ≡ inputsPlaced is
-  unfolding chosenInputs under inputsPlaced placedOf nothing together delayed
+  unfolding chosenInputs under inputsPlaced chosenPlaced nothing together delayed
   all-placed [] e = ap (λ (c : Cover). c .placed) (sym (Option·some-injective _ _ e))
   all-placed (j ∷ is) {d} e =
       let r = chosen-some (Option·map (delayed (inputDelay cell load j)) (inputChoice j)) (chosenInputs (under l (choice l)) cell load t is) e in
       let k = map-eq-some-iff (delayed (inputDelay cell load j)) (inputChoice j) .0 (r .2) in
       ap (λ (c : Cover). c .placed) (r .4)
-      ∙ ap₂ (λ (xs ys : List Placed). xs ++ ys) (ap (λ (c : Cover). c .placed) (sym (k .2)) ∙ sym (ap placedOf (k .1))) (all-placed is (r .3))
+      ∙ ap₂ (λ (xs ys : List Placed). xs ++ ys) (ap (λ (c : Cover). c .placed) (sym (k .2)) ∙ sym (ap chosenPlaced (k .1))) (all-placed is (r .3))
 
-  placed-last : (js : List Input) (i : Input) → inputsPlaced (js ++ (i ∷ [])) ≡ inputsPlaced js ++ placedOf (inputChoice i)
+  placed-last : (js : List Input) (i : Input) → inputsPlaced (js ++ (i ∷ [])) ≡ inputsPlaced js ++ chosenPlaced (inputChoice i)
   unfolding inputsPlaced
-  placed-last [] i = append-nil (placedOf (inputChoice i))
-  placed-last (j ∷ js) i = ap (λ (xs : List Placed). placedOf (inputChoice j) ++ xs) (placed-last js i) ∙ sym (append-assoc (placedOf (inputChoice j)) (inputsPlaced js) (placedOf (inputChoice i)))
+  placed-last [] i = append-nil (chosenPlaced (inputChoice i))
+  placed-last (j ∷ js) i = ap (λ (xs : List Placed). chosenPlaced (inputChoice j) ++ xs) (placed-last js i) ∙ sym (append-assoc (chosenPlaced (inputChoice j)) (inputsPlaced js) (chosenPlaced (inputChoice i)))
 
-  pub placed-more : (is : List Input) (k : ℕ) → k < length is → inputsPlaced (take (k + 1) is) ≡ inputsPlaced (take k is) ++ placedOf (inputChoice (getD is k noInput))
+  pub placed-more : (is : List Input) (k : ℕ) → k < length is → inputsPlaced (take (k + 1) is) ≡ inputsPlaced (take k is) ++ chosenPlaced (inputChoice (getD is k noInput))
   placed-more is k h = ap (λ (j : ℕ). inputsPlaced (take j is)) (add-one k) ∙ ap inputsPlaced (take-suc is k noInput h) ∙ placed-last (take k is) (getD is k noInput)
 
   -- No more matches than gates, so what is listed before an input leaves room for it.
-  pub spread-few : {low high g : ℕ} {is : List Input} → Spread low high g is → ((i : Input) → List·Memᴰ i is → length (placedOf (inputChoice i)) ≤ gates (i .shape)) → (k : ℕ) → k < length is →
+  pub spread-few : {low high g : ℕ} {is : List Input} → Spread low high g is → ((i : Input) → List·Memᴰ i is → length (chosenPlaced (inputChoice i)) ≤ gates (i .shape)) → (k : ℕ) → k < length is →
       length (inputsPlaced (take k is)) + gates (getD is k noInput .shape) ≤ g
   unfolding inputsPlaced
   spread-few (last a) h k l = absurd (omega arith)
   spread-few (next {i = i} {is = is} a b s) h zero l = omega arith
   spread-few (next {i = i} {is = is} a b s) h (suc k) l =
-      omega (arith, length-append (placedOf (inputChoice i)) (inputsPlaced (take k is)), h i (List·Memᴰ·head refl), spread-few s (λ j m. h j (List·Memᴰ·tail m)) k (omega arith))
+      omega (arith, length-append (chosenPlaced (inputChoice i)) (inputsPlaced (take k is)), h i (List·Memᴰ·head refl), spread-few s (λ j m. h j (List·Memᴰ·tail m)) k (omega arith))
 
--- ---- lists of matches one after another
+-- ---- a cover's record
 
-pub listed-none : (count : ℕ) (l p : List ℕ) → Listed [] count l p l p count
-listed-none count l p = record { next = omega arith; nodes-are = refl; patterns-are = refl }
+record-path : {a b n n′ : ℕ} {ns ns′ ps ps′ : List ℕ} → n ≡ n′ → ns ≡ ns′ → ps ≡ ps′ →
+    _≡_ {A = CoverRecord} (record { area = a; arrival = b; count = n; nodes = ns; patterns = ps }) (record { area = a; arrival = b; count = n′; nodes = ns′; patterns = ps′ })
+record-path p q r = cc
 
-pub listed-more : {xs ys : List Placed} {count next next′ : ℕ} {l p l′ p′ l″ p″ : List ℕ} → Listed xs count l p l′ p′ next → Listed ys next l′ p′ l″ p″ next′ → Listed (xs ++ ys) count l p l″ p″ next′
-listed-more {xs} {ys} {count} {l = l} {p = p} a b = record {
-  next = omega (arith, a .next, b .next, length-append xs ys);
-  nodes-are = run (λ (x : Placed). x .node) l (a .next) (a .nodes-are) (b .nodes-are);
-  patterns-are = run (λ (x : Placed). x .pattern) p (a .next) (a .patterns-are) (b .patterns-are);
-}
+-- Nothing appended, and matches appended one list after another.
+pub appended-none : (c : CoverRecord) → c ≡ appended c []
+appended-none c = record-path (sym (add-zero (c .count))) refl refl
+
+pub appended-more : (c : CoverRecord) (xs ys : List Placed) → appended (appended c xs) ys ≡ appended c (xs ++ ys)
+appended-more c xs ys =
+    record-path (add-assoc (c .count) (length xs) (length ys) ∙ ap (λ (n : ℕ). c .count + n) (sym (length-append xs ys)))
+    (run (λ (x : Placed). x .node) (c .nodes)) (run (λ (x : Placed). x .pattern) (c .patterns))
   where
-    run : (f : Placed → ℕ) (m : List ℕ) {m′ m″ : List ℕ} {n : ℕ} → n ≡ count + length xs → m′ ≡ sets m count (map f xs) → m″ ≡ sets m′ n (map f ys) → m″ ≡ sets m count (map f (xs ++ ys))
-    run f m e q r =
-        r ∙ ap₂ (λ (v : List ℕ) (k : ℕ). sets v k (map f ys)) q (e ∙ ap (λ (k : ℕ). count + k) (sym (length-map xs f)))
-        ∙ sym (sets-append m count (map f xs) (map f ys)) ∙ ap (sets m count) (sym (map-append f xs ys))
+    run : (f : Placed → ℕ) (l : List ℕ) → sets (sets l (c .count) (map f xs)) (c .count + length xs) (map f ys) ≡ sets l (c .count) (map f (xs ++ ys))
+    run f l =
+        ap (λ (n : ℕ). sets (sets l (c .count) (map f xs)) (c .count + n) (map f ys)) (sym (length-map xs f))
+        ∙ sym (sets-append l (c .count) (map f xs) (map f ys)) ∙ ap (sets l (c .count)) (sym (map-append f xs ys))
 
-pub listed-first : {x : Placed} {xs : List Placed} {count next : ℕ} {l p l′ p′ : List ℕ} → Listed xs (count + 1) (set l count (x .node)) (set p count (x .pattern)) l′ p′ next → Listed (x ∷ xs) count l p l′ p′ next
-listed-first {x} {xs} {count} {l = l} {p = p} a = record {
-  next = omega (arith, a .next);
-  nodes-are = a .nodes-are ∙ ap (λ (k : ℕ). sets (set l count (x .node)) k (map (λ (y : Placed). y .node) xs)) (add-one count);
-  patterns-are = a .patterns-are ∙ ap (λ (k : ℕ). sets (set p count (x .pattern)) k (map (λ (y : Placed). y .pattern) xs)) (add-one count);
-}
+-- The cover that a record with no match is, with matches appended.
+pub appended-cover : (c : CoverRecord) (xs : List Placed) → c .count ≡ 0 → length xs ≤ length (c .nodes) → length xs ≤ length (c .patterns) →
+    coverOf (appended c xs) ≡ record { point = record { area = c .area; arrival = c .arrival }; placed = xs }
+appended-cover c xs e hn hp =
+    ap (λ (ps : List Placed). record { point = record { area = c .area; arrival = c .arrival }; placed = ps }) (ap₂ placedOf (front (λ x. x .node) (c .nodes) hn) (front (λ x. x .pattern) (c .patterns) hp) ∙ placed-parts xs)
+  where
+    front : (f : Placed → ℕ) (ns : List ℕ) → length xs ≤ length ns → take (c .count + length xs) (sets ns (c .count) (map f xs)) ≡ map f xs
+    front f ns h =
+        let vs = map f xs in
+        let many : c .count + length xs ≡ length vs = omega (arith, length-map xs f, e) in
+        ap₂ (λ (n i : ℕ). take n (sets ns i vs)) many e ∙ ap (take (length vs)) (sets-eq vs ns 0 (omega (arith, length-map xs f))) ∙ take-append-seam vs (drop (0 + length vs) ns)
 
--- ---- the loop over the inputs
+-- ---- the match at a gate
 
 first-in : {A : Type 0} (test : A → Bool) (xs : List A) {x : A} → firstSuch test xs ≡ some x → List·Memᴰ x xs
 first-in test xs {x} e = go (first-of test xs) e
@@ -120,128 +132,128 @@ pub first-match : (l : Library) (load n : ℕ) (s : Shape) (p : Point) {m : Matc
 unfolding firstReaching
 first-match l load n s p e = matches-are l load n s (first-in _ (matches l load n s) e)
 
--- A cover of a gate whose first k inputs are listed.
-pub record Going (l : Library) (s : Shape) (n load time : ℕ) (c : Cover) (inputs : Inputs) (count : ℕ) (nodes₁ patterns₁ nodes patterns : List ℕ) (next k : ℕ) : Type 0 where
-  pub point : Point
-  pub least-is : least (suc time) (covers l load n s) ≡ some point
-  pub made : Parts l load n s point c
-  pub inputs-are : InputsAre (made .match) load (point .arrival) inputs
-  pub listed : Listed (inputsPlaced l (made .match .pattern .cell) load (point .arrival) (take k (made .match .inputs))) (count + 1) nodes₁ patterns₁ nodes patterns next
-
-module _ (l : Library) (s : Shape) (n load time : ℕ) (c : Cover) (inputs : Inputs) (count : ℕ) where
-  pub going-start : (p : Point) → 0 < gates s → least (suc time) (covers l load n s) ≡ some p → choice l load n s time ≡ some c →
-      ((q : Point) → least (suc time) (covers l load n s) ≡ some q → (m : Match) → firstReaching l load n s q ≡ some m → InputsAre m load (q .arrival) inputs) →
-      (nodes patterns : List ℕ) → Going l s n load time c inputs count nodes patterns nodes patterns (count + 1) 0
-  unfolding inputsPlaced
-  going-start p g e h are nodes patterns =
-      let m = parts l load n s time g e h in
-      record { point = p; least-is = e; made = m; inputs-are = are p e (m .match) (m .first); listed = listed-none (count + 1) nodes patterns }
-
-  -- All inputs listed: the cover.
-  pub going-end : {nodes₀ patterns₀ nodes patterns : List ℕ} {next k : ℕ} → Going l s n load time c inputs count (set nodes₀ count n) (set patterns₀ count (inputs .pattern)) nodes patterns next k → k ≡ inputs .count →
-      Listed (c .placed) count nodes₀ patterns₀ nodes patterns next
-  unfolding topped
-  going-end {nodes₀} {patterns₀} {nodes} {patterns} {next} {k} g e =
-      let m = g .made .match in
-      let cell = m .pattern .cell in
-      let all : take k (m .inputs) ≡ m .inputs = take-all k (m .inputs) (omega (arith, g .inputs-are .count-is)) in
-      let is : c .placed ≡ record { node = n; pattern = m .number } ∷ inputsPlaced l cell load (g .point .arrival) (take k (m .inputs)) =
-      ap (λ (x : Cover). x .placed) (g .made .whole)
-      ∙ ap (λ (xs : List Placed). record { node = n; pattern = m .number } ∷ xs) (all-placed l cell load (g .point .arrival) (m .inputs) (g .made .chosen) ∙ ap (inputsPlaced l cell load (g .point .arrival)) (sym all)) in
-      subst (λ (xs : List Placed). Listed xs count nodes₀ patterns₀ nodes patterns next) (sym is)
-      (listed-first (subst (λ (q : ℕ). Listed (inputsPlaced l cell load (g .point .arrival) (take k (m .inputs))) (count + 1) (set nodes₀ count n) (set patterns₀ count q) nodes patterns next) (g .inputs-are .pattern-is) (g .listed)))
-
 -- The same, of equal lengths.
-pub resized : {l : Library} {t : Tree} {rows : List ℕ} {total : ℕ} {cells : List CellRecord} {loads ss zs : List ℕ} {room room′ : ℕ} {work : List ℕ} {n load bin time places places′ count : ℕ} {s : Shape} →
-    Chooses l t rows total cells loads ss zs room work n load bin time places count s → room ≡ room′ → places ≡ places′ → Chooses l t rows total cells loads ss zs room′ work n load bin time places′ count s
-resized {l} {t} {rows} {total} {cells} {loads} {ss} {zs} {room′ = room′} {work = work} {n = n} {load} {bin} {time} {places} {count = count} {s = s} a e f =
-    subst (λ (q : ℕ). Chooses l t rows total cells loads ss zs room′ work n load bin time q count s) f (subst (λ (q : ℕ). Chooses l t rows total cells loads ss zs q work n load bin time places count s) e a)
+rehoused : {most : ℕ} {l : Library} {t : Tree} {rows ss zs : List ℕ} {room room′ : ℕ} {work : List ℕ} → Prepared most l t rows ss zs room work → room ≡ room′ → Prepared most l t rows ss zs room′ work
+rehoused p e = record { decoded = p .decoded; room-is = sym e ∙ p .room-is; area = p .area; curves = p .curves }
+
+-- A gate at node n, its match and the choices of the match's inputs, as they were read; from place `start` on there is room for what they list.
+pub record Topmost (most : ℕ) (l : Library) (t : Tree) (rows ss zs : List ℕ) (room : ℕ) (work : List ℕ) (n : ℕ) (inputs : Inputs) (start : ℕ) : Type 0 where
+  pub shape : Shape
+  pub load : ℕ
+  pub time : ℕ
+  pub match : Match
+  pub rest : Cover
+  pub prepared : Prepared most l t rows ss zs room work
+  pub here : List·Memᴰ (record { number = n; shape = shape }) (nodes 0 (t .shape))
+  pub fitting : IsMatch l load n shape match
+  pub inputs-are : InputsAre l match load time inputs
+  pub time-small : time < base
+  pub chosen : chosenInputs (under l (choice l)) (match .pattern .cell) load time (match .inputs) ≡ some rest
+  pub fits : start + gates shape ≤ 65
+
+-- What the first k inputs list.
+module _ {most : ℕ} {l : Library} {t : Tree} {rows ss zs : List ℕ} {room : ℕ} {work : List ℕ} {n : ℕ} {inputs : Inputs} {start : ℕ} (top : Topmost most l t rows ss zs room work n inputs start) where
+  abbrev pub placedTo : ℕ → List Placed
+  placedTo k = inputsPlaced l (top .match .pattern .cell) (top .load) (top .time) (take k (top .match .inputs))
+
+  pub few-inputs : inputs .count ≤ 16
+  few-inputs = omega (arith, top .inputs-are .count-is, top .inputs-are .few)
+
+  pub placed-start : placedTo 0 ≡ []
+  unfolding inputsPlaced
+  placed-start = refl
+
+  pub placed-all : (k : ℕ) → inputs .count ≤ k → placedTo k ≡ top .rest .placed
+  placed-all k h =
+      ap (inputsPlaced l (top .match .pattern .cell) (top .load) (top .time)) (take-all k (top .match .inputs) (omega (arith, top .inputs-are .count-is)))
+      ∙ sym (all-placed l (top .match .pattern .cell) (top .load) (top .time) (top .match .inputs) (top .chosen))
 
 -- The next input: what its own choice is lent, that its subtree is smaller, and what it lists.
-pub record Input-next (l : Library) (t : Tree) (s : Shape) (rows : List ℕ) (total : ℕ) (cells : List CellRecord) (loads ss zs : List ℕ) (room : ℕ) (work : List ℕ) (n load time places count : ℕ) (c : Cover) (inputs : Inputs) (nodes₁ patterns₁ nodes patterns : List ℕ) (next k : ℕ) : Type 0 where
+pub record Following (most : ℕ) (l : Library) (t : Tree) (rows ss zs : List ℕ) (room : ℕ) (work : List ℕ) (n : ℕ) (goal : Goal) (cover : CoverRecord) (before after : List Placed) : Type 0 where
   pub shape : Shape
-  pub bin-small : getD (inputs .bins) k 0 < 4
-  pub chooses : Chooses l t rows total cells loads ss zs room work (getD (inputs .nodes) k 0) (getD loads (getD (inputs .bins) k 0) 0) (getD (inputs .bins) k 0) (getD (inputs .times) k 0) places next shape
-  pub smaller : getD zs (getD (inputs .nodes) k 0) 0 < getD zs n 0
-  pub cover : Cover
-  pub chosen : choice l (getD loads (getD (inputs .bins) k 0) 0) (getD (inputs .nodes) k 0) shape (getD (inputs .times) k 0) ≡ some cover
-  pub after : (nodes′ patterns′ : List ℕ) (next′ : ℕ) → Listed (cover .placed) next nodes patterns nodes′ patterns′ next′ → Going l s n load time c inputs count nodes₁ patterns₁ nodes′ patterns′ next′ (k + 1)
+  pub chooses : Chooses most l t rows ss zs room work goal cover shape
+  pub smaller : getD zs (goal .node) 0 < getD zs n 0
+  pub chosen : Cover
+  pub choice-is : choice l (goal .load) (goal .node) shape (goal .time) ≡ some chosen
+  pub more : after ≡ before ++ chosen .placed
 
-module _ {l : Library} {t : Tree} {rows : List ℕ} {total : ℕ} {cells : List CellRecord} {loads ss zs : List ℕ} {room : ℕ} {work : List ℕ} {n load bin time places count : ℕ} {s : Shape}
-    (all : Chooses l t rows total cells loads ss zs room work n load bin time places count s) {c : Cover} {inputs : Inputs} {nodes₁ patterns₁ nodes patterns : List ℕ} {next k : ℕ}
-    (g : Going l s n load time c inputs count nodes₁ patterns₁ nodes patterns next k) (inside : k < inputs .count) where
-  pub going-next : Input-next l t s rows total cells loads ss zs room work n load time places count c inputs nodes₁ patterns₁ nodes patterns next k
-  unfolding placedOf
-  going-next =
-      let m = g .made .match in
+module _ {most : ℕ} {l : Library} {t : Tree} {rows ss zs : List ℕ} {room : ℕ} {work : List ℕ} {n : ℕ} {inputs : Inputs} {start : ℕ} (top : Topmost most l t rows ss zs room work n inputs start)
+    {k : ℕ} (inside : k < inputs .count) {cover : CoverRecord} (so-far : cover .count ≡ start + length (placedTo top k)) {room′ : ℕ} (same : room ≡ room′) {next : Goal} (asked : next ≡ goalAt inputs k) where
+  pub following : Following most l t rows ss zs room′ work n next cover (placedTo top k) (placedTo top (k + 1))
+  unfolding chosenPlaced
+  following =
+      let m = top .match in
       let cell = m .pattern .cell in
-      let t₀ = g .point .arrival in
-      let here : k < length (m .inputs) = omega (arith, g .inputs-are .count-is) in
+      let is : k < length (m .inputs) = omega (arith, top .inputs-are .count-is) in
       let i = getD (m .inputs) k noInput in
-      let node = getD (inputs .nodes) k 0 in
-      let bin = getD (inputs .bins) k 0 in
-      let left = getD (inputs .times) k 0 in
-      let q = g .inputs-are .each k here in
-      let f = first-match l load n s (g .point) (g .made .first) in
-      let mem = at-mem (m .inputs) k noInput here in
-      let deep = spread-in (match-inside f .spread) mem in
-      let known : bin < length (l .bins) = subst (λ (b : ℕ). b < length (l .bins)) (sym (q .bin-is)) (pin-bin f i) in
-      let few = all .prepared .decoded .library .few-bins in
-      let drives-is : getD loads bin 0 ≡ getD (l .bins) bin 0 = ap (λ (x : List ℕ). getD x bin 0) (all .loads-are) ∙ in-padded 4 0 0 (l .bins) bin few known in
-      let load-is : getD loads bin 0 ≡ pinLoad l (feeds cell i) = drives-is ∙ pin-load bin (feeds cell i .bin) (feeds cell i) (q .bin-is) refl in
-      let c₀ = each-chosen l cell load t₀ (m .inputs) (g .made .chosen) i mem in
-      let chosen : choice l (getD loads bin 0) node (i .shape) left ≡ some (c₀ .0) =
-      ap₂ (λ (a b : ℕ). choice l a b (i .shape) left) load-is (q .node-is) ∙ ap (choice l (pinLoad l (feeds cell i)) (i .node) (i .shape)) (q .time-is) ∙ c₀ .1 in
-      let member : List·Memᴰ (record { number = node; shape = i .shape }) (nodesFrom 0 (t .shape)) =
-      subst (λ (x : ℕ). List·Memᴰ (record { number = x; shape = i .shape }) (nodesFrom 0 (t .shape))) (sym (q .node-is)) (nodes-within 0 (t .shape) (all .driven .node) (input-in f i mem)) in
-      let early = least-some (least-is (suc time) (covers l load n s)) (g .least-is) .intime in
-      let small : left ≤ 16777215 = omega (arith, q .time-is, all .driven .time-small) in
-      let driven : Driven l t node (getD loads bin 0) bin left (i .shape) = record {
-        node = member;
-        drives = below (omega (arith, q .node-is, deep .0)) known drives-is;
-        time-small = small;
-        some-cover = (c₀ .0 .point, sym (choice-point l (getD loads bin 0) node (i .shape) left) ∙ ap (Option·map (λ (x : Cover). x .point)) chosen);
+      let goal = goalOf l m (top .load) (top .time) i in
+      let mem = at-mem (m .inputs) k noInput is in
+      let deep = spread-in (match-inside (top .fitting) .spread) mem in
+      let c = each-chosen l cell (top .load) (top .time) (m .inputs) (top .chosen) i mem in
+      let driven : Driven l t goal (i .shape) = record {
+        node = nodes-within 0 (t .shape) (top .here) (input-in (top .fitting) i mem);
+        drives = below (omega (arith, deep .0)) (pin-bin i) (pin-load (feeds cell i));
+        time-small = omega (arith, top .time-small);
+        some-cover = (c .0 .point, sym (choice-point l (goal .load) (i .node) (i .shape) (goal .time)) ∙ ap (Option·map (λ (x : Cover). x .point)) (c .1));
       } in
-      let room-left = spread-few l cell load t₀ (match-inside f .spread) (λ j k. few-placed j (each-chosen l cell load t₀ (m .inputs) (g .made .chosen) j k)) k here in
-      record {
+      let room-left = spread-few l cell (top .load) (top .time) (match-inside (top .fitting) .spread) (λ j h. few-placed j (each-chosen l cell (top .load) (top .time) (m .inputs) (top .chosen) j h)) k is in
+      subst (λ (g : Goal). Following most l t rows ss zs room′ work n g cover (placedTo top k) (placedTo top (k + 1))) (sym (asked ∙ top .inputs-are .each k is))
+      (record {
         shape = i .shape;
-        bin-small = omega arith;
-        chooses = record {
-          prepared = all .prepared;
-          driven = driven;
-          loads-are = all .loads-are;
-          fits = omega (arith, room-left, match-inside f .fewer, g .listed .next, all .fits);
-        };
-        smaller = omega (arith, size-here (all .prepared) driven, size-here (all .prepared) (all .driven), input-smaller f mem);
-        cover = c₀ .0;
-        chosen = chosen;
-        after = λ nodes′ patterns′ next′ y. record {
-          point = g .point;
-          least-is = g .least-is;
-          made = g .made;
-          inputs-are = g .inputs-are;
-          listed = subst (λ (xs : List Placed). Listed xs (count + 1) nodes₁ patterns₁ nodes′ patterns′ next′) (sym (placed-more l cell load t₀ (m .inputs) k here ∙ ap (λ (o : Option Cover). inputsPlaced l cell load t₀ (take k (m .inputs)) ++ placedOf o) (c₀ .1))) (listed-more (g .listed) y);
-        };
-      }
+        chooses = record { prepared = rehoused (top .prepared) same; driven = driven; fits = omega (arith, room-left, match-inside (top .fitting) .fewer, so-far, top .fits) };
+        smaller = omega (arith, size-at (ready (top .prepared) driven), size-at (record { decoded = top .prepared .decoded; here = top .here; room-is = top .prepared .room-is }), input-smaller (top .fitting) mem);
+        chosen = c .0;
+        choice-is = c .1;
+        more = placed-more l cell (top .load) (top .time) (m .inputs) k is ∙ ap (λ (o : Option Cover). placedTo top k ++ chosenPlaced o) (c .1);
+      })
     where
-      pin-bin : {m : Match} → IsMatch l load n s m → (i : Input) → feeds (m .pattern .cell) i .bin < length (l .bins)
-      pin-bin {m} f i = unfold feeds pinAt in
-          let b = binned (all .prepared .decoded .library) in
-          at-all (λ p. p .bin < length (l .bins)) (m .pattern .cell .pins) (i .pin) (record { bin = 0; intrinsic = 0; drive = 0 }) (b .some-bin) (b .pins (m .pattern .cell) (match-cell f))
+      pin-bin : (i : Input) → feeds (top .match .pattern .cell) i .bin < length (l .bins)
+      pin-bin i = unfold feeds pinAt in
+          let b = binned (top .prepared .decoded .library) in
+          at-all (λ p. p .bin < length (l .bins)) (top .match .pattern .cell .pins) (i .pin) (record { bin = 0; intrinsic = 0; drive = 0 }) (b .some-bin) (b .pins (top .match .pattern .cell) (match-cell (top .fitting)))
 
-      pin-load : (a b : ℕ) (p : Pin) → a ≡ b → p .bin ≡ b → getD (l .bins) a 0 ≡ pinLoad l p
-      pin-load a b p e h = unfold pinLoad in ap (λ (x : ℕ). getD (l .bins) x 0) (e ∙ sym h)
+      pin-load : (p : Pin) → pinLoad l p ≡ getD (l .bins) (p .bin) 0
+      pin-load p = unfold pinLoad in refl
 
-      few-placed : (j : Input) → (c : Cover) × (inputChoice l (g .made .match .pattern .cell) load (g .point .arrival) j ≡ some c) → length (placedOf (inputChoice l (g .made .match .pattern .cell) load (g .point .arrival) j)) ≤ gates (j .shape)
-      few-placed j x = unfold placedOf in
-          let cell = g .made .match .pattern .cell in
-          rw (x .1) (few-matches (choice-handed l (pinLoad l (feeds cell j)) (j .node) (j .shape) (g .point .arrival - inputDelay cell load j) (x .1) .legal))
+      few-placed : (j : Input) → (c : Cover) × (inputChoice l (top .match .pattern .cell) (top .load) (top .time) j ≡ some c) → length (chosenPlaced (inputChoice l (top .match .pattern .cell) (top .load) (top .time) j)) ≤ gates (j .shape)
+      few-placed j x = unfold chosenPlaced in
+          let cell = top .match .pattern .cell in
+          rw (x .1) (few-matches (choice-handed l (pinLoad l (feeds cell j)) (j .node) (j .shape) (top .time - inputDelay cell (top .load) j) (x .1) .legal))
 
--- At a leaf nothing is listed.
-pub leaf-listed : {l : Library} {t : Tree} {rows : List ℕ} {total : ℕ} {cells : List CellRecord} {loads ss zs : List ℕ} {room : ℕ} {work : List ℕ} {n load bin time places count : ℕ} {s : Shape} →
-    Chooses l t rows total cells loads ss zs room work n load bin time places count s → 2 ≤ getD ss n 0 → (c : Cover) → choice l load n s time ≡ some c → (nodes patterns : List ℕ) → Listed (c .placed) count nodes patterns nodes patterns count
-leaf-listed {l} {n = n} {load} {time = time} {count = count} {s = s} all h c e nodes patterns = go (c .placed) (few-matches (choice-handed l load n s time e .legal))
-  where
-    go : (xs : List Placed) → length xs ≤ gates s → Listed xs count nodes patterns nodes patterns count
-    go [] k = listed-none count nodes patterns
-    go (x ∷ xs) k = absurd (omega (arith, leaf-here (all .prepared) (all .driven) h))
+-- ---- the choice at a node
+
+module _ {most : ℕ} {l : Library} {t : Tree} {rows ss zs : List ℕ} {room : ℕ} {work : List ℕ} {goal : Goal} {cover : CoverRecord} {s : Shape} (all : Chooses most l t rows ss zs room work goal cover s) where
+  -- At a leaf nothing is listed.
+  pub leaf-appended : 2 ≤ getD ss (goal .node) 0 → (c : Cover) → choice l (goal .load) (goal .node) s (goal .time) ≡ some c → cover ≡ appended cover (c .placed)
+  leaf-appended h c e = go (c .placed) (few-matches (choice-handed l (goal .load) (goal .node) s (goal .time) e .legal))
+    where
+      go : (xs : List Placed) → length xs ≤ gates s → cover ≡ appended cover xs
+      go [] k = appended-none cover
+      go (x ∷ xs) k = absurd (omega (arith, leaf-here (ready (all .prepared) (all .driven)) h))
+
+  -- At a gate the match is listed, then what its inputs list.
+  pub gate-top : 0 < gates s → (c : Cover) → choice l (goal .load) (goal .node) s (goal .time) ≡ some c → (inputs : Inputs) →
+      ((p : Point) → least (suc (goal .time)) (covers l (goal .load) (goal .node) s) ≡ some p → (m : Match) → firstReaching l (goal .load) (goal .node) s p ≡ some m → InputsAre l m (goal .load) (p .arrival) inputs) →
+      {room′ start : ℕ} → room ≡ room′ → start ≡ cover .count + 1 →
+      (top : Topmost most l t rows ss zs room′ work (goal .node) inputs start) × (c .placed ≡ record { node = goal .node; pattern = inputs .pattern } ∷ top .rest .placed)
+  unfolding topped
+  gate-top g c e inputs are same from =
+      let p = all .driven .some-cover in
+      let m = parts l (goal .load) (goal .node) s (goal .time) g (p .1) e in
+      let is = are (p .0) (p .1) (m .match) (m .first) in (
+        record {
+          shape = s;
+          load = goal .load;
+          time = p .0 .arrival;
+          match = m .match;
+          rest = m .inputs;
+          prepared = rehoused (all .prepared) same;
+          here = all .driven .node;
+          fitting = first-match l (goal .load) (goal .node) s (p .0) (m .first);
+          inputs-are = is;
+          time-small = omega (arith, least-some (least-is (suc (goal .time)) (covers l (goal .load) (goal .node) s)) (p .1) .intime, all .driven .time-small);
+          chosen = m .chosen;
+          fits = omega (arith, all .fits, from);
+        },
+        ap (λ (x : Cover). x .placed) (m .whole) ∙ ap (λ (q : ℕ). record { node = goal .node; pattern = q } ∷ m .inputs .placed) (sym (is .pattern-is)),
+      )

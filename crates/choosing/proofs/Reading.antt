@@ -5,22 +5,25 @@ use mathlib.Core.Option.{Option, some, Option·none-ne-some, Option·some-inject
 use mathlib.Core.List.{List}
 use Prim.Native.Nat.{ℕ, _+_, _-_, _*_, _≤_, _<_}
 use native.Mathlib.Decide.{ℕ-discrete}
+use native.Mathlib.Nat.{add-zero}
 use native.Mathlib.Omega.{arith}
-use native.Mathlib.Nat.{mul-le-mul}
 use lib.ListN.{length, getD, set}
 use lib.Seq.{getD-set-same, getD-set-other}
+use Rattle.sheets.specs.Model.{Library}
 use Rattle.covers.specs.Match.{Match, delay}
 use Rattle.covers.specs.Cover.{Point, inputDelay}
-use Rattle.covers.proofs.Basics.{lt-or-le}
-use Rattle.matching.specs.Found.{inputWords, matchRow}
 use Rattle.covers.specs.Curve.{pointOf, wordOf}
-use Rattle.curves.specs.Words.{absent}
+use Rattle.covers.proofs.Basics.{lt-or-le}
+use Rattle.matching.specs.Found.{inputSize, inputPlace, inputWords, matchRow}
+use Rattle.matching.proofs.Written.{length-row, row-input}
+use Rattle.curves.specs.Words.{absent, pointLimit, matchLimit}
+use Rattle.curves.specs.Best.{rowCount, inputNode, inputBin, inputLoad, inputIntrinsic, inputDrive}
 use Rattle.curves.specs.Promises.{Worth}
 use Rattle.curves.proofs.Laws.{word-point}
-use Rattle.choosing.specs.Promises.{RowHolds, InputIs, noInput}
-use Rattle.matching.proofs.Written.{length-row, row-input}
+use Rattle.choosing.specs.declared.Goal.{Goal}
+use Rattle.choosing.specs.Promises.{RowHolds, goalOf, noInput}
 
-module _ (w r end : ℕ) (o : Option Point) (small : w < 70368744177664) (g : Worth 2251799813685248 end r o) where
+module _ (w r end : ℕ) (o : Option Point) (small : w < pointLimit) (g : Worth matchLimit end r o) where
   -- The word found is the word sought exactly when its point is.
   pub reached : r ≡ w → o ≡ some (pointOf w)
   reached e = g .point (λ z. omega arith) ∙ ap (λ (v : ℕ). some (pointOf v)) e
@@ -34,11 +37,20 @@ module _ (w r end : ℕ) (o : Option Point) (small : w < 70368744177664) (g : Wo
           let q : pointOf r ≡ pointOf w = Option·some-injective _ _ (sym (g .point z) ∙ e) in
           d (sym (word-point r) ∙ ap wordOf q ∙ word-point w)
 
-pub delay-fits : (drive load : ℕ) → drive ≤ 255 → load ≤ 255 → drive * load ≤ 65025
-delay-fits drive load h g = mul-le-mul h g
+-- ---- goals
 
-module _ (row : List ℕ) (m : Match) (holds : RowHolds row m) where
-  pub count-at : getD row 3 0 ≡ length (m .inputs)
+goal-path : {a b c d a′ b′ c′ d′ : ℕ} → a ≡ a′ → b ≡ b′ → c ≡ c′ → d ≡ d′ →
+    _≡_ {A = Goal} (record { node = a; load = b; bin = c; time = d }) (record { node = a′; load = b′; bin = c′; time = d′ })
+goal-path p q r s = cc
+
+-- The goal in place i of four arrays.
+abbrev pub goalIn : List ℕ → List ℕ → List ℕ → List ℕ → ℕ → Goal
+goalIn nodes loads bins times i = record { node = getD nodes i 0; load = getD loads i 0; bin = getD bins i 0; time = getD times i 0 }
+
+-- ---- the inputs in a row
+
+module _ (l : Library) (row : List ℕ) (m : Match) (holds : RowHolds l row m) where
+  pub count-at : rowCount row ≡ length (m .inputs)
   unfolding matchRow
   count-at = holds .words 3 (omega arith)
 
@@ -46,44 +58,34 @@ module _ (row : List ℕ) (m : Match) (holds : RowHolds row m) where
   unfolding matchRow
   pattern-at = holds .words 0 (omega arith)
 
-  word-at : (k v : ℕ) → k < length (m .inputs) → v < 4 → getD row (4 + 4 * k + v) 0 ≡ getD (inputWords (m .pattern .cell) (getD (m .inputs) k noInput)) v 0
-  word-at k v h g = holds .words (4 + 4 * k + v) (omega (arith, length-row m)) ∙ row-input m noInput k v h g
+  word-at : (k v : ℕ) → k < length (m .inputs) → v < inputSize → getD row (inputPlace k + v) 0 ≡ getD (inputWords l (m .pattern .cell) (getD (m .inputs) k noInput)) v 0
+  word-at k v h g = holds .words (inputPlace k + v) (omega (arith, length-row l m)) ∙ row-input l m noInput k v h g
 
-  pub input-at : (load t k x : ℕ) → k < length (m .inputs) → x ≡ t - (getD row (4 + 4 * k + 2) 0 + getD row (4 + 4 * k + 3) 0 * load) →
-      InputIs m load t k (getD row (4 + 4 * k) 0) (getD row (4 + 4 * k + 1) 0) x
+  goal-read : (load t k x : ℕ) → k < length (m .inputs) → x ≡ t - (inputIntrinsic row (inputPlace k) + inputDrive row (inputPlace k) * load) →
+      record { node = inputNode row (inputPlace k); load = inputLoad row (inputPlace k); bin = inputBin row (inputPlace k); time = x } ≡ goalOf l m load t (getD (m .inputs) k noInput)
   unfolding inputWords inputDelay delay
-  input-at load t k x h e =
-      let at : 4 + 4 * k ≡ 4 + 4 * k + 0 = omega arith in
-      record {
-        node-is = ap (λ (q : ℕ). getD row q 0) at ∙ word-at k 0 h (omega arith);
-        bin-is = word-at k 1 h (omega arith);
-        time-is = e ∙ ap₂ (λ (a b : ℕ). t - (a + b * load)) (word-at k 2 h (omega arith)) (word-at k 3 h (omega arith));
-      }
+  goal-read load t k x h e =
+      goal-path
+      (ap (λ (q : ℕ). getD row q 0) (sym (add-zero (inputPlace k))) ∙ word-at k 0 h (omega arith))
+      (word-at k 2 h (omega arith))
+      (word-at k 1 h (omega arith))
+      (e ∙ ap₂ (λ (a b : ℕ). t - (a + b * load)) (word-at k 3 h (omega arith)) (word-at k 4 h (omega arith)))
 
   -- One input more.
-  pub inputs-turn : (load t k x : ℕ) (nodes bins times : List ℕ) → k < getD row 3 0 → length nodes ≡ 16 → length bins ≡ 16 → length times ≡ 16 →
-      x ≡ t - (getD row (4 + 4 * k + 2) 0 + getD row (4 + 4 * k + 3) 0 * load) →
-      ((i : ℕ) → i < k → InputIs m load t i (getD nodes i 0) (getD bins i 0) (getD times i 0)) →
+  pub inputs-turn : (load t k x : ℕ) (nodes loads bins times : List ℕ) → k < rowCount row → length nodes ≡ 16 → length loads ≡ 16 → length bins ≡ 16 → length times ≡ 16 →
+      x ≡ t - (inputIntrinsic row (inputPlace k) + inputDrive row (inputPlace k) * load) →
+      ((i : ℕ) → i < k → goalIn nodes loads bins times i ≡ goalOf l m load t (getD (m .inputs) i noInput)) →
       (i : ℕ) → i < k + 1 →
-      InputIs m load t i (getD (set nodes k (getD row (4 + 4 * k) 0)) i 0) (getD (set bins k (getD row (4 + 4 * k + 1) 0)) i 0) (getD (set times k x) i 0)
-  inputs-turn load t k x nodes bins times h ln lb lt e old i g = go (lt-or-le i k)
+      goalIn (set nodes k (inputNode row (inputPlace k))) (set loads k (inputLoad row (inputPlace k))) (set bins k (inputBin row (inputPlace k))) (set times k x) i ≡ goalOf l m load t (getD (m .inputs) i noInput)
+  inputs-turn load t k x nodes loads bins times h ln ll lb lt e old i g = go (lt-or-le i k)
     where
-      go : (i < k) ⊎ (k ≤ i) → InputIs m load t i (getD (set nodes k (getD row (4 + 4 * k) 0)) i 0) (getD (set bins k (getD row (4 + 4 * k + 1) 0)) i 0) (getD (set times k x) i 0)
-      go (inl l) =
-          let ne : i ≡ k → ⊥ = λ z. omega arith in
-          let q = old i l in
-          record {
-            node-is = getD-set-other nodes k i (getD row (4 + 4 * k) 0) 0 ne ∙ q .node-is;
-            bin-is = getD-set-other bins k i (getD row (4 + 4 * k + 1) 0) 0 ne ∙ q .bin-is;
-            time-is = getD-set-other times k i x 0 ne ∙ q .time-is;
-          }
-      go (inr l) =
+      go : (i < k) ⊎ (k ≤ i) →
+          goalIn (set nodes k (inputNode row (inputPlace k))) (set loads k (inputLoad row (inputPlace k))) (set bins k (inputBin row (inputPlace k))) (set times k x) i ≡ goalOf l m load t (getD (m .inputs) i noInput)
+      go (inl z) =
+          let ne : i ≡ k → ⊥ = λ q. omega arith in
+          goal-path (getD-set-other nodes k i _ 0 ne) (getD-set-other loads k i _ 0 ne) (getD-set-other bins k i _ 0 ne) (getD-set-other times k i _ 0 ne) ∙ old i z
+      go (inr z) =
           let same : i ≡ k = omega arith in
-          let few = holds .few in
-          let many = count-at in
-          let q = input-at load t k x (omega arith) e in
-          rw same (record {
-            node-is = getD-set-same nodes k (getD row (4 + 4 * k) 0) 0 (omega arith) ∙ q .node-is;
-            bin-is = getD-set-same bins k (getD row (4 + 4 * k + 1) 0) 0 (omega arith) ∙ q .bin-is;
-            time-is = getD-set-same times k x 0 (omega arith) ∙ q .time-is;
-          })
+          let few : k < 16 = omega (arith, holds .few, count-at) in
+          rw same (goal-path (getD-set-same nodes k _ 0 (omega arith)) (getD-set-same loads k _ 0 (omega arith)) (getD-set-same bins k _ 0 (omega arith)) (getD-set-same times k _ 0 (omega arith))
+          ∙ goal-read load t k x (omega (arith, count-at)) e)

@@ -1,9 +1,10 @@
 // The choice of a cover under a required time, from the curves in the work area.
 use curves::Words;
 use matching::Row;
-use sheets::CellRecord;
+use results::CoverRecord;
 use sheets::Limits;
 ghost use mathlib.Core.Path.{_≡_};
+ghost use mathlib.Core.List.{[], _∷_};
 ghost use mathlib.Core.Option.{some};
 ghost use Prim.Native.Nat.{suc, _+_, _-_, _*_, _<_, _≤_};
 ghost use lib.ListN.{length, getD};
@@ -12,14 +13,26 @@ ghost use Rattle.covers.specs.Match.{Match};
 ghost use Rattle.covers.specs.Cover.{Point, Cover};
 ghost use Rattle.covers.specs.Enumeration.{covers};
 ghost use Rattle.covers.specs.Choice.{least, firstReaching, choice};
-ghost use Rattle.curves.specs.Best.{Matches, RowSafe};
-ghost use Rattle.choosing.specs.Promises.{FirstRow, RowHolds, InputsAre, Prepared, Driven, Chooses, Listed};
+ghost use Rattle.curves.specs.Words.{pointLimit};
+ghost use Rattle.curves.specs.Best.{RowSafe, Matches};
+ghost use Rattle.matching.specs.Found.{matchWords};
+ghost use Rattle.choosing.specs.Promises.{FirstRow, RowHolds, goalAt, InputsAre, Prepared, Driven, Chooses, appended};
 
-// The pattern of a match and its inputs in drawn order: their nodes, the load bins of their pins and the times that are left to them.
+// What is asked of a node: the load that it drives, the bin of that load and the time by which it is to arrive. At the root, whose load need
+// not be that of a bin, bin 0 has the curve.
+pub struct Goal {
+    pub node: usize,
+    pub load: u32,
+    pub bin: usize,
+    pub time: u32,
+}
+
+// The pattern of a match and what is asked of its inputs, in drawn order.
 pub struct Inputs {
     pub pattern: u8,
     pub count: usize,
     pub nodes: [u8; 16],
+    pub loads: [u8; 16],
     pub bins: [u8; 16],
     pub times: [u32; 16],
 }
@@ -30,20 +43,22 @@ fn first_reaching(
     count: usize,
     symbols: &[u32],
     work: &[u64],
+    most: usize,
     load: u32,
     w: u64,
 ) -> usize
-    requires { ⌜ Matches (now found) count (now symbols) (now work) ⌝ }
-    requires { ⌜ (load ≤ 255) × (w < 70368744177664) ⌝ }
-    ensures { λ r. ⌜ FirstRow (now (symbols .entry)) (now (work .entry)) (now (found .entry)) load w count r ⌝ }
+    requires { ⌜ Matches most (now found) count (now symbols) (now work) ⌝ }
+    requires { ⌜ (load ≤ 255) × (w < pointLimit) ⌝ }
+    ensures { λ r. ⌜ FirstRow most (now (symbols .entry)) (now (work .entry)) (now (found .entry)) load w count r ⌝ }
 {
     let mut j: usize = 0;
     while j < count {
-        let first = Row::WORDS * j;
-        let reached = curves::legal_match(
-            &found[first..first + Row::WORDS],
+        let reached = curves::match_best(
+            found,
+            j,
             symbols,
             work,
+            most,
             load,
             w % Limits::TIMES + 1,
         );
@@ -69,10 +84,11 @@ fn time_left(time: u32, intrinsic: u32, drive: u32, load: u32) -> u32
 
 // The inputs of the match in a row, which drives a load and is to arrive by `time`.
 fn read_inputs(row: &[u32], load: u32, time: u32) -> Inputs
-    requires { ⌜ (length (now row) ≡ 68) × (getD (now row) 0 0 < 128) × RowSafe (now row) × (load ≤ 255) ⌝ }
-    ensures { λ r. ⌜ ((m : Match) → RowHolds (now (row .entry)) m → InputsAre m load time r) ⌝ }
+    requires { ⌜ RowSafe (now row) × (length (now row) ≡ matchWords) × (getD (now row) 0 0 < 128) × (load ≤ 255) ⌝ }
+    ensures { λ r. ⌜ ((l : Library) (m : Match) → RowHolds l (now (row .entry)) m → InputsAre l m load time r) ⌝ }
 {
     let mut nodes = [0u8; 16];
+    let mut loads = [0u8; 16];
     let mut bins = [0u8; 16];
     let mut times = [0u32; 16];
     let count = row[Row::COUNT] as usize;
@@ -80,6 +96,7 @@ fn read_inputs(row: &[u32], load: u32, time: u32) -> Inputs
     while k < count {
         let at = Row::INPUTS + Row::INPUT * k;
         nodes[k] = row[at] as u8;
+        loads[k] = row[at + Row::LOAD] as u8;
         bins[k] = row[at + Row::BIN] as u8;
         times[k] = time_left(time, row[at + Row::INTRINSIC], row[at + Row::DRIVE], load);
         k += 1;
@@ -88,6 +105,7 @@ fn read_inputs(row: &[u32], load: u32, time: u32) -> Inputs
         pattern: row[Row::PATTERN] as u8,
         count,
         nodes,
+        loads,
         bins,
         times,
     }
@@ -96,28 +114,26 @@ fn read_inputs(row: &[u32], load: u32, time: u32) -> Inputs
 // The match chosen at a gate: of the first pattern that reaches the least area in time and the least arrival with it.
 fn choose_match<'a>(
     rows: &'a [u32],
-    total: usize,
-    cells: [CellRecord; 64],
     symbols: &'a [u32],
     sizes: &'a [u8],
     found: &mut [u32],
     work: &[u64],
-    n: usize,
-    load: u32,
-    bin: usize,
-    time: u32,
+    most: usize,
+    goal: Goal,
 ) -> Inputs
-    requires { ⌜ ((l : Library) × ((t : Tree) × ((s : Shape) × (Prepared l t (now rows) total cells (now symbols) (now sizes) (now work) (length (now found)) × Driven l t n load bin time s × (getD (now symbols) n 0 < 2))))) ⌝ }
-    ensures { λ r. ⌜ ((l : Library) (t : Tree) (s : Shape) → Prepared l t (now (rows .entry)) total cells (now (symbols .entry)) (now (sizes .entry)) (now (work .entry)) (length (now (found .entry))) → Driven l t n load bin time s →
-        (p : Point) → least (suc time) (covers l load n s) ≡ some p → (m : Match) → firstReaching l load n s p ≡ some m → InputsAre m load (p .arrival) r) ⌝ }
+    requires { ⌜ ((l : Library) × ((t : Tree) × ((s : Shape) × (Prepared most l t (now rows) (now symbols) (now sizes) (length (now found)) (now work) × Driven l t goal s × (getD (now symbols) (goal .node) 0 < 2))))) ⌝ }
+    ensures { λ r. ⌜ ((l : Library) (t : Tree) (s : Shape) → Prepared most l t (now (rows .entry)) (now (symbols .entry)) (now (sizes .entry)) (length (now (found .entry))) (now (work .entry)) → Driven l t goal s →
+        (p : Point) → least (suc (goal .time)) (covers l (goal .load) (goal .node) s) ≡ some p → (m : Match) → firstReaching l (goal .load) (goal .node) s p ≡ some m → InputsAre l m (goal .load) (p .arrival) r) ⌝ }
 {
-    let w = curves::find(
+    let load = goal.load;
+    let w = curves::look_up(
         work,
-        Words::NODE * n + Words::STRIDE * bin,
-        (time + 1) as u64,
+        most,
+        Words::BINS * goal.node + goal.bin,
+        (goal.time + 1) as u64,
     );
-    let count = matching::find_matches(rows, total, cells, symbols, sizes, n, found);
-    let first = Row::WORDS * first_reaching(found, count, symbols, work, load, w);
+    let count = matching::find_matches(rows, symbols, sizes, goal.node, found);
+    let first = Row::WORDS * first_reaching(found, count, symbols, work, most, load, w);
     read_inputs(
         &found[first..first + Row::WORDS],
         load,
@@ -125,69 +141,78 @@ fn choose_match<'a>(
     )
 }
 
-// The cover of a node chosen under the load that it drives and a time: its matches' nodes and patterns, in ascending order of nodes, from
-// place `count` on. Answers the place after them. The nodes in the subtree fall from a node to the inputs of its match.
+// What is asked of input k.
+fn input_goal(inputs: Inputs, k: usize) -> Goal
+    requires { ⌜ k < 16 ⌝ }
+    ensures { λ r. ⌜ r ≡ goalAt inputs k ⌝ }
+{
+    let nodes = inputs.nodes;
+    let loads = inputs.loads;
+    let bins = inputs.bins;
+    let times = inputs.times;
+    Goal {
+        node: nodes[k] as usize,
+        load: loads[k] as u32,
+        bin: bins[k] as usize,
+        time: times[k],
+    }
+}
+
+// One match more in a cover's record.
+fn append(cover: CoverRecord, node: usize, pattern: u8) -> CoverRecord
+    requires { ⌜ (cover .count < 64) × (node < 64) ⌝ }
+    ensures { λ r. ⌜ r ≡ appended cover (record { node = node; pattern = pattern } ∷ []) ⌝ }
+{
+    let at = cover.count;
+    let mut nodes = cover.nodes;
+    let mut patterns = cover.patterns;
+    nodes[at] = node as u8;
+    patterns[at] = pattern;
+    CoverRecord {
+        area: cover.area,
+        arrival: cover.arrival,
+        count: at + 1,
+        nodes,
+        patterns,
+    }
+}
+
+// The cover with the matches of the cover chosen at a node, in ascending order of nodes, after those that it has. The nodes in the subtree
+// fall from a node to the inputs of its match.
 pub fn choose<'a>(
     rows: &'a [u32],
-    total: usize,
-    cells: [CellRecord; 64],
-    loads: [u8; 4],
     symbols: &'a [u32],
     sizes: &'a [u8],
     found: &mut [u32],
     work: &[u64],
-    n: usize,
-    load: u32,
-    bin: usize,
-    time: u32,
-    nodes: &mut [u8],
-    patterns: &mut [u8],
-    count: usize,
-) -> usize
-    requires { ⌜ (length (now nodes) ≡ length (now patterns)) × ((l : Library) × ((t : Tree) × ((s : Shape) × Chooses l t (now rows) total cells loads (now symbols) (now sizes) (length (now found)) (now work) n load bin time (length (now nodes)) count s))) ⌝ }
-    ensures { λ r. ⌜ ((l : Library) (t : Tree) (s : Shape) → Chooses l t (now (rows .entry)) total cells loads (now (symbols .entry)) (now (sizes .entry)) (length (now (found .entry))) (now (work .entry)) n load bin time (length (now (nodes .entry))) count s →
-        (c : Cover) → choice l load n s time ≡ some c → Listed (c .placed) count (now (nodes .entry)) (now (patterns .entry)) (now (nodes .exit)) (now (patterns .exit)) r) ⌝ }
+    most: usize,
+    goal: Goal,
+    cover: CoverRecord,
+) -> CoverRecord
+    requires { ⌜ ((l : Library) × ((t : Tree) × ((s : Shape) × Chooses most l t (now rows) (now symbols) (now sizes) (length (now found)) (now work) goal cover s))) ⌝ }
+    ensures { λ r. ⌜ ((l : Library) (t : Tree) (s : Shape) → Chooses most l t (now (rows .entry)) (now (symbols .entry)) (now (sizes .entry)) (length (now (found .entry))) (now (work .entry)) goal cover s →
+        (c : Cover) → choice l (goal .load) (goal .node) s (goal .time) ≡ some c → r ≡ appended cover (c .placed)) ⌝ }
 {
-    if 2 <= symbols[n] {
-        return count;
+    let node = goal.node;
+    if 2 <= symbols[node] {
+        return cover;
     }
-    let inputs = choose_match(
-        rows,
-        total,
-        cells,
-        symbols,
-        sizes,
-        found,
-        work,
-        n,
-        load,
-        bin,
-        time,
-    );
-    nodes[count] = n as u8;
-    patterns[count] = inputs.pattern;
-    let mut next = count + 1;
+    let inputs = choose_match(rows, symbols, sizes, found, work, most, goal);
+    let count = inputs.count;
+    let mut grown = append(cover, node, inputs.pattern);
     let mut k: usize = 0;
-    while k < inputs.count {
-        let pin = inputs.bins[k] as usize;
-        next = choose(
+    while k < count {
+        grown = choose(
             rows,
-            total,
-            cells,
-            loads,
             symbols,
             sizes,
             found,
             work,
-            inputs.nodes[k] as usize,
-            loads[pin] as u32,
-            pin,
-            inputs.times[k],
-            nodes,
-            patterns,
-            next,
+            most,
+            input_goal(inputs, k),
+            grown,
         );
         k += 1;
     }
-    next
+    grown
 }

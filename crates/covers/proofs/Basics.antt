@@ -1,13 +1,13 @@
 -- Facts about tests and lists that several files share.
 use Prim.Native.Nat.{ℕ, zero, suc, _≤_, _<_}
-use mathlib.Core.Path.{_≡_, refl, sym, subst, _∙_}
+use mathlib.Core.Path.{_≡_, refl, sym, ap, subst, _∙_}
 use mathlib.Core.Logic.{_⊎_, inl, inr, ⊎-elim}
 use mathlib.Core.Bool.{Bool, true, false, _||_, cond, true≢false, false≢true}
-use mathlib.Core.List.{List, [], _∷_, flatMap, List·Memᴰ, List·Memᴰ·head, List·Memᴰ·tail, List·Memᴰ·not-nil, List·Memᴰ·append-cases, Memᴰ·append-left, Memᴰ·append-right}
+use mathlib.Core.List.{List, [], _∷_, _++_, flatMap, List·Memᴰ, List·Memᴰ·head, List·Memᴰ·tail, List·Memᴰ·not-nil, List·Memᴰ·append-cases, Memᴰ·append-left, Memᴰ·append-right}
 use mathlib.Core.Option.{Option, none, some, Option·none-ne-some, Option·some-injective}
 use native.Mathlib.Omega.{arith}
 use lib.Dec.{ltb}
-use lib.ListN.{length, getD, getElem?, replicate}
+use lib.ListN.{length, getD, getElem?}
 use borrow.Author.Tests.{ltb-true, ltb-false, leb-true, leb-false, eqb-true}
 use Rattle.covers.specs.Lists.{any, keepIf, select, firstSuch}
 
@@ -20,6 +20,13 @@ lt-or-le m n = go (ltb m n) refl
     go : (b : Bool) → ltb m n ≡ b → (m < n) ⊎ (n ≤ m)
     go true e = inl (ltb-true m n e)
     go false e = inr (ltb-false m n e)
+
+-- By a time is before the next instant. Where a promise is met through these and not by `omega`, its bound can be no other.
+pub before-next : {a b : ℕ} → a ≤ b → a < suc b
+before-next h = omega arith
+
+pub by-then : {a b : ℕ} → a < suc b → a ≤ b
+by-then h = omega arith
 
 module _ {A : Type 0} where
   -- A fact about the first entry and about all others is one about all.
@@ -94,6 +101,15 @@ module _ {A : Type 0} (test : A → Bool) where
       go : (b : Bool) → List·Memᴰ x (select test xs) → List·Memᴰ x (keepIf b y (select test xs))
       go true k = List·Memᴰ·tail k
       go false k = k
+
+  pub select-append : (xs ys : List A) → select test (xs ++ ys) ≡ select test xs ++ select test ys
+  unfolding select
+  select-append [] ys = refl
+  select-append (x ∷ xs) ys = go (test x) (select-append xs ys)
+    where
+      go : (b : Bool) {zs : List A} → zs ≡ select test xs ++ select test ys → keepIf b x zs ≡ keepIf b x (select test xs) ++ select test ys
+      go true e = ap (λ r. x ∷ r) e
+      go false e = e
 
   -- What the first that passes is.
   pub data FirstOf (xs : List A) : Option A → Type 0 where

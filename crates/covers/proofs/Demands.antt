@@ -90,14 +90,14 @@ observed-is (refused n p) output = refl
 observed-is (success s) output = ap success (take-at s (drop (length s) output) (length s) refl)
 
 -- A sound library and a sound tree are answered, if what is lent is enough.
-answers : {A : Type 0} (least : ℕ) (f : ℕ → Library → Tree → Answer A) (ls ts : List ℕ) (output work : ℕ) {c c′ : Cursor} → least ≤ output → workWords capacity ≤ work → library ls start .1 ≡ At c → tree ts start .1 ≡ At c′ → operation least f ls ts output work ≡ f capacity (library ls start .0) (tree ts start .0)
+answers : {A : Type 0} (least : ℕ) (f : ℕ → Library → Tree → Answer A) (ls ts : List ℕ) (output work : ℕ) (c c′ : Cursor) → least ≤ output → workWords capacity ≤ work → library ls start .1 ≡ At c → tree ts start .1 ≡ At c′ → operation least f ls ts output work ≡ f capacity (library ls start .0) (tree ts start .0)
 unfolding operation lent withLibrary withTree
-answers least f ls ts output work h g e e′ = rw (le-leb least output h, le-leb (workWords capacity) work g) (ap₂ (λ q r. withLibrary (f capacity) (library ls start .0, q) (tree ts start .0, r)) e e′)
+answers least f ls ts output work c c′ h g e e′ = rw (le-leb least output h, le-leb (workWords capacity) work g) (ap₂ (λ q r. withLibrary (f capacity) (library ls start .0, q) (tree ts start .0, r)) e e′)
 
 pub map-demands : (ls ts : List ℕ) (output work : ℕ) → WhereSound MapDemands mapBytes ls ts output work (mapOutcome ls ts output work)
 unfolding mapOutcome mapAnswer
-map-demands ls ts output work c c′ h g e e′ = rw (answers mapBytes mapAnswer ls ts output work h g e e′) (meets coverSheet CoverReads (λ c r. (c, (r .best .legal, r .best .intime))) (λ c n r. cover-reads (cover-fits (library-limits ls (sound e)) (tree-limits ts (sound e′)) (r .best .legal))) (map-promise capacity (library ls start .0) (tree ts start .0)))
+map-demands ls ts output work c c′ h g e e′ = rw (answers mapBytes mapAnswer ls ts output work c c′ h g e e′) (meets coverSheet CoverReads (λ c r. (c, (r .best .legal, r .best .intime))) (λ c n r. cover-reads (cover-fits (library-limits ls (sound e)) (tree-limits ts (sound e′)) (r .best .legal))) (map-promise capacity (library ls start .0) (tree ts start .0)))
 
 pub list-demands : (ls ts : List ℕ) (output work : ℕ) → WhereSound ListDemands listBytes ls ts output work (listOutcome ls ts output work)
 unfolding listOutcome listAnswer
-list-demands ls ts output work c c′ h g e e′ = rw (answers listBytes listAnswer ls ts output work h g e e′) (meets listSheet ListReads (λ ps r. let p = r .all (r .one .0) .0 (r .one .1) in (p .cover, p .among)) (λ ps n r. list-reads (list-fits (library-limits ls (sound e)) (tree-limits ts (sound e′)) (few n r) (λ p. r .all p .0))) (list-promise capacity (library ls start .0) (tree ts start .0)))
+list-demands ls ts output work c c′ h g e e′ = rw (answers listBytes listAnswer ls ts output work c c′ h g e e′) (meets listSheet ListReads (λ ps r. let p = r .all (r .one .0) .0 (r .one .1) in (p .cover, p .among)) (λ ps n r. list-reads (list-fits (library-limits ls (sound e)) (tree-limits ts (sound e′)) (few n r) (λ p. r .all p .0))) (list-promise capacity (library ls start .0) (tree ts start .0)))

@@ -16,7 +16,7 @@ use Rattle.covers.specs.Enumeration.{inputCovers, matchCovers, gateCover
 use Rattle.covers.specs.Tradeoff.{same}
 use Rattle.covers.specs.Choice.{lesser, before, least, reaches, bothChosen, chosenInputs, withInputs, firstReaching, gateChoice, choiceStep, choice}
 use Rattle.covers.specs.Promise.{rootPattern, Handed}
-use Rattle.covers.proofs.Basics.{lt-or-le, any-true, true-any, FirstOf, nowhere, somewhere, first-of, in-flatMap, of-flatMap}
+use Rattle.covers.proofs.Basics.{lt-or-le, before-next, by-then, any-true, true-any, FirstOf, nowhere, somewhere, first-of, in-flatMap, of-flatMap}
 use Rattle.covers.specs.Curve.{both, gates}
 use Rattle.covers.proofs.Points.{same-true, same-refl, Leq, smaller, earlier, leq-area, before-yes, before-no}
 use Rattle.covers.proofs.Least.{IsLeast, LeastOf, absent, found, In, least-is, least-some, least-none, is-least}
@@ -221,7 +221,7 @@ module _ (l : Library) where
     pub choice-handed : {c : Cover} → choice l load n s time ≡ some c → Handed l load n s time c
     choice-handed {c} e =
         let h = least-some (least-is (suc time) (covers l load n s)) (sym (choice-point load n s time) ∙ ap pointOf e) in
-        record { legal = choice-legal load n s time e; intime = omega (arith, h .intime); smallest = λ d k t. leq-area (h .first d (covers-all l k) (omega arith)); earliest = λ d k a. go a (lt-or-le (d .point .arrival) (suc time)) (h .first d (covers-all l k)) (h .intime); lowest = choice-lowest load n s time e }
+        record { legal = choice-legal load n s time e; intime = by-then (h .intime); smallest = λ d k t. leq-area (h .first d (covers-all l k) (before-next t)); earliest = λ d k a. go a (lt-or-le (d .point .arrival) (suc time)) (h .first d (covers-all l k)) (h .intime); lowest = choice-lowest load n s time e }
       where
         same-area : {p q : Point} → Leq p q → q .area ≡ p .area → p .arrival ≤ q .arrival
         same-area (smaller h) a = absurd (omega arith)

@@ -1,11 +1,13 @@
 -- The cover sheet and the list sheet say what they were made from: their readers read it back.
 use Prim.Native.Nat.{ℕ, _^_, _<_}
-use mathlib.Core.Path.{_≡_, refl, ap}
-use mathlib.Core.List.{List, [], _∷_, _++_, List·Memᴰ, append-nil}
+use mathlib.Core.Path.{refl, ap}
+use mathlib.Core.List.{List, [], _∷_, List·Memᴰ, append-nil}
 use lib.ListN.{length}
 use Rattle.covers.specs.Cover.{Point, Placed, Cover}
 use Rattle.fields.specs.Reading.{Reader, done, _>>=_, times, free, field, ended}
-use Rattle.fields.specs.Written.{Field, widths, packed}
+use Rattle.fields.specs.Written.{Field, packed}
+use Rattle.fields.specs.declared.Scan.{Scan}
+use Rattle.fields.proofs.Laws.{free-small, length-times, times-each}
 use Rattle.fields.proofs.Written.{Says, says-field, says-done, says-then, says-times, says-end, says-all}
 use Rattle.covers.specs.CoverSheet.{areaWidth, arrivalWidth, matchCountWidth, nodeWidth, patternWidth, pointCountWidth, placedFields, coverFields, pointFields, listFields, coverSheet, listSheet, placedRead, coverRead, pointRead, listRead, CoverReads, ListReads}
 
@@ -50,6 +52,21 @@ cover-reads {c} h =
           (says-then (matches (c .point .area) (c .point .arrival)) (says-field matchCountWidth (h .count))
           (says-then (last (c .point .area) (c .point .arrival)) (says-times all placedEntry placedFields refl (λ x xs. refl) (placedRead s) (c .placed) (λ x m ys gs. pair-says all gs makePlaced nodeWidth patternWidth (h .placed x m .0) (h .placed x m .1)))
           (says-end c)))));
+    }
+
+-- What is read from any bytes fits.
+pub cover-read-fits : (s : List ℕ) (c : Scan) → CoverFits (coverRead s c .0)
+unfolding coverRead placedRead
+cover-read-fits s c =
+    let a = field s areaWidth free c in
+    let t = field s arrivalWidth free (a .1) in
+    let n = field s matchCountWidth free (t .1) in
+    record {
+      area = free-small s areaWidth c;
+      arrival = free-small s arrivalWidth (a .1);
+      count = rw (length-times (n .0) (placedRead s) (n .1)) (free-small s matchCountWidth (t .1));
+      placed = times-each (λ x. (x .node < 2 ^ nodeWidth) × (x .pattern < 2 ^ patternWidth)) (placedRead s)
+          (λ xs q. (free-small s nodeWidth q, free-small s patternWidth (field s nodeWidth free q .1))) (n .0) (n .1);
     }
 
 -- ---- the list sheet

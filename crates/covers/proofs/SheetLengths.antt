@@ -1,11 +1,11 @@
 -- How many bytes a sheet takes: at most 109 for a cover of 63 matches, and at most 179 for 31 trade-offs.
-use Prim.Native.Nat.{ℕ, _+_, _*_, _/_, _≤_}
+use Prim.Native.Nat.{_+_, _*_, _/_, _≤_}
 use mathlib.Core.Path.{_≡_, refl, ap, _∙_}
 use mathlib.Core.List.{List, [], _∷_}
 use native.Mathlib.Omega.{arith}
 use lib.ListN.{length}
 use Rattle.covers.specs.Cover.{Point, Placed, Cover}
-use Rattle.fields.specs.Written.{widths, packed}
+use Rattle.fields.specs.Written.{widths}
 use Rattle.fields.proofs.Written.{length-packed}
 use Rattle.covers.specs.CoverSheet.{placedFields, coverFields, pointFields, listFields, coverSheet, listSheet}
 

@@ -66,6 +66,7 @@ listSheet ps = packed (listFields ps)
 -- ---- read
 
 module _ (s : List ℕ) where
+  -- One match, whatever was read before it.
   unfoldable pub placedRead : List Placed → Reader Placed
   placedRead before = do
     node ← field s nodeWidth free
@@ -81,6 +82,7 @@ module _ (s : List ℕ) where
     xs ← times count placedRead
     λ c. (record { point = record { area = area; arrival = arrival }; placed = xs }, ended s c)
 
+  -- One trade-off.
   unfoldable pub pointRead : List Point → Reader Point
   pointRead before = do
     arrival ← field s arrivalWidth free

@@ -19,7 +19,8 @@ use Rattle.covers.proofs.Basics.{lt-or-le}
 use Rattle.covers.specs.Curve.{base, both, byDeadline, chained, lookup, pointOf, wordOf}
 use Rattle.covers.proofs.Points.{point-path}
 use Rattle.curves.specs.Words.{pointLimit, stored, slot, curveAt, Small, AgreeFrom}
-use Rattle.curves.specs.Best.{rowOf, rowArea, rowIllegal, rowCount, inputSize, inputPlace, inputNode, inputBin, inputLoad, rowDelay, inputBest, inputLate, inputsBest, rowBest, legalBest, rowsBest, Above}
+use Rattle.matching.specs.Found.{inputSize, inputPlace}
+use Rattle.curves.specs.Best.{rowOf, rowArea, rowIllegal, rowCount, inputNode, inputBin, inputLoad, rowDelay, inputBest, inputLate, inputsBest, rowBest, legalBest, rowsBest, Above}
 use Rattle.curves.specs.Promises.{bestBefore, nodePoints, CurveStored, Fit}
 use Rattle.curves.proofs.Laws.{word-point, apart, part-word}
 

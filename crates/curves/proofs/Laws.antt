@@ -17,7 +17,8 @@ use Rattle.covers.specs.Curve.{base, both, lookup, pointOf, wordOf}
 use Rattle.covers.proofs.Points.{point-path, both-assoc, Leq, smaller, earlier, pick-left, pick-right, lesser-none}
 use Rattle.covers.proofs.Basics.{lt-or-le}
 use Rattle.curves.specs.Words.{absent, areaLimit, pointLimit, matchLimit, stored, slot, tableOf, Small, ZeroBelow, WorkArea}
-use Rattle.curves.specs.Best.{rowWords, rowOf, rowArea, rowIllegal, rowCount, inputSize, inputPlace, inputNode, inputBin, inputLoad, rowDelay, inputBest, inputLate, inputsBest, rowBest, legalBest, rowsBest, Tables, Matches}
+use Rattle.matching.specs.Found.{matchWords, inputSize, inputPlace}
+use Rattle.curves.specs.Best.{rowOf, rowArea, rowIllegal, rowCount, inputNode, inputBin, inputLoad, rowDelay, inputBest, inputLate, inputsBest, rowBest, legalBest, rowsBest, Tables, Matches}
 use Rattle.curves.specs.Promises.{Worth}
 
 -- ---- words
@@ -259,4 +260,4 @@ rows-turn most symbols work found load end j v w a b =
 
 -- The tables that the row of one of the matches is read with.
 pub row-tables : {most : ℕ} {found : List ℕ} {count : ℕ} {symbols work : List ℕ} → Matches most found count symbols work → (j : ℕ) → j < count → Tables most (rowOf found j) symbols work
-row-tables {found = found} m j h = record { safe = m .rows j h; row-length = part-length rowWords (rowWords * j) found (omega (arith, m .room)); sources = m .sources }
+row-tables {found = found} m j h = record { safe = m .rows j h; row-length = part-length matchWords (matchWords * j) found (omega (arith, m .room)); sources = m .sources }

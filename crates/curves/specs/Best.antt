@@ -9,18 +9,16 @@ use lib.Dec.{leb, ltb}
 use Rattle.covers.specs.Cover.{late, raised, leafPoint, Point}
 use Rattle.covers.specs.Choice.{lesser, before}
 use Rattle.covers.specs.Curve.{both, lookup}
+use Rattle.matching.specs.Found.{matchWords, inputSize, inputPlace}
 use Rattle.curves.specs.Words.{tableOf, WorkArea}
 
 -- ---- the row of a found match
 
 -- Rows one after another.
-abbrev pub rowWords : ℕ
-rowWords = 84
-
 abbrev pub rowOf : List ℕ → ℕ → List ℕ
-rowOf found j = take rowWords (drop (rowWords * j) found)
+rowOf found j = take matchWords (drop (matchWords * j) found)
 
--- In a row: the cell's area, the first load that is not legal, how many inputs there are, and where input k stands.
+-- In a row: the cell's area, the first load that is not legal, and how many inputs there are.
 module _ (row : List ℕ) where
   abbrev pub rowArea : ℕ
   rowArea = getD row 1 0
@@ -30,12 +28,6 @@ module _ (row : List ℕ) where
 
   abbrev pub rowCount : ℕ
   rowCount = getD row 3 0
-
-abbrev pub inputSize : ℕ
-inputSize = 5
-
-abbrev pub inputPlace : ℕ → ℕ
-inputPlace k = 4 + inputSize * k
 
 -- The input at a place of a row: its node, and the bin, the load, the intrinsic delay and the drive of its pin.
 module _ (row : List ℕ) (at : ℕ) where
@@ -98,7 +90,7 @@ pub record InputSafe (row : List ℕ) (at : ℕ) : Type 0 where
   pub load : inputLoad row at ≤ 255
   pub intrinsic : inputIntrinsic row at ≤ 65535
   pub drive : inputDrive row at ≤ 255
-  pub room : at + inputSize ≤ rowWords
+  pub room : at + inputSize ≤ matchWords
 
 -- A row's figures are within the limits.
 pub record RowSafe (row : List ℕ) : Type 0 where
@@ -119,13 +111,13 @@ pub record Sources (most : ℕ) (symbols work : List ℕ) : Type 0 where
 -- The tables that a match's row is read with.
 pub record Tables (most : ℕ) (row symbols work : List ℕ) : Type 0 where
   pub safe : RowSafe row
-  pub row-length : length row ≡ rowWords
+  pub row-length : length row ≡ matchWords
   pub sources : Sources most symbols work
 
 -- The tables that the rows of a node's matches are read with.
 pub record Matches (most : ℕ) (found : List ℕ) (count : ℕ) (symbols work : List ℕ) : Type 0 where
   pub rows : (j : ℕ) → j < count → RowSafe (rowOf found j)
-  pub room : rowWords * count ≤ length found
+  pub room : matchWords * count ≤ length found
   pub sources : Sources most symbols work
 
 -- Every input of the first rows has its curves after this one.

@@ -1,4 +1,5 @@
 // Curves by deadline: the least point of a node before an instant, and the curve of a node under a load.
+use matching::Row;
 use sheets::Limits;
 ghost use mathlib.Core.Path.{_≡_};
 ghost use Prim.Native.Nat.{_+_, _-_, _*_, _<_, _≤_, min, max};
@@ -7,37 +8,6 @@ ghost use Rattle.covers.specs.Curve.{base, lookup};
 ghost use Rattle.curves.specs.Words.{pointLimit, matchLimit, stored, curveAt, Small, WorkArea};
 ghost use Rattle.curves.specs.Best.{symbolLimit, rowOf, inputBest, inputLate, rowBest, legalBest, rowsBest, Sources, Tables, InputSafe, Matches, Above};
 ghost use Rattle.curves.specs.Promises.{Worth, PointsFit, CurveStored};
-
-// A match's row: its pattern, its cell's area, the first load that is not legal and how many inputs it has, then five words for each input:
-// its node, and the load bin, the load, the intrinsic delay and the drive of its pin.
-pub struct Row {}
-
-impl Row {
-    pub const PATTERN: usize = 0;
-
-    pub const AREA: usize = 1;
-
-    pub const FIRST_ILLEGAL: usize = 2;
-
-    pub const COUNT: usize = 3;
-
-    pub const INPUTS: usize = 4;
-
-    pub const INPUT: usize = 5;
-
-    // Within an input's words, after its node.
-    pub const BIN: usize = 1;
-
-    pub const LOAD: usize = 2;
-
-    pub const INTRINSIC: usize = 3;
-
-    pub const DRIVE: usize = 4;
-
-    pub const WORDS: usize = 84;
-
-    pub const TABLE: usize = 10752;
-}
 
 // The word for no point, and how many curves a node has: one for each load bin.
 pub struct Words {}

@@ -1,14 +1,15 @@
 -- Laws about scans and fields: one for each way out of a reader.
 use mathlib.Core.Path.{_≡_, refl, sym, ap, subst, _∙_}
-use mathlib.Core.List.{List, _∷_, [], _++_}
+use mathlib.Core.Logic.{⊎-elim}
+use mathlib.Core.List.{List, _∷_, [], _++_, List·Memᴰ, List·Memᴰ·append-cases, List·Memᴰ·eq-of-singleton, List·Memᴰ·not-nil}
 use mathlib.Core.Bool.{Bool, true, false, cond, _&&_}
 use Prim.Native.Nat.{ℕ, zero, suc, _+_, _-_, _*_, _≤_, _<_, _^_}
 use native.Mathlib.Omega.{arith}
-use lib.ListN.{length, getD, length-append}
-use lib.Seq.{slice, slice-cons}
+use lib.Pow.{pow-pos}
+use lib.ListN.{length, length-append}
 use native.Mathlib.Numerals.{add-one}
-use lib.Dec.{leb, eqb}
-use borrow.Author.Tests.{leb-true, leb-false, eq-eqb, ne-eqb}
+use lib.Dec.{leb}
+use borrow.Author.Tests.{leb-true}
 use Rattle.bits.specs.Bits.{placeOf, fieldAt, valueAt, cursorAt, endsAt}
 use Rattle.bits.proofs.Laws.{value-small, place-at}
 use Rattle.bits.specs.declared.Cursor.{Cursor}
@@ -17,7 +18,7 @@ use Rattle.fields.specs.declared.Got.{Got}
 use Rattle.fields.specs.declared.Scan.{Scan}
 use Rattle.fields.specs.declared.Scan.the-variants.{At, Refused}
 use Rattle.fields.specs.declared.Fault.{Fault}
-use Rattle.fields.specs.declared.Fault.the-variants.{Truncated, Tail, Range, Drawing, Size}
+use Rattle.fields.specs.declared.Fault.the-variants.{Truncated, Tail, Range}
 use Rattle.fields.specs.declared.Verdict.{Verdict}
 use Rattle.fields.specs.declared.Verdict.the-variants.{Sound, Faulty}
 use Rattle.fields.specs.Reading.{Reader, times, start, place, free, within, field, taken, settled, ended}
@@ -148,6 +149,9 @@ module _ (s : List ℕ) (w : ℕ) (verdict : ℕ → Verdict) where
 free-passes : (w : ℕ) → Passes free w (2 ^ w - 1)
 free-passes w x l e = omega arith
 
+pub free-small : (s : List ℕ) (w : ℕ) (c : Scan) → field s w free c .0 < 2 ^ w
+free-small s w c = omega (arith, field-small s w free c (2 ^ w - 1) (free-passes w), pow-pos w)
+
 pub both : {r : Got} {x : ℕ × Scan} {reach most : ℕ} → Reads r x reach most → (r .value, r .scan) ≡ x
 both h = λ i. (h .value i, h .scan i)
 
@@ -201,6 +205,14 @@ unfolding times
 length-times zero r c = refl
 length-times (suc n) r c =
     length-append (times n r c .0) (r (times n r c .0) (times n r c .1) .0 ∷ []) ∙ ap (λ (k : ℕ). k + 1) (length-times n r c) ∙ add-one n
+
+-- What every turn keeps, all that was read keeps.
+pub times-each : {A : Type 0} (P : A → Type 0) (r : List A → Reader A) → ((xs : List A) (c : Scan) → P (r xs c .0)) → (n : ℕ) (c : Scan) (x : A) → List·Memᴰ x (times n r c .0) → P x
+unfolding times
+times-each P r h zero c x m = absurd (List·Memᴰ·not-nil m)
+times-each P r h (suc n) c x m =
+    let xs = times n r c in
+    ⊎-elim (times-each P r h n c x) (λ k. subst P (sym (List·Memᴰ·eq-of-singleton k)) (h (xs .0) (xs .1))) (List·Memᴰ·append-cases (xs .0) m)
 
 -- One turn more.
 module _ {A : Type 0} (n : ℕ) (r : List A → Reader A) (c : Scan) where

@@ -103,27 +103,31 @@ pub record Says (all : List Field) {A : Type 0} (r : Reader A) (fs rest : List F
 -- A field, with a value that fits.
 pub says-field : {all rest : List Field} {v : ℕ} (w : ℕ) → v < 2 ^ w → Says all (field (packed all) w free) (record { value = v; width = w } ∷ []) rest v
 unfolding fieldAt widths
-says-field {all} {rest} {v} w fits = record { reads = λ i h.
-  let f : Field = record { value = v; width = w } in
-  let long : widths all ≡ widths (h .before) + (w + widths rest) = ap widths (h .whole) ∙ widths-append (h .before) (f ∷ rest) in
-  let room : i + w ≤ 8 * length (packed all) = omega (arith, length-packed all, h .place-is) in
-  let value : valueAt (packed all) i w ≡ v = rw (h .whole, h .place-is) (packed-reads (h .before) f rest ∙ mod-eq-of-lt fits) in
-  let found : fieldAt (packed all) i w ≡ Value v (cursorAt (i + w)) = rw (le-leb (i + w) (8 * length (packed all)) room) (ap (λ (x : ℕ). Value x (cursorAt (i + w))) value) in
-  ap (λ (p : ℕ). taken p free (fieldAt (packed all) p w)) (place-at i) ∙ ap (taken i free) found ∙ ap (λ (j : ℕ). (v, At (cursorAt (i + j)))) (sym (add-zero w)); }
+says-field {all} {rest} {v} w fits = record {
+  reads = λ i h.
+      let f : Field = record { value = v; width = w } in
+      let long : widths all ≡ widths (h .before) + (w + widths rest) = ap widths (h .whole) ∙ widths-append (h .before) (f ∷ rest) in
+      let room : i + w ≤ 8 * length (packed all) = omega (arith, length-packed all, h .place-is) in
+      let value : valueAt (packed all) i w ≡ v = rw (h .whole, h .place-is) (packed-reads (h .before) f rest ∙ mod-eq-of-lt fits) in
+      let found : fieldAt (packed all) i w ≡ Value v (cursorAt (i + w)) = rw (le-leb (i + w) (8 * length (packed all)) room) (ap (λ (x : ℕ). Value x (cursorAt (i + w))) value) in
+      ap (λ (p : ℕ). taken p free (fieldAt (packed all) p w)) (place-at i) ∙ ap (taken i free) found ∙ ap (λ (j : ℕ). (v, At (cursorAt (i + j)))) (sym (add-zero w));
+}
 
 -- A value made of what was read before.
 pub says-done : {all rest : List Field} {A : Type 0} (a : A) → Says all (done a) [] rest a
 unfolding widths
-says-done a = record { reads = λ i h. ap (λ (j : ℕ). (a, At (cursorAt j))) (sym (add-zero i)); }
+says-done a = record { reads = λ i h. ap (λ (j : ℕ). (a, At (cursorAt j))) (sym (add-zero i)) }
 
 -- One reader, and then another that may look at what was read.
 pub says-then : {all rest : List Field} {A B : Type 0} {r : Reader A} (k : A → Reader B) {fs gs : List Field} {a : A} {b : B} →
     Says all r fs (gs ++ rest) a → Says all (k a) gs rest b → Says all (r >>= k) (fs ++ gs) rest b
-says-then {all} {rest} {A} {B} k {fs} {gs} {a} {b} h g = record { reads = λ i z.
-  let z′ = rw (append-assoc fs gs rest) at z in
-  ap (λ (x : A × Scan). k (x .0) (x .1)) (h .reads i z′)
-  ∙ g .reads (i + widths fs) (stands-next fs z′)
-  ∙ ap (λ (j : ℕ). (b, At (cursorAt j))) (add-assoc i (widths fs) (widths gs) ∙ ap (λ (j : ℕ). i + j) (sym (widths-append fs gs))); }
+says-then {all} {rest} {A} {B} k {fs} {gs} {a} {b} h g = record {
+  reads = λ i z.
+      let z′ = rw (append-assoc fs gs rest) at z in
+      ap (λ (x : A × Scan). k (x .0) (x .1)) (h .reads i z′)
+      ∙ g .reads (i + widths fs) (stands-next fs z′)
+      ∙ ap (λ (j : ℕ). (b, At (cursorAt j))) (add-assoc i (widths fs) (widths gs) ∙ ap (λ (j : ℕ). i + j) (sym (widths-append fs gs)));
+}
 
 -- The entries of a list, packed one after another, are read as often as there are entries.
 module _ {A : Type 0} (all : List Field) (entry : A → List Field) (laid : List A → List Field) (none : laid [] ≡ []) (one : (x : A) (xs : List A) → laid (x ∷ xs) ≡ entry x ++ laid xs) (r : List A → Reader A) where
@@ -142,16 +146,18 @@ module _ {A : Type 0} (all : List Field) (entry : A → List Field) (laid : List
 
   pub says-times : (xs : List A) {rest : List Field} → Entries xs → Says all (times (length xs) r) (laid xs) rest xs
   unfolding times
-  says-times xs {rest} h = record { reads = λ i z. entries-more [] xs rest (At (cursorAt i)) i h refl z; }
+  says-times xs {rest} h = record { reads = λ i z. entries-more [] xs rest (At (cursorAt i)) i h refl z }
 
 -- The end of the sheet, after its last field.
 pub says-end : {all : List Field} {A : Type 0} (a : A) → Says all (λ c. (a, ended (packed all) c)) [] [] a
 unfolding widths
-says-end {all} a = record { reads = λ i h.
-  let end : endsAt (packed all) i ≡ true = packed-ends all (h .place-is ∙ sym (ap widths (h .whole ∙ append-nil (h .before)))) in
-  ap (λ (p : ℕ). (a, cond (endsAt (packed all) p) (At (cursorAt i)) (Refused Tail p))) (place-at i)
-  ∙ ap (λ (b : Bool). (a, cond b (At (cursorAt i)) (Refused Tail i))) end
-  ∙ ap (λ (j : ℕ). (a, At (cursorAt j))) (sym (add-zero i)); }
+says-end {all} a = record {
+  reads = λ i h.
+      let end : endsAt (packed all) i ≡ true = packed-ends all (h .place-is ∙ sym (ap widths (h .whole ∙ append-nil (h .before)))) in
+      ap (λ (p : ℕ). (a, cond (endsAt (packed all) p) (At (cursorAt i)) (Refused Tail p))) (place-at i)
+      ∙ ap (λ (b : Bool). (a, cond b (At (cursorAt i)) (Refused Tail i))) end
+      ∙ ap (λ (j : ℕ). (a, At (cursorAt j))) (sym (add-zero i));
+}
 
 -- The whole sheet, from its first bit on.
 pub says-all : {all fs : List Field} {A : Type 0} {r : Reader A} {a : A} → fs ≡ all → Says all r fs [] a → r start ≡ (a, At (cursorAt (widths all)))

@@ -1,5 +1,5 @@
 -- One curve more of a node, from the last load down.
-use mathlib.Core.Path.{_≡_, ap, subst, fun-ext, _∙_}
+use mathlib.Core.Path.{_≡_, refl, sym, ap, subst, fun-ext, _∙_}
 use mathlib.Core.List.{List, map}
 use mathlib.Core.Option.{Option}
 use mathlib.Core.Logic.{_⊎_, inl, inr}
@@ -10,66 +10,109 @@ use lib.ListN.{length, getD, take, set, length-map, length-take, length-set}
 use lib.Seq.{sets, getD-set-same, getD-set-other, take-all}
 use Rattle.covers.specs.Cover.{Point}
 use Rattle.covers.specs.Curve.{base, byDeadline, wordOf}
-use Rattle.fields.proofs.Lists.{before-sets}
-use Rattle.curves.specs.Words.{tableOf, slot, Small, AgreeFrom, ZeroBelow}
-use Rattle.curves.specs.Best.{Above, rowsBest}
-use Rattle.curves.specs.Promises.{bestBefore, PointsFit, CurveStored}
-use Rattle.curves.proofs.Frames.{sets-above, stored-same, stored-laid, rows-same, deadline-all}
-use Rattle.filling.specs.Promises.{pointsUnder}
+use Rattle.curves.specs.Words.{curveAt, tableOf, stored, AgreeFrom, ZeroBelow, WorkArea}
+use Rattle.curves.specs.Best.{rowsBest, Matches}
+use Rattle.curves.specs.Promises.{bestBefore, nodePoints, PointsFit, CurveStored}
+use Rattle.curves.proofs.Laws.{slot-within}
+use Rattle.curves.proofs.Frames.{curve-other, curve-laid, rows-same, deadline-all, deadline-few}
+use Rattle.filling.specs.declared.Turn.{Turn}
+use Rattle.filling.specs.Promises.{loadAt, firstCurve, nextCurve, pointsUnder, NodeReady, NodeFilled}
 
-module _ (symbols work₀ found : List ℕ) (count : ℕ) (loads : List ℕ) (node bins : ℕ) where
+module _ (symbols work₀ found : List ℕ) (count : ℕ) (turn : Turn) where
+  abbrev under : ℕ → List Point
+  under = pointsUnder symbols work₀ found count turn
+
   -- The curves under the loads from b on are stored.
   pub record Done (b : ℕ) (work points : List ℕ) : Type 0 where
     pub length-kept : length work ≡ length work₀
-    pub small : Small work
-    pub zero : ZeroBelow (128 * node + 32 * b) work
-    pub agree : AgreeFrom (128 * (node + 1)) work work₀
+    pub curves : WorkArea (turn .most) work
+    pub zero : ZeroBelow (turn .most) (firstCurve turn + b) work
+    pub agree : AgreeFrom (turn .most) (nextCurve turn) work work₀
     pub many : length points ≡ 4
-    pub counted : (i : ℕ) → b ≤ i → i < bins → getD points i 0 ≡ length (pointsUnder symbols work₀ found count loads i)
-    pub stored : (i : ℕ) → b ≤ i → i < bins → length (pointsUnder symbols work₀ found count loads i) ≤ 31 → tableOf work node i ≡ pointsUnder symbols work₀ found count loads i
+    pub counted : (i : ℕ) → b ≤ i → i < turn .bins .count → getD points i 0 ≡ length (under i)
+    pub stored-are : (i : ℕ) → b ≤ i → i < turn .bins .count → length (under i) ≤ turn .most → tableOf (turn .most) work (turn .node) i ≡ under i
 
-module _ (symbols work₀ found : List ℕ) (count : ℕ) (loads : List ℕ) (node bins : ℕ) (above : Above node found count) where
+module _ {symbols work₀ found : List ℕ} {count : ℕ} {turn : Turn} (ready : NodeReady symbols work₀ found count turn) where
+  abbrev most : ℕ
+  most = turn .most
+
+  abbrev wanted : ℕ → List Point
+  wanted = pointsUnder symbols work₀ found count turn
+
   abbrev DoneTo : ℕ → List ℕ → List ℕ → Type 0
-  DoneTo = Done symbols work₀ found count loads node bins
+  DoneTo = Done symbols work₀ found count turn
 
-  -- What the tables say is what they said at the start.
-  pub done-same : (b : ℕ) (work points : List ℕ) → DoneTo b work points → (load e : ℕ) → rowsBest symbols work found load e count ≡ rowsBest symbols work₀ found load e count
-  done-same b work points d load e = rows-same symbols work work₀ (128 * (node + 1)) (d .agree) found load e count (λ j lj k lk. omega (arith, above j lj k lk))
+  pub done-start : (points : List ℕ) → length points ≡ 4 → DoneTo (turn .bins .count) work₀ points
+  done-start points e = record {
+    length-kept = refl;
+    curves = ready .matches .sources .curves;
+    zero = λ j l. ready .zero j (omega (arith, ready .few-bins));
+    agree = λ j l. refl;
+    many = e;
+    counted = λ i l m. absurd (omega arith);
+    stored-are = λ i l m. absurd (omega arith);
+  }
 
-  pub done-next : (b : ℕ) (work points work′ : List ℕ) (r : ℕ) → b < bins → bins ≤ 4 → node < 64 → 8192 ≤ length work₀ → PointsFit symbols work₀ found (getD loads b 0) count →
-      DoneTo (b + 1) work points → length work′ ≡ length work → CurveStored symbols work found (getD loads b 0) count (slot node b) work′ r → DoneTo b work′ (set points b r)
-  done-next b work points work′ r hb h4 hn hw fit d el c =
-      let load = getD loads b 0 in
-      let ps = pointsUnder symbols work₀ found count loads b in
-      let same-points : byDeadline 32 (bestBefore symbols work found load count) base ≡ ps =
-      ap (λ (f : ℕ → Option Point). byDeadline 32 f base) (fun-ext (λ e. done-same (b + 1) work points d load e)) in
-      let laid : work′ ≡ sets work (slot node b) (map wordOf (take 31 ps)) = c .laid ∙ ap (λ (q : List Point). sets work (slot node b) (map wordOf (take 31 q))) same-points in
-      let few : length (map wordOf (take 31 ps)) ≤ 31 = omega (arith, length-map (take 31 ps) wordOf, length-take 31 ps) in
-      let after : AgreeFrom (slot node b + 32) work′ work = λ k l. ap (λ (q : List ℕ). getD q k 0) laid ∙ sets-above work (slot node b) (map wordOf (take 31 ps)) k (omega arith) in
+  module _ {b : ℕ} {work points : List ℕ} (d : DoneTo b work points) where
+    -- What the tables say is what they said at the start.
+    done-same : (load e : ℕ) → rowsBest most symbols work found load e count ≡ rowsBest most symbols work₀ found load e count
+    done-same load e = rows-same most symbols work work₀ (firstCurve turn + 3) (λ j l. d .agree j (omega arith)) found load e count (ready .above)
+
+    pub same-points : (i : ℕ) → nodePoints most symbols work found (loadAt turn i) count ≡ wanted i
+    same-points i = ap (λ (f : ℕ → Option Point). byDeadline (most + 1) f base) (fun-ext (done-same (loadAt turn i)))
+
+    pub done-fit : (i : ℕ) → i < turn .bins .count → PointsFit most symbols work found (loadAt turn i) count
+    done-fit i h e p q = ready .fit i h e p (sym (done-same (loadAt turn i) e) ∙ q)
+
+    pub done-matches : Matches most found count symbols work
+    done-matches =
+        let m = ready .matches in
+        record { rows = m .rows; room = m .room; sources = record { symbols-length = m .sources .symbols-length; symbols-small = m .sources .symbols-small; curves = d .curves } }
+
+    -- A count is told in a byte.
+    pub count-small : (i r : ℕ) → r ≡ length (nodePoints most symbols work found (loadAt turn i) count) → r ≤ 255
+    count-small i r e = omega (arith, deadline-few (most + 1) (bestBefore most symbols work found (loadAt turn i) count) base, d .curves .bounded)
+
+  pub done-next : (b : ℕ) {work points : List ℕ} → b < turn .bins .count → DoneTo (b + 1) work points → (work′ : List ℕ) (r : ℕ) → length work′ ≡ length work →
+      CurveStored most symbols work found (loadAt turn b) count (firstCurve turn + b) work′ r → DoneTo b work′ (set points b r)
+  done-next b {work} {points} hb d work′ r el c =
+      let at = firstCurve turn + b in
+      let words = map wordOf (take most (wanted b)) in
+      let laid : work′ ≡ sets work ((most + 1) * at) words = c .laid ∙ ap (λ (q : List Point). sets work ((most + 1) * at) (map wordOf (take most q))) (same-points d b) in
+      let others : (j : ℕ) → (j ≡ at → ⊥) → curveAt most work′ j ≡ curveAt most work j =
+      λ j n. ap (λ (q : List ℕ). curveAt most q j) laid ∙ curve-other most work at j words n (omega (arith, length-map (take most (wanted b)) wordOf, length-take most (wanted b))) in
       record {
         length-kept = el ∙ d .length-kept;
-        small = c .small;
-        zero = λ k l. ap (λ (q : List ℕ). getD q k 0) laid ∙ before-sets work (slot node b) (map wordOf (take 31 ps)) k 0 l ∙ d .zero k (omega arith);
-        agree = λ k l. after k (omega arith) ∙ d .agree k l;
+        curves = record { bounded = d .curves .bounded; room = omega (arith, d .curves .room); small = c .small };
+        zero = λ j l k. ap (λ (q : List ℕ). getD q k 0) (others j (λ e. absurd (omega arith))) ∙ d .zero j (omega arith) k;
+        agree = λ j l. others j (λ e. absurd (omega (arith, ready .few-bins))) ∙ d .agree j l;
         many = length-set points b r ∙ d .many;
-        counted = λ i l m. counted i (eq-or-lt-of-le l) m (c .counted ∙ ap length same-points);
-        stored = λ i l m. stored i (eq-or-lt-of-le l) m laid after;
+        counted = λ i l m. counts i (eq-or-lt-of-le l) m (c .counted ∙ ap length (same-points d b));
+        stored-are = λ i l m. curve-is i (eq-or-lt-of-le l) m laid others;
       }
     where
-      counted : (i : ℕ) → (b ≡ i) ⊎ (b < i) → i < bins → r ≡ length (pointsUnder symbols work₀ found count loads b) → getD (set points b r) i 0 ≡ length (pointsUnder symbols work₀ found count loads i)
-      counted i (inl e) m q =
-          subst (λ (j : ℕ). getD (set points b r) j 0 ≡ length (pointsUnder symbols work₀ found count loads j)) e
-          (getD-set-same points b r 0 (omega (arith, d .many)) ∙ q)
-      counted i (inr l) m q = getD-set-other points b i r 0 (λ e. absurd (omega arith)) ∙ d .counted i (omega arith) m
+      counts : (i : ℕ) → (b ≡ i) ⊎ (b < i) → i < turn .bins .count → r ≡ length (wanted b) → getD (set points b r) i 0 ≡ length (wanted i)
+      counts i (inl e) m q =
+          subst (λ (j : ℕ). getD (set points b r) j 0 ≡ length (wanted j)) e
+          (getD-set-same points b r 0 (omega (arith, d .many, ready .few-bins)) ∙ q)
+      counts i (inr l) m q = getD-set-other points b i r 0 (λ e. absurd (omega arith)) ∙ d .counted i (omega arith) m
 
-      stored : (i : ℕ) → (b ≡ i) ⊎ (b < i) → i < bins → work′ ≡ sets work (slot node b) (map wordOf (take 31 (pointsUnder symbols work₀ found count loads b))) → AgreeFrom (slot node b + 32) work′ work →
-          length (pointsUnder symbols work₀ found count loads i) ≤ 31 → tableOf work′ node i ≡ pointsUnder symbols work₀ found count loads i
-      stored i (inl e) m laid after =
-          subst (λ (j : ℕ). length (pointsUnder symbols work₀ found count loads j) ≤ 31 → tableOf work′ node j ≡ pointsUnder symbols work₀ found count loads j) e
+      curve-is : (i : ℕ) → (b ≡ i) ⊎ (b < i) → i < turn .bins .count → work′ ≡ sets work ((most + 1) * (firstCurve turn + b)) (map wordOf (take most (wanted b))) →
+          ((j : ℕ) → (j ≡ firstCurve turn + b → ⊥) → curveAt most work′ j ≡ curveAt most work j) → length (wanted i) ≤ most → tableOf most work′ (turn .node) i ≡ wanted i
+      curve-is i (inl e) m laid others =
+          subst (λ (j : ℕ). length (wanted j) ≤ most → tableOf most work′ (turn .node) j ≡ wanted j) e
           (λ few.
-          let ps = pointsUnder symbols work₀ found count loads b in
-          ap (λ (q : List ℕ). tableOf q node b) (laid ∙ ap (λ (q : List Point). sets work (slot node b) (map wordOf q)) (take-all 31 ps few))
-          ∙ stored-laid work (slot node b) 32 ps (λ k l g. d .zero k (omega arith)) (omega arith) (omega (arith, d .length-kept))
-          (deadline-all 32 (bestBefore symbols work₀ found (getD loads b 0) count) base fit))
-      stored i (inr l) m laid after = λ few.
-          stored-same work′ work (slot node b + 32) (slot node i) 32 (omega arith) after ∙ d .stored i (omega arith) m few
+          let at = firstCurve turn + b in
+          ap (λ (q : List ℕ). tableOf most q (turn .node) b) (laid ∙ ap (λ (q : List Point). sets work ((most + 1) * at) (map wordOf q)) (take-all most (wanted b) few))
+          ∙ curve-laid most work at (wanted b) (d .zero at (omega arith)) few (slot-within (d .curves) at (omega (arith, ready .node, ready .few-bins)) .1)
+          (deadline-all (most + 1) (bestBefore most symbols work₀ found (loadAt turn b) count) base (ready .fit b hb)))
+      curve-is i (inr l) m laid others = λ few. ap stored (others (firstCurve turn + i) (λ e. absurd (omega arith))) ∙ d .stored-are i (omega arith) m few
+
+  pub done-all : {work points : List ℕ} → DoneTo 0 work points → NodeFilled symbols work₀ found count turn work (record { points = points })
+  done-all d = record {
+    counted = λ b h. d .counted b (omega arith) h;
+    stored = λ b h. d .stored-are b (omega arith) h;
+    zero = λ j l. d .zero j (omega arith);
+    agree = d .agree;
+    small = d .curves .small;
+  }

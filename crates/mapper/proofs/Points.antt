@@ -2,15 +2,15 @@
 use Prim.Native.Nat.{ℕ, zero, suc, _+_, _-_, _*_, _≤_, _<_}
 use mathlib.Core.Path.{_≡_, refl, sym, ap, subst, _∙_}
 use mathlib.Core.Logic.{⊎-elim}
-use mathlib.Core.Bool.{Bool, cond, false≢true}
+use mathlib.Core.Bool.{false≢true}
 use mathlib.Core.List.{List, [], _∷_, _++_, map, map-append, append-assoc, append-nil, reverse, reverse-reverse, List·Memᴰ·head}
 use mathlib.Core.Option.{Option, none, some, Option·none-ne-some}
 use native.Mathlib.Numerals.{add-one}
 use native.Mathlib.Nat.{le-refl}
 use native.Mathlib.Omega.{arith}
-use borrow.Author.Tests.{eq-eqb, ne-eqb, le-leb}
+use borrow.Author.Tests.{eq-eqb, le-leb}
 use lib.ListN.{length, getD, take, drop, set, length-map, length-reverse}
-use lib.Seq.{take-suc, length-take-le, drop-cons, drop-length, getD-set-same, getD-set-other}
+use lib.Seq.{take-suc, take-take, length-take-le, drop-length, getD-set-same}
 use Rattle.fields.specs.Answer.{Answer, success}
 use Rattle.sheets.specs.declared.TreeRecord.{TreeRecord}
 use Rattle.sheets.specs.Model.{Shape, leaf, Library, Tree}
@@ -26,6 +26,7 @@ use Rattle.covers.proofs.Overfull.{LastOf, nowhere, at, overfull-listed, overfu
 use Rattle.covers.proofs.Points.{point-path}
 use Rattle.covers.proofs.Unroll.{covers-unroll}
 use Rattle.curves.specs.Words.{pointLimit, stored, curveAt}
+use Rattle.curves.proofs.Laws.{stored-end, stored-more}
 use Rattle.results.specs.Public.{pointsOf}
 use Rattle.mapper.specs.declared.Finding.the-variants.{Refused, Found}
 use Rattle.mapper.specs.Found.{ofFinding, ofListed}
@@ -38,23 +39,15 @@ use Rattle.mapper.proofs.Root.{load-is, gate-root, leaf-root}
 abbrev pub Counted : List ℕ → ℕ → Type 0
 Counted ws k = stored ws ≡ map pointOf (take k ws) ++ stored (drop k ws)
 
--- The curve from a word on: the word's point, unless it is 0.
-from-word : (ws : List ℕ) (k : ℕ) → k < length ws → stored (drop k ws) ≡ cond (lib.Dec.eqb (getD ws k 0) 0) [] (pointOf (getD ws k 0) ∷ stored (drop (k + 1) ws))
-unfolding stored
-from-word ws k h = ap stored (drop-cons ws k 0 h ∙ ap (λ (j : ℕ). getD ws k 0 ∷ drop j ws) (sym (add-one k)))
-
 pub counted-more : (ws : List ℕ) (k : ℕ) → k < length ws → (getD ws k 0 ≡ 0 → ⊥) → Counted ws k → Counted ws (k + 1)
 counted-more ws k h there c =
     let here = pointOf (getD ws k 0) in
     let front : map pointOf (take (k + 1) ws) ≡ map pointOf (take k ws) ++ (here ∷ []) =
     ap (λ (j : ℕ). map pointOf (take j ws)) (add-one k) ∙ ap (map pointOf) (take-suc ws k 0 h) ∙ map-append pointOf (take k ws) (getD ws k 0 ∷ []) in
-    let rest : stored (drop k ws) ≡ here ∷ stored (drop (k + 1) ws) =
-    from-word ws k h ∙ ap (λ (b : Bool). cond b [] (here ∷ stored (drop (k + 1) ws))) (ne-eqb _ _ there) in
-    c ∙ ap (λ (ps : List Point). map pointOf (take k ws) ++ ps) rest ∙ sym (append-assoc (map pointOf (take k ws)) (here ∷ []) (stored (drop (k + 1) ws))) ∙ ap (λ (ps : List Point). ps ++ stored (drop (k + 1) ws)) (sym front)
+    c ∙ ap (λ (ps : List Point). map pointOf (take k ws) ++ ps) (stored-more ws k there) ∙ sym (append-assoc (map pointOf (take k ws)) (here ∷ []) (stored (drop (k + 1) ws))) ∙ ap (λ (ps : List Point). ps ++ stored (drop (k + 1) ws)) (sym front)
 
-pub counted-end : (ws : List ℕ) (k : ℕ) → k < length ws → getD ws k 0 ≡ 0 → Counted ws k → stored ws ≡ map pointOf (take k ws)
-counted-end ws k h e c =
-    c ∙ ap (λ (ps : List Point). map pointOf (take k ws) ++ ps) (from-word ws k h ∙ ap (λ (b : Bool). cond b [] (pointOf (getD ws k 0) ∷ stored (drop (k + 1) ws))) (eq-eqb _ _ e)) ∙ append-nil (map pointOf (take k ws))
+pub counted-end : (ws : List ℕ) (k : ℕ) → getD ws k 0 ≡ 0 → Counted ws k → stored ws ≡ map pointOf (take k ws)
+counted-end ws k e c = c ∙ ap (λ (ps : List Point). map pointOf (take k ws) ++ ps) (stored-end ws k e) ∙ append-nil (map pointOf (take k ws))
 
 pub counted-all : (ws : List ℕ) (k : ℕ) → length ws ≡ k → Counted ws k → stored ws ≡ map pointOf (take k ws)
 unfolding stored
@@ -125,7 +118,7 @@ module _ {most : ℕ} {l : Library} {t : Tree} {tree : TreeRecord} {work : List 
     room = length-take-le (most + 1) work (omega (arith, given .area .room))
 
     front : take count (take (most + 1) work) ≡ take count work
-    front = lib.Seq.take-take-le count (most + 1) work (omega (arith, within, room))
+    front = take-take count (most + 1) work (omega (arith, within, room))
 
     words-are : map pointOf (take count work) ≡ reverse all
     unfolding curve tradeoffs

@@ -17,7 +17,7 @@ ghost use Rattle.sheets.specs.Model.{leaf, Library, Tree};
 ghost use Rattle.covers.specs.Answer.{answered};
 ghost use Rattle.covers.specs.Choice.{choice};
 ghost use Rattle.covers.specs.Curve.{pointOf};
-ghost use Rattle.matching.specs.Found.{tableWords};
+ghost use Rattle.matching.specs.Found.{matchTable};
 ghost use Rattle.curves.specs.Words.{stored};
 ghost use Rattle.curves.specs.Best.{symbolLimit};
 ghost use Rattle.filling.specs.Promises.{FillStart};
@@ -139,8 +139,8 @@ pub fn map_tree(
     most: usize,
     work: &mut [u64],
 ) -> Mapped
-    requires { ⌜ ((l : Library) × ((t : Tree) × FillStart l t (now rows) bins tree most (replicate tableWords 0) (now work))) ⌝ }
-    ensures { λ r. ⌜ ((l : Library) (t : Tree) → FillStart l t (now (rows .entry)) bins tree most (replicate tableWords 0) (now (work .entry)) → MappedIs most l t r) ⌝ }
+    requires { ⌜ ((l : Library) × ((t : Tree) × FillStart l t (now rows) bins tree most (replicate matchTable 0) (now work))) ⌝ }
+    ensures { λ r. ⌜ ((l : Library) (t : Tree) → FillStart l t (now (rows .entry)) bins tree most (replicate matchTable 0) (now (work .entry)) → MappedIs most l t r) ⌝ }
 {
     let mut found = [0u32; Row::TABLE];
     let filling = filling::fill(rows, bins, tree, most, &mut found, work);
@@ -199,8 +199,8 @@ pub fn list_tree(
     most: usize,
     work: &mut [u64],
 ) -> Listed
-    requires { ⌜ ((l : Library) × ((t : Tree) × FillStart l t (now rows) bins tree most (replicate tableWords 0) (now work))) ⌝ }
-    ensures { λ r. ⌜ ((l : Library) (t : Tree) → FillStart l t (now (rows .entry)) bins tree most (replicate tableWords 0) (now (work .entry)) → ListedIs most l t (now (work .exit)) r) ⌝ }
+    requires { ⌜ ((l : Library) × ((t : Tree) × FillStart l t (now rows) bins tree most (replicate matchTable 0) (now work))) ⌝ }
+    ensures { λ r. ⌜ ((l : Library) (t : Tree) → FillStart l t (now (rows .entry)) bins tree most (replicate matchTable 0) (now (work .entry)) → ListedIs most l t (now (work .exit)) r) ⌝ }
 {
     let mut found = [0u32; Row::TABLE];
     let filling = filling::fill(rows, bins, tree, most, &mut found, work);

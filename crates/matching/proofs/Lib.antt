@@ -1,5 +1,4 @@
 -- The laws of `matching`, in reading order.
-pub mod Tables
 pub mod Walking
 pub mod Standing
 pub mod Written

@@ -1,5 +1,5 @@
 -- A tree's arrays hold each of its subtrees.
-use Prim.Native.Nat.{ℕ, suc, _+_, _≤_, _<_}
+use Prim.Native.Nat.{ℕ, suc, _+_, _<_}
 use mathlib.Core.Path.{_≡_, sym, ap, subst, _∙_}
 use mathlib.Core.Logic.{⊎-elim}
 use mathlib.Core.List.{List, [], _∷_, _++_, List·Memᴰ, List·Memᴰ·head, List·Memᴰ·tail, List·Memᴰ·not-nil, List·Memᴰ·append-cases}
@@ -9,11 +9,11 @@ use lib.ListN.{length, getD, replicate, length-append, length-replicate, List·g
 use lib.Seq.{length-sets, getD-append-add}
 use Rattle.shapes.specs.Shape.{symbols, sizes}
 use Rattle.shapes.proofs.Drawn.{length-symbols, length-sizes}
-use Rattle.sheets.specs.declared.CellRecord.{CellRecord}
 use Rattle.sheets.specs.Model.{Shape, leaf, inv, nand, size, Library, Tree}
 use Rattle.sheets.specs.Layout.{padded}
 use Rattle.covers.specs.Tradeoff.{Node, nodes}
 use Rattle.covers.proofs.Nodes.{node-ends}
+use Rattle.matching.specs.Found.{matchTable}
 use Rattle.matching.specs.Standing.{Stands, Subject}
 use Rattle.matching.specs.Promises.{Ready, Decoded}
 use Rattle.fields.proofs.Lists.{in-sets}
@@ -63,31 +63,32 @@ module _ (ss zs : List ℕ) where
   stands-nodes n (nand s t) h x (List·Memᴰ·tail m) =
       ⊎-elim (λ k. stands-nodes (suc n) s (h .2) x k) (λ k. stands-nodes (suc n + size s) t (h .3) x k) (List·Memᴰ·append-cases (nodes (suc n) s) m)
 
-  -- The arrays of a decoded tree.
-  module _ (root : Shape) (small : size root ≤ 64) (es : ss ≡ padded 64 0 (symbols root)) (ez : zs ≡ padded 64 0 (sizes root)) where
-    pub stands-in : Stands ss zs 0 root
-    stands-in = stands-at 0 root
-        (λ k h. ap (λ (l : List ℕ). getD l (0 + k) 0) es ∙ in-sets (replicate 64 0) 0 (symbols root) k 0 (omega (arith, length-symbols root, length-replicate {A = ℕ} 64 0)) h)
-        (λ k h. ap (λ (l : List ℕ). getD l (0 + k) 0) ez ∙ in-sets (replicate 64 0) 0 (sizes root) k 0 (omega (arith, length-sizes root, length-replicate {A = ℕ} 64 0)) h)
+-- A decoded tree's arrays.
+module _ {l : Library} {t : Tree} {rows ss zs : List ℕ} (d : Decoded l t rows ss zs) where
+  -- What a padded array holds.
+  laid : {ws : List ℕ} (xs : List ℕ) → ws ≡ padded 64 0 xs → length xs ≡ size (t .shape) → (length ws ≡ 64) × Held ws 0 xs
+  laid {ws} xs e f = (
+    ap length e ∙ length-sets (replicate 64 0) 0 xs ∙ length-replicate {A = ℕ} 64 0,
+    λ k h. ap (λ (l : List ℕ). getD l (0 + k) 0) e ∙ in-sets (replicate 64 0) 0 xs k 0 (omega (arith, d .tree .size, length-replicate {A = ℕ} 64 0)) h,
+  )
 
-    pub stands-everywhere : (x : Node) → List·Memᴰ x (nodes 0 root) → Stands ss zs (x .number) (x .shape)
-    stands-everywhere = stands-nodes 0 root stands-in
+  symbols-laid : (length ss ≡ 64) × Held ss 0 (symbols (t .shape))
+  symbols-laid = laid (symbols (t .shape)) (d .symbols-are) (length-symbols (t .shape))
 
-    pub subject-everywhere : (x : Node) → List·Memᴰ x (nodes 0 root) → Subject ss zs (x .number) (x .shape)
-    subject-everywhere x m = record {
-      symbols-long = ap length es ∙ length-sets (replicate 64 0) 0 (symbols root) ∙ length-replicate {A = ℕ} 64 0;
-      sizes-long = ap length ez ∙ length-sets (replicate 64 0) 0 (sizes root) ∙ length-replicate {A = ℕ} 64 0;
-      stands = stands-everywhere x m;
-      ends = omega (arith, node-ends 0 root m);
-    }
+  sizes-laid : (length zs ≡ 64) × Held zs 0 (sizes (t .shape))
+  sizes-laid = laid (sizes (t .shape)) (d .sizes-are) (length-sizes (t .shape))
 
--- What `find_matches` is lent at every node.
-pub ready-everywhere : {l : Library} {t : Tree} {rows : List ℕ} {total : ℕ} {cells : List CellRecord} {ss zs : List ℕ} → Decoded l t rows total cells ss zs → {room : ℕ} → room ≡ 8704 → (x : Node) → List·Memᴰ x (nodes 0 (t .shape)) → Ready rows total cells ss zs (x .number) room l (x .shape)
-ready-everywhere {t = t} {ss = ss} {zs} d e x m = record {
-  sound = d .library;
-  rows-are = d .rows-are;
-  total-is = d .total-is;
-  cells-are = d .cells-are;
-  subject = subject-everywhere ss zs (t .shape) (d .tree .size) (d .symbols-are) (d .sizes-are) x m;
-  room-is = e;
-}
+  pub stands-everywhere : (x : Node) → List·Memᴰ x (nodes 0 (t .shape)) → Stands ss zs (x .number) (x .shape)
+  stands-everywhere = stands-nodes ss zs 0 (t .shape) (stands-at ss zs 0 (t .shape) (symbols-laid .1) (sizes-laid .1))
+
+  pub subject-everywhere : (x : Node) → List·Memᴰ x (nodes 0 (t .shape)) → Subject ss zs (x .number) (x .shape)
+  subject-everywhere x m = record {
+    symbols-long = symbols-laid .0;
+    sizes-long = sizes-laid .0;
+    stands = stands-everywhere x m;
+    ends = omega (arith, node-ends 0 (t .shape) m, d .tree .size);
+  }
+
+  -- What `find_matches` is lent there.
+  pub ready-everywhere : {room : ℕ} → room ≡ matchTable → (x : Node) → List·Memᴰ x (nodes 0 (t .shape)) → Ready l t rows ss zs (x .number) room (x .shape)
+  ready-everywhere e x m = record { decoded = d; here = m; room-is = e }

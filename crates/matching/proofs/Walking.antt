@@ -11,7 +11,7 @@ use lib.ListN.{getD, length, set, drop, replicate, length-append, length-map}
 use lib.Seq.{drop-cons, drop-length}
 use Rattle.shapes.specs.Shape.{symbols}
 use Rattle.shapes.proofs.Drawn.{length-symbols}
-use Rattle.sheets.specs.Layout.{padded}
+use Rattle.sheets.specs.Layout.{padded, sizeAt, symbolsAt, rowWords}
 use Rattle.sheets.proofs.Laws.{padded-more}
 use Rattle.sheets.specs.Model.{Shape, leaf, inv, nand, size, leaves}
 use Rattle.covers.specs.Match.{Input, joined, laid}
@@ -265,14 +265,14 @@ module _ (ss zs : List ℕ) where
 
 -- What the walk may read and write next.
 pub record Within (row ss zs : List ℕ) (count at k : ℕ) : Type 0 where
-  pub row-long : length row ≡ 18
+  pub row-long : length row ≡ rowWords
   pub symbols-long : length ss ≡ 64
   pub sizes-long : length zs ≡ 64
   pub k-small : k < 16
   pub count-small : count < 16
   pub at-some : 0 < getD zs at 0
   pub at-small : at + getD zs at 0 ≤ 64
-  pub symbol-small : getD row (2 + k) 0 < 8
+  pub symbol-small : getD row (symbolsAt + k) 0 < 8
 
 symbols-below : (d : Shape) (b : ℕ) → ((x : ℕ) → List·Memᴰ x (leaves d) → x < b) → (y : ℕ) → List·Memᴰ y (symbols d) → y < 2 + b
 unfolding symbols leaves
@@ -286,39 +286,39 @@ symbols-below (nand a c) b h y (List·Memᴰ·tail m) =
     (List·Memᴰ·append-cases (symbols a) m)
 
 pub within : {row ss zs : List ℕ} {n : ℕ} {d s : Shape} {pins nodes : List ℕ} {count at k : ℕ} →
-    Walkable row ss zs n d s → Going ss zs d s n pins nodes count at k → k < getD row 1 0 → Within row ss zs count at k
+    Walkable row ss zs n d s → Going ss zs d s n pins nodes count at k → k < getD row sizeAt 0 → Within row ss zs count at k
 within {row} {ss} {zs} {n} {d} {s} {pins} {nodes} {count} {at} {k} w g h =
-    let here : k < size d = omega (arith, w .size-is) in
+    let here : k < size d = omega (arith, w .drawing .size-is) in
     let b = going-within ss zs d s n g here in
     record {
-      row-long = w .row-long;
+      row-long = w .drawing .long;
       symbols-long = w .subject .symbols-long;
       sizes-long = w .subject .sizes-long;
       k-small = omega (arith, w .small);
       count-small = omega (arith, g .few, w .small);
       at-some = b .0;
       at-small = omega (arith, b .1, w .subject .ends);
-      symbol-small = omega (arith, w .symbols-are k here, symbols-below d 6 (w .pinned) (getD (symbols d) k 0) (at-mem (symbols d) k 0 (omega (arith, length-symbols d))));
+      symbol-small = omega (arith, w .drawing .symbols-are k here, symbols-below d 6 (w .pinned) (getD (symbols d) k 0) (at-mem (symbols d) k 0 (omega (arith, length-symbols d))));
     }
 
 -- One turn of the loop, by the symbol that it reads in the row.
 module _ {row ss zs : List ℕ} {n : ℕ} {d s : Shape} {pins nodes : List ℕ} {count at k : ℕ}
-    (w : Walkable row ss zs n d s) (g : Going ss zs d s n pins nodes count at k) (h : k < getD row 1 0) where
+    (w : Walkable row ss zs n d s) (g : Going ss zs d s n pins nodes count at k) (h : k < getD row sizeAt 0) where
   left : k < size d
-  left = omega (arith, w .size-is)
+  left = omega (arith, w .drawing .size-is)
 
-  reads : getD row (2 + k) 0 ≡ getD (symbols d) k 0
-  reads = w .symbols-are k left
+  reads : getD row (symbolsAt + k) 0 ≡ getD (symbols d) k 0
+  reads = w .drawing .symbols-are k left
 
-  pub next-turn : {pins′ nodes′ : List ℕ} {count′ at′ : ℕ} → getD row (2 + k) 0 < 2 → getD ss at 0 ≡ getD row (2 + k) 0 →
+  pub next-turn : {pins′ nodes′ : List ℕ} {count′ at′ : ℕ} → getD row (symbolsAt + k) 0 < 2 → getD ss at 0 ≡ getD row (symbolsAt + k) 0 →
       pins′ ≡ pins → nodes′ ≡ nodes → count′ ≡ count → at′ ≡ at + 1 → Going ss zs d s n pins′ nodes′ count′ at′ (k + 1)
   next-turn z e e₁ e₂ e₃ e₄ = rw (e₁, e₂, e₃, e₄) (going-next ss zs d s n g left (omega (arith, reads)) (e ∙ reads))
 
-  pub skip-turn : {pins′ nodes′ : List ℕ} {count′ at′ : ℕ} → 2 ≤ getD row (2 + k) 0 →
-      pins′ ≡ set pins count (getD row (2 + k) 0 - 2) → nodes′ ≡ set nodes count at → count′ ≡ count + 1 → at′ ≡ at + getD zs at 0 →
+  pub skip-turn : {pins′ nodes′ : List ℕ} {count′ at′ : ℕ} → 2 ≤ getD row (symbolsAt + k) 0 →
+      pins′ ≡ set pins count (getD row (symbolsAt + k) 0 - 2) → nodes′ ≡ set nodes count at → count′ ≡ count + 1 → at′ ≡ at + getD zs at 0 →
       Going ss zs d s n pins′ nodes′ count′ at′ (k + 1)
   skip-turn z e₁ e₂ e₃ e₄ = rw (e₁, e₂, e₃, e₄, reads) (going-skip ss zs d s n g left (omega (arith, reads)))
 
-  pub differs-turn : (r : Walked) → getD row (2 + k) 0 < 2 → getD ss at 0 ≢ getD row (2 + k) 0 → r .matched ≡ false → WalkedIs (laid d n s) r
+  pub differs-turn : (r : Walked) → getD row (symbolsAt + k) 0 < 2 → getD ss at 0 ≢ getD row (symbolsAt + k) 0 → r .matched ≡ false → WalkedIs (laid d n s) r
   differs-turn r z e f =
       subst (λ (o : Option (List Input)). WalkedIs o r) (sym (going-differs ss zs d s n g left (omega (arith, reads)) (λ q. e (q ∙ sym reads)))) f

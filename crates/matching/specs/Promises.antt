@@ -1,24 +1,62 @@
 -- What the functions of this crate are lent and what they promise, by the definitions of matches and of their rows.
-use Prim.Native.Nat.{ℕ, _+_, _≤_, _<_}
+use Prim.Native.Nat.{ℕ, _+_, _*_, _≤_, _<_}
 use mathlib.Core.Path.{_≡_}
-use mathlib.Core.Bool.{true, false}
+use mathlib.Core.Bool.{true, false, cond}
 use mathlib.Core.List.{List, map, List·Memᴰ}
 use mathlib.Core.Option.{Option, none, some}
-use lib.ListN.{getD, length, replicate}
+use lib.ListN.{getD, length}
 use Rattle.shapes.specs.Shape.{symbols, sizes}
-use Rattle.sheets.specs.declared.CellRecord.{CellRecord}
-use Rattle.sheets.specs.Model.{Shape, size, leaves, Library, Pattern, patterns, Tree}
-use Rattle.sheets.specs.Sound.{SoundDrawing, SoundLibrary, SoundTree}
-use Rattle.sheets.specs.Layout.{padded, blankCell, cellLaid, tableFrom, patternRows}
-use Rattle.covers.specs.Match.{Input, Match, laid}
+use Rattle.sheets.specs.Model.{Shape, size, leaves, Pin, Cell, Library, Pattern, Tree}
+use Rattle.sheets.specs.Sound.{SoundDrawing, SoundCell, SoundLibrary, SoundTree}
+use Rattle.sheets.specs.Layout.{padded, pinWords, figuresAt, sizeAt, symbolsAt, rowWords, patternTable}
+use Rattle.covers.specs.Match.{Input, Match, laid, pinAt, pinLoad}
+use Rattle.covers.specs.Tradeoff.{nodes}
 use Rattle.matching.specs.declared.Walked.{Walked}
+use Rattle.matching.specs.Found.{matchTable}
 use Rattle.matching.specs.Standing.{Subject}
+
+-- ---- a pattern's row
+
+-- The row holds the drawing d.
+pub record DrawingHeld (row : List ℕ) (d : Shape) : Type 0 where
+  pub long : length row ≡ rowWords
+  pub size-is : getD row sizeAt 0 ≡ size d
+  pub symbols-are : (k : ℕ) → k < size d → getD row (symbolsAt + k) 0 ≡ getD (symbols d) k 0
+
+-- The row holds, from a place on, the figures of a pin of the library l.
+pub record PinHeld (l : Library) (row : List ℕ) (at : ℕ) (p : Pin) : Type 0 where
+  pub bin-is : getD row at 0 ≡ p .bin
+  pub load-is : getD row (at + 1) 0 ≡ pinLoad l p
+  pub intrinsic-is : getD row (at + 2) 0 ≡ p .intrinsic
+  pub drive-is : getD row (at + 3) 0 ≡ p .drive
+
+-- The row holds the cell c of the library l: after the cell's number its hold mark, area and highest load, and its pins from a place on.
+abbrev pub heldAt : ℕ
+heldAt = 1
+
+abbrev pub areaAt : ℕ
+areaAt = 2
+
+abbrev pub highestAt : ℕ
+highestAt = 3
+
+pub record CellHeld (l : Library) (row : List ℕ) (c : Cell) : Type 0 where
+  pub long : length row ≡ rowWords
+  pub held-is : getD row heldAt 0 ≡ cond (c .held) 1 0
+  pub area-is : getD row areaAt 0 ≡ c .area
+  pub highest-is : getD row highestAt 0 ≡ c .highest
+  pub pins-are : (k : ℕ) → k < length (c .pins) → PinHeld l row (figuresAt + pinWords * k) (pinAt c k)
+
+-- The row holds the pattern p of the library l.
+pub record PatternHeld (l : Library) (row : List ℕ) (p : Pattern) : Type 0 where
+  pub drawing : DrawingHeld row (p .drawing)
+  pub cell : CellHeld l row (p .cell)
+
+-- ---- a walk
 
 -- The row holds the drawing d, and the arrays hold the subtree s at node n.
 pub record Walkable (row ss zs : List ℕ) (n : ℕ) (d s : Shape) : Type 0 where
-  pub row-long : length row ≡ 18
-  pub size-is : getD row 1 0 ≡ size d
-  pub symbols-are : (k : ℕ) → k < size d → getD row (2 + k) 0 ≡ getD (symbols d) k 0
+  pub drawing : DrawingHeld row d
   pub small : size d ≤ 16
   pub pinned : (x : ℕ) → List·Memᴰ x (leaves d) → x < 6
   pub subject : Subject ss zs n s
@@ -35,36 +73,35 @@ abbrev pub WalkedIs : Option (List Input) → Walked → Type 0
 WalkedIs none r = r .matched ≡ false
 WalkedIs (some is) r = Walks is r
 
--- A match as the walk found it, with its cell's record.
-pub record Writable (walked : Walked) (cell : CellRecord) (m : Match) : Type 0 where
+-- ---- a match
+
+-- A match as the walk found it, with its pattern's row.
+pub record Writable (l : Library) (walked : Walked) (row : List ℕ) (m : Match) : Type 0 where
   pub walks : Walks (m .inputs) walked
-  pub cell-is : cell ≡ cellLaid (m .pattern .cell)
+  pub cell : CellHeld l row (m .pattern .cell)
+  pub sound : SoundCell (length (l .bins)) (m .pattern .cell)
   pub few : length (m .inputs) ≤ 16
-  pub pins-few : length (m .pattern .cell .pins) ≤ 6
   pub pinned : (i : Input) → List·Memᴰ i (m .inputs) → i .pin < length (m .pattern .cell .pins)
 
--- A sound pattern as it was walked over the subtree s at node n, with its cell's record.
-pub record Tried (walked : Walked) (cell : CellRecord) (p : Pattern) (n : ℕ) (s : Shape) : Type 0 where
+-- A sound pattern as it was walked over the subtree s at node n, with its row.
+pub record Tried (l : Library) (walked : Walked) (row : List ℕ) (p : Pattern) (n : ℕ) (s : Shape) : Type 0 where
   pub walked-is : WalkedIs (laid (p .drawing) n s) walked
-  pub cell-is : cell ≡ cellLaid (p .cell)
-  pub pins-few : length (p .cell .pins) ≤ 6
+  pub cell : CellHeld l row (p .cell)
+  pub sound : SoundCell (length (l .bins)) (p .cell)
   pub drawing : SoundDrawing (length (p .cell .pins)) (p .drawing)
 
--- The library l as decoded, the subtree s at node n, and room for a row of each pattern.
-pub record Ready (rows : List ℕ) (total : ℕ) (cells : List CellRecord) (ss zs : List ℕ) (n room : ℕ) (l : Library) (s : Shape) : Type 0 where
-  pub sound : SoundLibrary l
-  pub rows-are : rows ≡ tableFrom 18 (replicate 2304 0) 0 (patternRows (patterns l))
-  pub total-is : total ≡ length (patterns l)
-  pub cells-are : cells ≡ padded 64 blankCell (map cellLaid (l .cells))
-  pub subject : Subject ss zs n s
-  pub room-is : room ≡ 8704
+-- ---- all matches of a node
 
--- The library l and the tree t as decoded: the patterns' rows, the cells, and the tree's symbols and sizes.
-pub record Decoded (l : Library) (t : Tree) (rows : List ℕ) (total : ℕ) (cells : List CellRecord) (ss zs : List ℕ) : Type 0 where
+-- The library l and the tree t as decoded: the patterns' rows, and the tree's symbols and sizes.
+pub record Decoded (l : Library) (t : Tree) (rows ss zs : List ℕ) : Type 0 where
   pub library : SoundLibrary l
   pub tree : SoundTree t
-  pub rows-are : rows ≡ tableFrom 18 (replicate 2304 0) 0 (patternRows (patterns l))
-  pub total-is : total ≡ length (patterns l)
-  pub cells-are : cells ≡ padded 64 blankCell (map cellLaid (l .cells))
+  pub rows-are : rows ≡ patternTable l
   pub symbols-are : ss ≡ padded 64 0 (symbols (t .shape))
   pub sizes-are : zs ≡ padded 64 0 (sizes (t .shape))
+
+-- And (n, s) is a node of the tree, with room for a row of each pattern.
+pub record Ready (l : Library) (t : Tree) (rows ss zs : List ℕ) (n room : ℕ) (s : Shape) : Type 0 where
+  pub decoded : Decoded l t rows ss zs
+  pub here : List·Memᴰ (record { number = n; shape = s }) (nodes 0 (t .shape))
+  pub room-is : room ≡ matchTable

@@ -1,20 +1,19 @@
 // Which patterns match at a node of the subject tree. They are found once for a node, and serve every load and every deadline.
-use sheets::CellRecord;
 use sheets::PatternRow;
 ghost use mathlib.Core.Path.{_≡_};
-ghost use mathlib.Core.Bool.{cond, not};
-ghost use mathlib.Core.List.{[], _∷_, map};
+ghost use mathlib.Core.Bool.{Bool, cond, not};
+ghost use mathlib.Core.List.{[], map};
 ghost use Prim.Native.Nat.{ℕ, suc, _+_, _<_, _≤_};
 ghost use lib.ListN.{length};
 ghost use lib.Seq.{sets};
-ghost use Rattle.sheets.specs.Model.{Shape, Library, Pattern};
-ghost use Rattle.covers.specs.Match.{Match, laid, matched, found, fitting};
-ghost use Rattle.matching.specs.Found.{inputsWords, matchRow};
+ghost use Rattle.sheets.specs.Model.{Shape, Library, Pattern, Tree};
+ghost use Rattle.covers.specs.Match.{Match, laid, matched, putFirst, fitting};
+ghost use Rattle.matching.specs.Found.{matchWords, inputsAt, inputsWords, matchRow};
 ghost use Rattle.sheets.specs.Layout.{tableFrom};
 ghost use Rattle.matching.specs.Promises.{Walkable, WalkedIs, Writable, Tried, Ready};
 
-// A match's row: its pattern, its cell's area, the first load that is not legal and how many inputs it has, then four words for each input:
-// its node, and the load bin, the intrinsic delay and the drive of its pin.
+// A match's row: its pattern, its cell's area, the first load that is not legal and how many inputs it has, then five words for each input:
+// its node, and the load bin, the load, the intrinsic delay and the drive of its pin.
 pub struct Row {}
 
 impl Row {
@@ -28,18 +27,20 @@ impl Row {
 
     pub const INPUTS: usize = 4;
 
-    pub const INPUT: usize = 4;
+    pub const INPUT: usize = 5;
 
     // Within an input's words, after its node.
     pub const BIN: usize = 1;
 
-    pub const INTRINSIC: usize = 2;
+    pub const LOAD: usize = 2;
 
-    pub const DRIVE: usize = 3;
+    pub const INTRINSIC: usize = 3;
 
-    pub const WORDS: usize = 68;
+    pub const DRIVE: usize = 4;
 
-    pub const TABLE: usize = 8704;
+    pub const WORDS: usize = 84;
+
+    pub const TABLE: usize = 10752;
 }
 
 // What a walk over a pattern finds: whether it matches and, if so, how many inputs it has, with the pin and the node of each in drawn order.
@@ -91,102 +92,94 @@ fn walk<'a>(row: &'a [u32], symbols: &'a [u32], sizes: &'a [u8], n: usize) -> Wa
 }
 
 // The first load at which a match of a cell is not legal.
-fn first_illegal(held: bool, highest: u8) -> u32
-    ensures { λ r. ⌜ r ≡ cond (not held) (suc highest) 0 ⌝ }
+fn first_illegal(held: u32, highest: u32) -> u32
+    requires { ⌜ highest ≤ 255 ⌝ }
+    ensures { λ r. ⌜ ((h : Bool) → held ≡ cond h 1 0 → r ≡ cond (not h) (suc highest) 0) ⌝ }
 {
-    if held {
+    if held == 1 {
         return 0;
     }
-    highest as u32 + 1
+    highest + 1
 }
 
-// Four words from a place on.
-fn write_words(table: &mut [u32], at: usize, a: u32, b: u32, c: u32, d: u32)
-    requires { ⌜ (length (now table) ≡ 68) × (at + 4 ≤ 68) ⌝ }
-    ensures { λ r. ⌜ now (table .exit) ≡ sets (now (table .entry)) at (a ∷ (b ∷ (c ∷ (d ∷ [])))) ⌝ }
-{
-    table[at] = a;
-    table[at + 1] = b;
-    table[at + 2] = c;
-    table[at + 3] = d;
-}
-
-// The words of a match's inputs.
-fn write_inputs(table: &mut [u32], walked: Walked, cell: CellRecord)
-    requires { ⌜ (length (now table) ≡ 68) × ((m : Match) × Writable walked cell m) ⌝ }
-    ensures { λ r. ⌜ ((m : Match) → Writable walked cell m → now (table .exit) ≡ sets (now (table .entry)) 4 (inputsWords (m .pattern .cell) (m .inputs))) ⌝ }
+// The words of a match's inputs: after an input's node, what the pattern's row says of its pin.
+fn write_inputs<'a>(table: &mut [u32], walked: Walked, row: &'a [u32])
+    requires { ⌜ (length (now table) ≡ matchWords) × ((l : Library) × ((m : Match) × Writable l walked (now row) m)) ⌝ }
+    ensures { λ r. ⌜ ((l : Library) (m : Match) → Writable l walked (now (row .entry)) m →
+        now (table .exit) ≡ sets (now (table .entry)) inputsAt (inputsWords l (m .pattern .cell) (m .inputs))) ⌝ }
 {
     let count = walked.count;
     let mut k: usize = 0;
     while k < count {
-        let pin = walked.pins[k] as usize;
-        write_words(
+        let at = Row::INPUTS + Row::INPUT * k;
+        let figures = PatternRow::FIGURES + PatternRow::PIN * walked.pins[k] as usize;
+        table[at] = walked.nodes[k] as u32;
+        sheets::write_words(
             table,
-            Row::INPUTS + Row::INPUT * k,
-            walked.nodes[k] as u32,
-            cell.loads[pin] as u32,
-            cell.intrinsics[pin] as u32,
-            cell.drives[pin] as u32,
+            at + Row::BIN,
+            row[figures + PatternRow::BIN],
+            row[figures + PatternRow::LOAD],
+            row[figures + PatternRow::INTRINSIC],
+            row[figures + PatternRow::DRIVE],
         );
         k += 1;
     }
 }
 
 // A match's row.
-fn write_row(table: &mut [u32], walked: Walked, cell: CellRecord, pattern: usize)
-    requires { ⌜ (length (now table) ≡ 68) × (pattern < 128) × ((m : Match) × Writable walked cell m) ⌝ }
-    ensures { λ r. ⌜ ((m : Match) → Writable walked cell m → m .number ≡ pattern → now (table .exit) ≡ sets (now (table .entry)) 0 (matchRow m)) ⌝ }
+fn write_row<'a>(table: &mut [u32], walked: Walked, row: &'a [u32], pattern: usize)
+    requires { ⌜ (length (now table) ≡ matchWords) × (pattern < 128) × ((l : Library) × ((m : Match) × Writable l walked (now row) m)) ⌝ }
+    ensures { λ r. ⌜ ((l : Library) (m : Match) → Writable l walked (now (row .entry)) m → m .number ≡ pattern →
+        now (table .exit) ≡ sets (now (table .entry)) 0 (matchRow l m)) ⌝ }
 {
-    let illegal = first_illegal(cell.held, cell.highest);
-    write_words(
+    let illegal = first_illegal(row[PatternRow::HELD], row[PatternRow::HIGHEST]);
+    sheets::write_words(
         table,
         Row::PATTERN,
         pattern as u32,
-        cell.area as u32,
+        row[PatternRow::AREA],
         illegal,
         walked.count as u32,
     );
-    write_inputs(table, walked, cell);
+    write_inputs(table, walked, row);
 }
 
 // The row of a pattern that was walked, if it matched. Answers how many rows were written.
-fn write_match(table: &mut [u32], walked: Walked, cell: CellRecord, pattern: usize) -> usize
-    requires { ⌜ (length (now table) ≡ 68) × (pattern < 128) × ((p : Pattern) × ((n : ℕ) × ((s : Shape) × Tried walked cell p n s))) ⌝ }
-    ensures { λ r. ⌜ ((p : Pattern) (n : ℕ) (s : Shape) → Tried walked cell p n s →
-        (r ≡ length (found pattern p (matched (p .drawing) n s) []))
-        × (now (table .exit) ≡ tableFrom 68 (now (table .entry)) 0 (map matchRow (found pattern p (matched (p .drawing) n s) [])))) ⌝ }
+fn write_match<'a>(table: &mut [u32], walked: Walked, row: &'a [u32], pattern: usize) -> usize
+    requires { ⌜ (length (now table) ≡ matchWords) × (pattern < 128) × ((l : Library) × ((p : Pattern) × ((n : ℕ) × ((s : Shape) × Tried l walked (now row) p n s)))) ⌝ }
+    ensures { λ r. ⌜ ((l : Library) (p : Pattern) (n : ℕ) (s : Shape) → Tried l walked (now (row .entry)) p n s →
+        (r ≡ length (putFirst pattern p (matched (p .drawing) n s) []))
+        × (now (table .exit) ≡ tableFrom matchWords (now (table .entry)) 0 (map (matchRow l) (putFirst pattern p (matched (p .drawing) n s) [])))) ⌝ }
 {
     if !walked.matched {
         return 0;
     }
-    write_row(table, walked, cell, pattern);
+    write_row(table, walked, row, pattern);
     1
 }
 
 // The matches of a node: a row for each in the table, in the order of pattern numbers. Answers how many there are.
 pub fn find_matches<'a>(
     rows: &'a [u32],
-    total: usize,
-    cells: [CellRecord; 64],
     symbols: &'a [u32],
     sizes: &'a [u8],
     n: usize,
     table: &mut [u32],
 ) -> usize
-    requires { ⌜ ((l : Library) × ((s : Shape) × Ready (now rows) total cells (now symbols) (now sizes) n (length (now table)) l s)) ⌝ }
-    ensures { λ r. ⌜ ((l : Library) (s : Shape) → Ready (now (rows .entry)) total cells (now (symbols .entry)) (now (sizes .entry)) n (length (now (table .entry))) l s →
+    requires { ⌜ ((l : Library) × ((t : Tree) × ((s : Shape) × Ready l t (now rows) (now symbols) (now sizes) n (length (now table)) s))) ⌝ }
+    ensures { λ r. ⌜ ((l : Library) (t : Tree) (s : Shape) → Ready l t (now (rows .entry)) (now (symbols .entry)) (now (sizes .entry)) n (length (now (table .entry))) s →
         (r ≡ length (fitting l n s))
-        × (now (table .exit) ≡ tableFrom 68 (now (table .entry)) 0 (map matchRow (fitting l n s)))) ⌝ }
+        × (now (table .exit) ≡ tableFrom matchWords (now (table .entry)) 0 (map (matchRow l) (fitting l n s)))) ⌝ }
 {
+    let total = rows.len() / PatternRow::WORDS;
     let mut count: usize = 0;
     let mut p: usize = 0;
     while p < total {
         let first = PatternRow::WORDS * p;
-        let walked = walk(&rows[first..first + PatternRow::WORDS], symbols, sizes, n);
-        let number = rows[first] as usize;
-        let cell = cells[number];
+        let row = &rows[first..first + PatternRow::WORDS];
+        let walked = walk(row, symbols, sizes, n);
         let at = Row::WORDS * count;
-        count += write_match(&mut table[at..at + Row::WORDS], walked, cell, p);
+        count += write_match(&mut table[at..at + Row::WORDS], walked, row, p);
         p += 1;
     }
     count

@@ -41,7 +41,7 @@ use Rattle.covers.proofs.Ascending.{ascending-range}
 use Rattle.covers.proofs.Overfull.{LastOf, at, nodes-ascend, overfull-named}
 use Rattle.covers.proofs.SheetLengths.{cover-sheet-fits, list-sheet-fits}
 use Rattle.covers.proofs.Demands.{observed-is}
-use Rattle.matching.specs.Found.{tableWords}
+use Rattle.matching.specs.Found.{matchTable}
 use Rattle.filling.specs.Promises.{FillStart}
 use Rattle.results.specs.Public.{coverOf, pointsOf, Written}
 use Rattle.mapper.specs.declared.Finding.{Finding}
@@ -63,7 +63,7 @@ zeros-first : (n : ℕ) (rest work : List ℕ) → work ≡ replicate n 0 ++ res
 zeros-first n rest work e = ap (take n) e ∙ subst (λ (k : ℕ). take k (replicate n 0 ++ rest) ≡ replicate n 0) (length-replicate {A = ℕ} n 0) (take-append-seam (replicate n 0) rest)
 
 pub start-of : {l : Library} {t : Tree} {library : LibraryRecord} {tree : TreeRecord} → Laid l t library tree → (work work′ : List ℕ) → work′ ≡ replicate (workWords capacity) 0 ++ drop (workWords capacity) work →
-    FillStart l t (take (rowWords * library .total) (library .rows)) (library .bins) tree capacity (replicate tableWords 0) (take (workWords capacity) work′)
+    FillStart l t (take (rowWords * library .total) (library .rows)) (library .bins) tree capacity (replicate matchTable 0) (take (workWords capacity) work′)
 unfolding libraryLaid treeLaid patternTable
 start-of {l} {t} {library} {tree} g work work′ e =
     let zeros = zeros-first (workWords capacity) (drop (workWords capacity) work) work′ e in
@@ -77,7 +77,7 @@ start-of {l} {t} {library} {tree} g work work′ e =
       };
       bins-are = ap (λ (r : LibraryRecord). r .bins) (g .read .library-is);
       tree-is = g .tree-is;
-      room = length-replicate {A = ℕ} tableWords 0;
+      room = length-replicate {A = ℕ} matchTable 0;
       work-length = ap length zeros ∙ length-replicate {A = ℕ} (workWords capacity) 0;
       zero = λ k. ap (λ (ws : List ℕ). getD ws k 0) zeros ∙ zeros-at (workWords capacity) k;
       some-most = omega arith;

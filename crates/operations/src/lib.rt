@@ -17,7 +17,7 @@ ghost use Rattle.covers.specs.Capacity.{capacity, workWords};
 ghost use Rattle.covers.specs.Answer.{mapAnswer, listAnswer};
 ghost use Rattle.covers.specs.Outcome.{mapBytes, listBytes, observed, cleared, withTree, operation, mapOutcome, listOutcome};
 ghost use Rattle.covers.specs.Demands.{MapDemands, ListDemands, WhereSound};
-ghost use Rattle.matching.specs.Found.{tableWords};
+ghost use Rattle.matching.specs.Found.{matchTable};
 ghost use Rattle.filling.specs.Promises.{FillStart};
 ghost use Rattle.operations.specs.Public.{ofReply, Operated};
 ghost use Rattle.operations.specs.Inside.{leastOutput, taskAnswer, Replied, Laid, LibraryLaid};
@@ -52,8 +52,8 @@ fn write_mapped(
     output: &mut [u8],
     work: &mut [u64],
 ) -> Reply
-    requires { ⌜ (mapBytes ≤ length (now output)) × ((l : Library) × ((t : Tree) × FillStart l t (now rows) bins tree capacity (replicate tableWords 0) (now work))) ⌝ }
-    ensures { λ r. ⌜ ((l : Library) (t : Tree) → FillStart l t (now (rows .entry)) bins tree capacity (replicate tableWords 0) (now (work .entry)) →
+    requires { ⌜ (mapBytes ≤ length (now output)) × ((l : Library) × ((t : Tree) × FillStart l t (now rows) bins tree capacity (replicate matchTable 0) (now work))) ⌝ }
+    ensures { λ r. ⌜ ((l : Library) (t : Tree) → FillStart l t (now (rows .entry)) bins tree capacity (replicate matchTable 0) (now (work .entry)) →
         Replied (mapAnswer capacity l t) (now (output .entry)) (now (output .exit)) r) ⌝ }
 {
     let mapped = mapper::map_tree(rows, bins, tree, Limits::POINTS, work);
@@ -72,8 +72,8 @@ fn write_listed(
     output: &mut [u8],
     work: &mut [u64],
 ) -> Reply
-    requires { ⌜ (listBytes ≤ length (now output)) × ((l : Library) × ((t : Tree) × FillStart l t (now rows) bins tree capacity (replicate tableWords 0) (now work))) ⌝ }
-    ensures { λ r. ⌜ ((l : Library) (t : Tree) → FillStart l t (now (rows .entry)) bins tree capacity (replicate tableWords 0) (now (work .entry)) →
+    requires { ⌜ (listBytes ≤ length (now output)) × ((l : Library) × ((t : Tree) × FillStart l t (now rows) bins tree capacity (replicate matchTable 0) (now work))) ⌝ }
+    ensures { λ r. ⌜ ((l : Library) (t : Tree) → FillStart l t (now (rows .entry)) bins tree capacity (replicate matchTable 0) (now (work .entry)) →
         Replied (listAnswer capacity l t) (now (output .entry)) (now (output .exit)) r) ⌝ }
 {
     let listed = mapper::list_tree(rows, bins, tree, Limits::POINTS, work);
@@ -93,8 +93,8 @@ fn write_task(
     output: &mut [u8],
     work: &mut [u64],
 ) -> Reply
-    requires { ⌜ (leastOutput task ≤ length (now output)) × ((l : Library) × ((t : Tree) × FillStart l t (now rows) bins tree capacity (replicate tableWords 0) (now work))) ⌝ }
-    ensures { λ r. ⌜ ((l : Library) (t : Tree) → FillStart l t (now (rows .entry)) bins tree capacity (replicate tableWords 0) (now (work .entry)) →
+    requires { ⌜ (leastOutput task ≤ length (now output)) × ((l : Library) × ((t : Tree) × FillStart l t (now rows) bins tree capacity (replicate matchTable 0) (now work))) ⌝ }
+    ensures { λ r. ⌜ ((l : Library) (t : Tree) → FillStart l t (now (rows .entry)) bins tree capacity (replicate matchTable 0) (now (work .entry)) →
         Replied (taskAnswer task capacity l t) (now (output .entry)) (now (output .exit)) r) ⌝ }
 {
     match task {

@@ -8,7 +8,7 @@ use native.Mathlib.Numerals.{add-one}
 use borrow.Author.Fill.{fill-none, fill-more}
 use lib.ListN.{length, take, drop, getD, set, replicate, length-set, length-replicate, length-reverse, length-map, List·getD-append}
 use lib.Seq.{set-append-left, slice, slice-cons, slice-empty, take-suc, length-take-le}
-use Rattle.bits.specs.Bits.{after, withDigit, withBit, withField, bytesTo}
+use Rattle.bits.specs.Bits.{cursorAt, after, withDigit, withBit, withField, bytesTo}
 use Rattle.bits.proofs.Laws.{length-bit, length-field}
 use Rattle.fields.specs.declared.Scan.{Scan}
 use Rattle.fields.specs.declared.Got.{Got}
@@ -17,13 +17,15 @@ use Rattle.fields.specs.Promises.{Reads}
 use Rattle.fields.proofs.Lists.{take-sets}
 use Rattle.fields.proofs.Laws.{value-at, scan-at, length-times}
 use Rattle.sheets.specs.Layout.{padded}
-use Rattle.covers.specs.Cover.{Point, Placed}
+use Rattle.fields.specs.declared.Scan.the-variants.{At}
+use Rattle.covers.specs.Cover.{Point, Placed, Cover}
 use Rattle.fields.specs.Written.{Field, widths, written, packed}
 use Rattle.fields.proofs.Written.{length-packed}
-use Rattle.covers.specs.CoverSheet.{areaWidth, arrivalWidth, matchCountWidth, placedFields, coverFields, pointFields, listFields, coverSheet, listSheet, placedRead, coverRead}
+use Rattle.covers.specs.CoverSheet.{areaWidth, arrivalWidth, matchCountWidth, placedFields, coverFields, pointFields, listFields, coverSheet, listSheet, placedRead, coverRead, CoverReads}
 use Rattle.covers.proofs.SheetLengths.{cover-sheet-length, list-sheet-length}
 use Rattle.covers.specs.Curve.{base, pointOf}
 use Rattle.results.specs.declared.CoverRecord.{CoverRecord}
+use Rattle.results.specs.declared.CoverRead.{CoverRead}
 use Rattle.results.specs.declared.MatchesRead.{MatchesRead}
 use Rattle.results.specs.Public.{placedOf, coverOf, pointsOf, Written, CoverIs}
 use Rattle.results.specs.Inside.{MatchesAre}
@@ -205,7 +207,7 @@ take-padded : (l : List ℕ) (n m : ℕ) → length l ≡ n → n ≤ m → take
 take-padded l n m e h =
     ap (λ (k : ℕ). take k (padded m 0 l)) (sym e ∙ sym (zero-add (length l))) ∙ take-sets (replicate m 0) 0 l (omega (arith, length-replicate {A = ℕ} m 0))
 
-placed-parts : (xs : List Placed) → placedOf (map (λ (x : Placed). x .node) xs) (map (λ (x : Placed). x .pattern) xs) ≡ xs
+pub placed-parts : (xs : List Placed) → placedOf (map (λ (x : Placed). x .node) xs) (map (λ (x : Placed). x .pattern) xs) ≡ xs
 unfolding placedOf zipWith
 placed-parts [] = refl
 placed-parts (x ∷ xs) = ap (λ (l : List Placed). x ∷ l) (placed-parts xs)
@@ -236,5 +238,9 @@ cover-read s area arrival count ms c end e ha ht hn few hm he =
         point = record { area = value-at s areaWidth free c ha e d; arrival = value-at s arrivalWidth free (area .scan) ht ea d };
         placed = (placed ∙ ap (λ (y : List Placed × Scan). y .0) same) d;
       };
-      few = small;
+      few = omega arith;
     }
+
+-- Bytes that say a cover are read as that cover, and not refused.
+pub cover-back : {c : Cover} {s : List ℕ} {r : CoverRead} → CoverReads c s → CoverIs s r → (coverOf (r .cover) ≡ c) × (r .scan ≡ At (cursorAt (widths (coverFields c))))
+cover-back h g = (g .cover-is ∙ ap (λ (x : Cover × Scan). x .0) (h .reads), g .scan-is ∙ ap (λ (x : Cover × Scan). x .1) (h .reads))

@@ -1,5 +1,5 @@
 -- What is written and read: covers and points as the code keeps them, and a sheet at the front of an output.
-use Prim.Native.Nat.{ℕ, _+_, _*_, _≤_}
+use Prim.Native.Nat.{ℕ, _+_, _*_, _^_, _<_}
 use mathlib.Core.Path.{_≡_}
 use mathlib.Core.List.{List, _++_, map, reverse, zipWith}
 use lib.ListN.{length, take, drop}
@@ -40,4 +40,4 @@ pub record Written (sheet entry exit : List ℕ) (r : ℕ) : Type 0 where
 pub record CoverIs (s : List ℕ) (r : CoverRead) : Type 0 where
   pub scan-is : r .scan ≡ coverRead s start .1
   pub cover-is : coverOf (r .cover) ≡ coverRead s start .0
-  pub few : r .cover .count ≤ 63
+  pub few : r .cover .count < 2 ^ matchCountWidth

@@ -204,9 +204,9 @@ pub fn read_cover(s: &[u8]) -> CoverRead
     let at = matches.scan;
     let nodes = matches.nodes;
     let patterns = matches.patterns;
-    let scan = fields::end(at, s);
+    let end = fields::end(at, s);
     CoverRead {
-        scan,
+        scan: end,
         cover: CoverRecord {
             area: area.value,
             arrival: arrival.value,

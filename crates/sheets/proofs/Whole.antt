@@ -10,7 +10,8 @@ use Rattle.bits.specs.Bits.{placeOf, endsAt}
 use Rattle.bits.specs.declared.Cursor.{Cursor}
 use Rattle.shapes.specs.declared.Branch.{Branch}
 use Rattle.fields.specs.declared.Fault.{Fault}
-use Rattle.fields.specs.declared.Fault.the-variants.{Tail}
+use Rattle.fields.specs.declared.Fault.the-variants.{Truncated, Tail, Range, Drawing, Size}
+use Rattle.fields.specs.Answer.{refused, success, Bounded}
 use Rattle.fields.specs.declared.Got.{Got}
 use Rattle.fields.specs.declared.Scan.{Scan}
 use Rattle.fields.specs.declared.Scan.the-variants.{At, Refused}
@@ -27,7 +28,7 @@ use Rattle.sheets.specs.declared.CellsRead.{CellsRead}
 use Rattle.sheets.specs.Model.{Pin, binLoadOf, Cell, Pattern, patterns, patternsFrom}
 use Rattle.sheets.specs.LibrarySheet.{binLoad, bins, cells, library}
 use Rattle.sheets.specs.TreeSheet.{tree, treeRules}
-use Rattle.sheets.specs.Report.{Limited, refused, soundLibrary, soundTree, libraryNumber, treeNumber, libraryRead, treeRead, libraryReport, treeReport}
+use Rattle.sheets.specs.Report.{libraryNumber, treeNumber, LibraryCounts, libraryWord, libraryRead, treeRead, libraryReport, treeReport}
 use Rattle.sheets.specs.declared.LibraryRead.{LibraryRead}
 use Rattle.sheets.specs.declared.LibraryRecord.{LibraryRecord}
 use Rattle.sheets.specs.declared.TreeRead.{TreeRead}
@@ -136,32 +137,43 @@ library-is s c nb lb nc rc l′ res ec hnb hlb hnc hrc er =
 
 -- ---- what the judges say
 
+pub number-bounds : (f : Fault) → (1 ≤ libraryNumber f) × (libraryNumber f ≤ 6)
+unfolding libraryNumber
+number-bounds Truncated = omega arith
+number-bounds Tail = omega arith
+number-bounds Range = omega arith
+number-bounds Drawing = omega arith
+number-bounds Size = omega arith
+
 module _ (s : List ℕ) (r : LibraryRead) (h : LibraryIs s r) where
-  pub library-sound : (c : Cursor) → r .scan ≡ At c → soundLibrary (r .library .count) (r .library .total) ≡ libraryReport s
-  unfolding libraryReport libraryRead libraryLaid
+  pub library-sound : (c : Cursor) → r .scan ≡ At c →
+      let n : LibraryCounts = record { cells = r .library .count; patterns = r .library .total } in
+      (success n ≡ libraryReport s) × Bounded (success (libraryWord n))
+  unfolding libraryReport libraryRead libraryLaid libraryWord Bounded
   library-sound c e =
-      let same = h .laid (subst Live (sym e) tt) in
-      ap (λ (k : LibraryRecord). soundLibrary (k .count) (k .total)) same ∙ ap (λ (q : Scan). libraryRead (library s start .0, q)) (sym e ∙ h .scan-is)
+      let same = h .laid (subst Live (sym e) tt) in (
+        ap (λ (k : LibraryRecord). success (record { cells = k .count; patterns = k .total })) same
+        ∙ ap (λ (q : Scan). libraryRead (library s start .0, q)) (sym e ∙ h .scan-is),
+        omega (arith, h .cells-few, h .patterns-few),
+      )
 
-  pub library-refused : (f : Fault) (p : ℕ) → r .scan ≡ Refused f p → refused (libraryNumber f) p ≡ libraryReport s
-  unfolding libraryReport libraryRead
-  library-refused f p e = ap (λ (q : Scan). libraryRead (library s start .0, q)) (sym e ∙ h .scan-is)
-
-  pub library-refused-limited : (f : Fault) (p : ℕ) → r .scan ≡ Refused f p → Limited (refused (libraryNumber f) p)
-  unfolding Limited
-  library-refused-limited f p e = omega (arith, h .near, ap place e)
+  pub library-refused : (f : Fault) (n p : ℕ) → r .scan ≡ Refused f p → n ≡ libraryNumber f → (refused n p ≡ libraryReport s) × Bounded (refused n p)
+  unfolding libraryReport libraryRead Bounded
+  library-refused f n p e en = (
+    ap (λ (k : ℕ). refused k p) en ∙ ap (λ (q : Scan). libraryRead (library s start .0, q)) (sym e ∙ h .scan-is),
+    omega (arith, h .near, ap place e, number-bounds f),
+  )
 
 module _ (s : List ℕ) (r : TreeRead) (h : TreeIs s r) where
-  pub tree-sound : (c : Cursor) → r .scan ≡ At c → soundTree (r .tree .count) ≡ treeReport s
-  unfolding treeReport treeRead treeLaid
+  pub tree-sound : (c : Cursor) → r .scan ≡ At c → (success (r .tree .count) ≡ treeReport s) × Bounded (success (r .tree .count))
+  unfolding treeReport treeRead treeLaid Bounded
   tree-sound c e =
       let same = h .laid (subst Live (sym e) tt) in
-      ap (λ (k : TreeRecord). soundTree (k .count)) same ∙ ap (λ (q : Scan). treeRead (tree s start .0, q)) (sym e ∙ h .scan-is)
+      (ap (λ (k : TreeRecord). success (k .count)) same ∙ ap (λ (q : Scan). treeRead (tree s start .0, q)) (sym e ∙ h .scan-is), omega (arith, h .nodes-few))
 
-  pub tree-refused : (f : Fault) (p : ℕ) → r .scan ≡ Refused f p → refused (treeNumber f) p ≡ treeReport s
-  unfolding treeReport treeRead
-  tree-refused f p e = ap (λ (q : Scan). treeRead (tree s start .0, q)) (sym e ∙ h .scan-is)
-
-  pub tree-refused-limited : (f : Fault) (p : ℕ) → r .scan ≡ Refused f p → Limited (refused (treeNumber f) p)
-  unfolding Limited
-  tree-refused-limited f p e = omega (arith, h .near, ap place e)
+  pub tree-refused : (f : Fault) (n p : ℕ) → r .scan ≡ Refused f p → n ≡ treeNumber f → (refused n p ≡ treeReport s) × Bounded (refused n p)
+  unfolding treeReport treeRead treeNumber Bounded
+  tree-refused f n p e en = (
+    ap (λ (k : ℕ). refused k p) en ∙ ap (λ (q : Scan). treeRead (tree s start .0, q)) (sym e ∙ h .scan-is),
+    omega (arith, h .near, ap place e, number-bounds f),
+  )

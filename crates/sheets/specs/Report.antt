@@ -1,7 +1,8 @@
 -- What the two judges answer: document 01's number and place of a refusal, or the counts.
-use Prim.Native.Nat.{ℕ, _+_, _*_, _^_, _≤_, _<_}
+use Prim.Native.Nat.{ℕ, _+_, _*_}
 use mathlib.Core.List.{List}
 use lib.ListN.{length}
+use Rattle.fields.specs.Answer.{Answer, refused, success}
 use Rattle.fields.specs.Reading.{start}
 use Rattle.fields.specs.declared.Fault.{Fault}
 use Rattle.fields.specs.declared.Fault.the-variants.{Truncated, Tail, Range, Drawing, Size}
@@ -12,11 +13,6 @@ use Rattle.sheets.specs.declared.TreeJudged as TreeJudged
 use Rattle.sheets.specs.Model.{Library, Tree, patterns, size}
 use Rattle.sheets.specs.LibrarySheet.{library}
 use Rattle.sheets.specs.TreeSheet.{tree}
-
-pub data Report : Type 0 where
-  refused : (number place : ℕ) → Report
-  soundLibrary : (cells patterns : ℕ) → Report
-  soundTree : (nodes : ℕ) → Report
 
 -- Document 01's numbers: torn 2, loose tail 3, off the scale 4, misdrawn 5, overgrown 6; in a tree 12, 13, 14 and 16.
 unfoldable pub libraryNumber : Fault → ℕ
@@ -29,38 +25,34 @@ libraryNumber Size = 6
 unfoldable pub treeNumber : Fault → ℕ
 treeNumber f = libraryNumber f + 10
 
-unfoldable pub libraryRead : Library × Scan → Report
-libraryRead (l, At c) = soundLibrary (length (l .cells)) (length (patterns l))
+-- How many cells and patterns a library has, and the two in one word.
+pub record LibraryCounts : Type 0 where
+  pub cells : ℕ
+  pub patterns : ℕ
+
+unfoldable pub libraryWord : LibraryCounts → ℕ
+libraryWord n = n .cells * 256 + n .patterns
+
+unfoldable pub libraryRead : Library × Scan → Answer LibraryCounts
+libraryRead (l, At c) = success (record { cells = length (l .cells); patterns = length (patterns l) })
 libraryRead (l, Refused f p) = refused (libraryNumber f) p
 
-unfoldable pub treeRead : Tree × Scan → Report
-treeRead (t, At c) = soundTree (size (t .shape))
+unfoldable pub treeRead : Tree × Scan → Answer ℕ
+treeRead (t, At c) = success (size (t .shape))
 treeRead (t, Refused f p) = refused (treeNumber f) p
 
 -- The judges' answers, from the bytes alone.
-unfoldable pub libraryReport : List ℕ → Report
+unfoldable pub libraryReport : List ℕ → Answer LibraryCounts
 libraryReport s = libraryRead (library s start)
 
-unfoldable pub treeReport : List ℕ → Report
+unfoldable pub treeReport : List ℕ → Answer ℕ
 treeReport s = treeRead (tree s start)
 
 -- What each case of the judges' enums says.
-unfoldable pub ofLibraryJudged : LibraryJudged.LibraryJudged → Report
-ofLibraryJudged (LibraryJudged.the-variants.Sound cells patterns) = soundLibrary cells patterns
-ofLibraryJudged (LibraryJudged.the-variants.Refused f p) = refused (libraryNumber f) p
+unfoldable pub ofLibraryJudged : LibraryJudged.LibraryJudged → Answer LibraryCounts
+ofLibraryJudged (LibraryJudged.the-variants.Sound cells patterns) = success (record { cells = cells; patterns = patterns })
+ofLibraryJudged (LibraryJudged.the-variants.Refused number place) = refused number place
 
-unfoldable pub ofTreeJudged : TreeJudged.TreeJudged → Report
-ofTreeJudged (TreeJudged.the-variants.Sound nodes) = soundTree nodes
-ofTreeJudged (TreeJudged.the-variants.Refused f p) = refused (treeNumber f) p
-
--- A report in one word: a refusal is number × 2^32 + place, and a success has 0 above bit 31.
-unfoldable pub word : Report → ℕ
-word (refused number place) = number * 2 ^ 32 + place
-word (soundLibrary cells patterns) = cells * 256 + patterns
-word (soundTree nodes) = nodes
-
--- The limits that a report keeps: no place is at 2 ^ 20 or beyond, and the counts are those of document 01.
-unfoldable pub Limited : Report → Type 0
-Limited (refused number place) = place < 2 ^ 20
-Limited (soundLibrary cells patterns) = (cells ≤ 64) × (patterns ≤ 128)
-Limited (soundTree nodes) = nodes ≤ 64
+unfoldable pub ofTreeJudged : TreeJudged.TreeJudged → Answer ℕ
+ofTreeJudged (TreeJudged.the-variants.Sound nodes) = success nodes
+ofTreeJudged (TreeJudged.the-variants.Refused number place) = refused number place

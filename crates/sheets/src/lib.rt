@@ -10,10 +10,11 @@ ghost use Prim.Native.Nat.{_+_, _-_, _<_, _≤_, _^_};
 ghost use lib.ListN.{length, take};
 ghost use lib.Seq.{sets};
 ghost use Rattle.fields.specs.Reading.{place};
+ghost use Rattle.fields.specs.Answer.{onSuccess, Bounded};
 ghost use Rattle.sheets.specs.LibrarySheet.{hasAll, complete, countVerdict};
 ghost use Rattle.sheets.specs.Layout.{rowWords, tableWords, figuresAt, pinsMost, figures, cellWords};
 ghost use Rattle.sheets.specs.Promises.{BinsAre, HeadIs, PinIs, PinsAre, PatternIs, RowIs, RowsAre, DrawingsAre, CountIs, CellIs, CellsAre, LibraryIs, TreeIs};
-ghost use Rattle.sheets.specs.Report.{ofLibraryJudged, libraryReport, libraryNumber, ofTreeJudged, treeReport, treeNumber, Limited};
+ghost use Rattle.sheets.specs.Report.{ofLibraryJudged, libraryWord, libraryReport, libraryNumber, ofTreeJudged, treeReport, treeNumber};
 
 // Document 01's limits: of the sheets, of what map and list are lent, and of the program's input; and the base of a point's word, which they fix.
 pub struct Limits {}
@@ -138,16 +139,16 @@ pub struct TreeRecord {
     pub sizes: [u8; Limits::TREE_NODES],
 }
 
-// What a judge of libraries answers.
+// What a judge of libraries answers: the cell count and the pattern count, or document 01's number and the place.
 pub enum LibraryJudged {
     Sound(usize, usize),
-    Refused(fields::Fault, usize),
+    Refused(u32, usize),
 }
 
-// What a judge of trees answers.
+// What a judge of trees answers: the node count, or document 01's number and the place.
 pub enum TreeJudged {
     Sound(usize),
-    Refused(fields::Fault, usize),
+    Refused(u32, usize),
 }
 
 // The bin loads, and the scan after them.
@@ -610,26 +611,26 @@ pub fn read_tree(s: &[u8]) -> TreeRead
 // Judges a library: its cell count and its pattern count, or what is wrong with it and where.
 pub fn judge_library(s: &[u8]) -> LibraryJudged
     ensures { λ r. ⌜ ofLibraryJudged r ≡ libraryReport (now (s .entry)) ⌝ }
-    ensures { λ r. ⌜ Limited (ofLibraryJudged r) ⌝ }
+    ensures { λ r. ⌜ Bounded (onSuccess libraryWord (ofLibraryJudged r)) ⌝ }
 {
     let read = read_library(s);
     let scan = read.scan;
     match scan {
         Scan::At(_) => LibraryJudged::Sound(read.library.count, read.library.total),
-        Scan::Refused(fault, place) => LibraryJudged::Refused(fault, place),
+        Scan::Refused(fault, place) => LibraryJudged::Refused(library_number(fault), place),
     }
 }
 
 // Judges a tree: its node count, or what is wrong with it and where.
 pub fn judge_tree(s: &[u8]) -> TreeJudged
     ensures { λ r. ⌜ ofTreeJudged r ≡ treeReport (now (s .entry)) ⌝ }
-    ensures { λ r. ⌜ Limited (ofTreeJudged r) ⌝ }
+    ensures { λ r. ⌜ Bounded (ofTreeJudged r) ⌝ }
 {
     let read = read_tree(s);
     let scan = read.scan;
     match scan {
         Scan::At(_) => TreeJudged::Sound(read.tree.count),
-        Scan::Refused(fault, place) => TreeJudged::Refused(fault, place),
+        Scan::Refused(fault, place) => TreeJudged::Refused(tree_number(fault), place),
     }
 }
 

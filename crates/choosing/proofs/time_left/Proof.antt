@@ -1,15 +1,15 @@
 -- The delay of a pin fits.
 use borrow.Author.Needs.{needs}
 use native.Mathlib.Omega.{arith}
-use Rattle.choosing.proofs.Reading.{delay-fits}
+use Rattle.curves.proofs.Laws.{drive-bound}
 use Rattle.choosing.proofs.time_left.Statement.{statement}
 use Rattle.choosing.proofs.time_left.Tie as tie
 
 mul-delay : tie.Need-mul-delay
-mul-delay c = omega (arith, delay-fits (c .args .drive) (c .args .load) (omega arith) (omega arith))
+mul-delay c = omega (arith, drive-bound (c .args .drive) (c .args .load) (omega arith) (omega arith))
 
 add-delay : tie.Need-add-delay
-add-delay c = omega (arith, delay-fits (c .args .drive) (c .args .load) (omega arith) (omega arith))
+add-delay c = omega (arith, drive-bound (c .args .drive) (c .args .load) (omega arith) (omega arith))
 
 returns : tie.Need-returns
 returns c = search needs

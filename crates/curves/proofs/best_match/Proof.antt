@@ -7,7 +7,8 @@ use Rattle.covers.specs.Curve.{base, both}
 use Rattle.covers.proofs.Points.{both-nothing}
 use Rattle.covers.specs.Cover.{Point}
 use Rattle.curves.specs.Words.{areaLimit, matchLimit}
-use Rattle.curves.specs.Best.{rowCount, inputSize, inputPlace, inputsBest, rowBest}
+use Rattle.matching.specs.Found.{inputSize, inputPlace}
+use Rattle.curves.specs.Best.{rowCount, inputsBest, rowBest}
 use Rattle.curves.specs.Promises.{Worth}
 use Rattle.curves.proofs.Laws.{worth-none, row-none, match-nothing, match-stops, match-turn, match-whole, row-worth, one-less}
 use Rattle.curves.proofs.best_match.Statement.{statement}

@@ -3,43 +3,67 @@ use native.Mathlib.Nat.{le-refl}
 use native.Mathlib.Omega.{arith}
 use Prim.Native.Nat.{ℕ, _+_, _-_, _≤_, _<_}
 use mathlib.Core.Path.{_≡_, refl, subst, _∙_}
+use mathlib.Core.Bool.{Bool}
 use lib.ListN.{length}
 use Rattle.sheets.specs.Model.{Library, Tree}
 use Rattle.filling.specs.Promises.{Exceeds, FillStart}
-use Rattle.filling.proofs.Progress.{Progress, begun, light, light-root, ready, turn, root-turn, bins-few, some-node}
+use Rattle.filling.proofs.Progress.{Progress, below, atRoot, begun, some-node, few-bins, ready-below, ready-root, turn-below, turn-root}
 use Rattle.filling.proofs.fill.Statement.{statement}
 use Rattle.filling.proofs.fill.Tie as tie
-use Rattle.filling.proofs.fill.Reads as reads
-use Rattle.filling.proofs.fill.Lts as lts
-use Rattle.filling.proofs.fill_at.Reads as fill-at-reads
-use Rattle.filling.proofs.too_many.Reads as too-many-reads
 
 abbrev Inv-loop : tie.InvT-loop
-Inv-loop rows total cells loads bins symbols sizes count load found₀ work₀ node₀ found work node =
-    ((0 < node) × (node ≤ count)) × (length found ≡ length found₀) × (length work ≡ length work₀) × ((l : Library) (t : Tree) → FillStart rows total cells loads bins symbols sizes count load found₀ work₀ l t → Progress l t node work)
+Inv-loop rows bins most found₀ work₀ tree node₀ found work node =
+    ((0 < node) × (node ≤ tree .count)) × (length found ≡ length found₀) × (length work ≡ length work₀) × ((l : Library) (t : Tree) → FillStart l t rows bins tree most found₀ work₀ → Progress most l t node work)
 
 abbrev μ-loop : tie.MeasureT-loop
-μ-loop rows total cells loads bins symbols sizes count load found₀ work₀ node₀ found work node = node
+μ-loop rows bins most found₀ work₀ tree node₀ found work node = node
+
+-- a node's call in the loop, and the root's after it
+abbrev Call : Type 0
+Call = tie.After-fill-at-arg6 Inv-loop μ-loop
+
+abbrev RootCall : Type 0
+RootCall = tie.After-fill-at-arg12 Inv-loop μ-loop
+
+abbrev loop-of : Call → tie.At-loop Inv-loop μ-loop
+loop-of c = c .before .before .before .before .before .before .before .before
+
+abbrev loop-before : RootCall → tie.At-loop Inv-loop μ-loop
+loop-before c = c .before .before .before .before .before .before .before .before
+
+abbrev start-of : tie.At-loop Inv-loop μ-loop → tie.Start Inv-loop μ-loop
+start-of i = i .before .before .before .before
+
+abbrev Started : tie.At-loop Inv-loop μ-loop → Library → Tree → Type 0
+Started i l t = let a = start-of i .args in FillStart l t (a .rows .now) (a .bins) (a .t3) (a .most) (a .found .now) (a .work .now)
+
+so-far : (c : Call) (l : Library) (t : Tree) → let i = loop-of c in Started i l t → Progress (start-of i .args .most) l t (i .loop .node - 1 + 1) (i .loop .work)
+so-far c l t g =
+    let i = loop-of c in
+    let e : i .loop .node ≡ i .loop .node - 1 + 1 = omega arith in
+    subst (λ (k : ℕ). Progress (start-of i .args .most) l t k (i .loop .work)) e (i .loop .inv .3 l t g)
+
+to-root : (c : RootCall) (l : Library) (t : Tree) → let i = loop-before c in Started i l t → Progress (start-of i .args .most) l t 1 (i .loop .work)
+to-root c l t g =
+    let i = loop-before c in
+    let e : i .loop .node ≡ 1 = omega (arith, i .loop .inv .0 .0) in
+    subst (λ (k : ℕ). Progress (start-of i .args .most) l t k (i .loop .work)) e (i .loop .inv .3 l t g)
 
 loop-holds : tie.Need-loop-holds Inv-loop μ-loop
-loop-holds c = ((some-node (c .before .before .before .before .before .pre .1 .1), le-refl _), refl, refl, λ l t g. begun g)
+loop-holds c = ((some-node (c .before .before .before .pre .1 .1), le-refl _), refl, refl, λ l t g. begun g)
 
 sub-node : tie.Need-sub-node Inv-loop μ-loop
 sub-node c = omega arith
 
 fill-at-requires : tie.Need-fill-at-requires Inv-loop μ-loop
 fill-at-requires c κs =
-    let p = c .before .before .before .before .before .before .before .before .before .pre in
-    let a = c .before .before .before .before .before .before .before .before .before .args in
-    let i = c .before .before .before .loop in
-    let g = p .1 .1 in
-    let n = i .node - 1 in
-    let e : i .node ≡ n + 1 = omega arith in
-    let x = ready g (i .found) (i .work) n (a .bins) (i .inv .1 ∙ g .room) (i .inv .2 ∙ g .work-length) (omega arith) (bins-few g) (subst (λ (k : ℕ). Progress (p .0) (p .1 .0) k (i .work)) e (i .inv .3 (p .0) (p .1 .0) g)) in
-    ((p .0, (p .1 .0, (x .0, x .1))), light g)
+    let i = loop-of c in
+    let p = start-of i .pre in
+    let x = ready-below (p .1 .1) (i .loop .inv .1) (i .loop .inv .2) (i .loop .node - 1) (omega (arith, i .loop .inv .0 .0, i .loop .inv .0 .1)) (so-far c (p .0) (p .1 .0) (p .1 .1)) in
+    (p .0, (p .1 .0, x))
 
 too-many-requires : tie.Need-too-many-requires Inv-loop μ-loop
-too-many-requires c κs = bins-few (c .before .before .before .before .before .before .before .before .before .before .before .before .before .before .pre .1 .1)
+too-many-requires c κs = few-bins (start-of (loop-of (c .before .before .before .before .before)) .pre .1 .1)
 
 same-length : tie.Need-same-length Inv-loop μ-loop
 same-length c = search needs
@@ -49,35 +73,33 @@ same-length-2 c = search needs
 
 returns : tie.Need-returns Inv-loop μ-loop
 returns c = λ l t g.
-    let i = c .before .before .before .before .before .before .before .before .before .before .loop in
+    let d = c .before .before .before .before .before .before .before in
+    let i = loop-of d .loop in
     let call = c .before .before .before .before .before .before .fill-at in
-    let e : i .node ≡ (i .node - 1) + 1 = omega arith in
-    turn g (i .found) (i .work) (call .last .1 .1 .1 .1 .1 .1 .1 .0) (call .result) (i .inv .1) (i .inv .2) (i .node - 1) (omega arith) (omega arith) (subst (λ (k : ℕ). Progress l t k (i .work)) e (i .inv .3 l t g)) (call .ensures l t) .0
-    (subst (λ q. Exceeds q (c .before .before .before .before .before .before .before .before .before .before .before .before .before .before .before .before .args .bins) (call .result)) (c .if1 .taken) (c .before .too-many .ensures))
+    turn-below g (i .inv .1) (i .inv .2) (i .node - 1) (omega arith) (omega (arith, i .inv .0 .1)) (so-far d l t g) (call .ensures l t) .0
+    (subst (λ (q : Bool). Exceeds (below (start-of (loop-of d) .args .bins) (start-of (loop-of d) .args .most) (i .node - 1)) q (call .result)) (c .if1 .taken) (c .before .too-many .ensures))
 
 loop-less : tie.Need-loop-less Inv-loop μ-loop
 loop-less c = omega arith
 
 loop-again : tie.Need-loop-again Inv-loop μ-loop
 loop-again c =
-    let i = c .before .before .before .before .before .before .before .before .before .before .loop in
-    let call = c .before .before .before .before .before .before .fill-at in
-    let e : i .node ≡ (i .node - 1) + 1 = omega arith in (
-      (omega arith, omega arith),
-      call .kept .1 .1 .1 .1 .1 .1 .0 ∙ i .inv .1,
-      call .kept .1 .1 .1 .1 .1 .1 .1 .0 ∙ i .inv .2,
+    let d = c .before .before .before .before .before .before .before in
+    let i = loop-of d .loop in
+    let call = c .before .before .before .before .before .before .fill-at in (
+      (omega arith, omega (arith, i .inv .0 .1)),
+      call .kept .1 .1 .1 .1 .0 ∙ i .inv .1,
+      call .kept .1 .1 .1 .1 .1 .0 ∙ i .inv .2,
       λ l t g.
-          turn g (i .found) (i .work) (call .last .1 .1 .1 .1 .1 .1 .1 .0) (call .result) (i .inv .1) (i .inv .2) (i .node - 1) (omega arith) (omega arith) (subst (λ (k : ℕ). Progress l t k (i .work)) e (i .inv .3 l t g)) (call .ensures l t) .1
-          (subst (λ q. Exceeds q (c .before .before .before .before .before .before .before .before .before .before .before .before .before .before .before .before .args .bins) (call .result)) (c .if1 .left) (c .before .too-many .ensures)),
+          turn-below g (i .inv .1) (i .inv .2) (i .node - 1) (omega arith) (omega (arith, i .inv .0 .1)) (so-far d l t g) (call .ensures l t) .1
+          (subst (λ (q : Bool). Exceeds (below (start-of (loop-of d) .args .bins) (start-of (loop-of d) .args .most) (i .node - 1)) q (call .result)) (c .if1 .left) (c .before .too-many .ensures)),
     )
 
 fill-at-requires-2 : tie.Need-fill-at-requires-2 Inv-loop μ-loop
 fill-at-requires-2 c κs =
-    let p = c .before .before .before .before .before .before .before .before .before .pre in
-    let i = c .before .before .before .loop in
-    let g = p .1 .1 in
-    let x = ready g (i .found) (i .work) 0 1 (i .inv .1 ∙ g .room) (i .inv .2 ∙ g .work-length) (some-node g) (omega arith) (let e : i .node ≡ 1 = omega arith in subst (λ (k : ℕ). Progress (p .0) (p .1 .0) k (i .work)) e (i .inv .3 (p .0) (p .1 .0) g)) in
-    ((p .0, (p .1 .0, (x .0, x .1))), light-root g)
+    let i = loop-before c in
+    let p = start-of i .pre in
+    (p .0, (p .1 .0, ready-root (p .1 .1) (i .loop .inv .1) (i .loop .inv .2) (to-root c (p .0) (p .1 .0) (p .1 .1))))
 
 too-many-requires-2 : tie.Need-too-many-requires-2 Inv-loop μ-loop
 too-many-requires-2 c κs = omega arith
@@ -90,10 +112,11 @@ same-length-4 c = search needs
 
 returns-2 : tie.Need-returns-2 Inv-loop μ-loop
 returns-2 c = λ l t g.
-    let i = c .before .before .before .before .before .before .before .before .before .before .loop in
+    let d = c .before .before .before .before .before .before .before in
+    let i = loop-before d .loop in
+    let a = start-of (loop-before d) .args in
     let call = c .before .before .before .before .before .before .fill-at2 in
-    root-turn g (i .found) (i .work) (call .last .1 .1 .1 .1 .1 .1 .1 .0) (call .result) (i .inv .1) (i .inv .2) (let e : i .node ≡ 1 = omega arith in subst (λ (k : ℕ). Progress l t k (i .work)) e (i .inv .3 l t g)) (call .ensures l t) .0
-    (subst (λ q. Exceeds q 1 (call .result)) (c .if2 .taken) (c .before .too-many2 .ensures))
+    turn-root g (i .inv .1) (i .inv .2) (to-root d l t g) (call .ensures l t) .0 (subst (λ (q : Bool). Exceeds (atRoot (a .t3) (a .most)) q (call .result)) (c .if2 .taken) (c .before .too-many2 .ensures))
 
 same-length-5 : tie.Need-same-length-5 Inv-loop μ-loop
 same-length-5 c = search needs
@@ -103,10 +126,11 @@ same-length-6 c = search needs
 
 returns-3 : tie.Need-returns-3 Inv-loop μ-loop
 returns-3 c = λ l t g.
-    let i = c .before .before .before .before .before .before .before .before .before .before .loop in
+    let d = c .before .before .before .before .before .before .before in
+    let i = loop-before d .loop in
+    let a = start-of (loop-before d) .args in
     let call = c .before .before .before .before .before .before .fill-at2 in
-    root-turn g (i .found) (i .work) (call .last .1 .1 .1 .1 .1 .1 .1 .0) (call .result) (i .inv .1) (i .inv .2) (let e : i .node ≡ 1 = omega arith in subst (λ (k : ℕ). Progress l t k (i .work)) e (i .inv .3 l t g)) (call .ensures l t) .1
-    (subst (λ q. Exceeds q 1 (call .result)) (c .if2 .left) (c .before .too-many2 .ensures))
+    turn-root g (i .inv .1) (i .inv .2) (to-root d l t g) (call .ensures l t) .1 (subst (λ (q : Bool). Exceeds (atRoot (a .t3) (a .most)) q (call .result)) (c .if2 .left) (c .before .too-many2 .ensures))
 
 pub fill-spec : {M : Type 1} → statement M
 fill-spec =

@@ -7,14 +7,12 @@ use lib.ListN.{getD}
 use Rattle.covers.proofs.Basics.{lt-or-le}
 use Rattle.filling.proofs.too_many.Statement.{statement}
 use Rattle.filling.proofs.too_many.Tie as tie
-use Rattle.filling.proofs.too_many.Reads as reads
-use Rattle.filling.proofs.too_many.Lts as lts
 
 abbrev Inv-loop : tie.InvT-loop
-Inv-loop bins points b₀ b = (b ≤ bins) × ((k : ℕ) → k < b → getD points k 0 ≤ 31)
+Inv-loop points count most b₀ b = (b ≤ count) × ((k : ℕ) → k < b → getD points k 0 ≤ most)
 
 abbrev μ-loop : tie.MeasureT-loop
-μ-loop bins points b₀ b = bins - b
+μ-loop points count most b₀ b = count - b
 
 loop-holds : tie.Need-loop-holds Inv-loop μ-loop
 loop-holds c = (omega arith, λ k l. absurd (omega arith))
@@ -37,8 +35,8 @@ loop-less c = omega arith
 loop-again : tie.Need-loop-again Inv-loop μ-loop
 loop-again c =
     let i = c .before .before .loop in
-    let points = c .before .before .before .before .args .counts .points in
-    (omega arith, λ k l. ⊎-elim (i .inv .1 k) (λ m. let e : k ≡ i .b = omega arith in subst (λ (j : ℕ). getD points j 0 ≤ 31) (sym e) (omega arith)) (lt-or-le k (i .b)))
+    let a = c .before .before .before .before .args in
+    (omega arith, λ k l. ⊎-elim (i .inv .1 k) (λ m. let e : k ≡ i .b = omega arith in subst (λ (j : ℕ). getD (a .counts .points) j 0 ≤ a .turn .most) (sym e) (omega arith)) (lt-or-le k (i .b)))
 
 returns-2 : tie.Need-returns-2 Inv-loop μ-loop
 returns-2 c = λ b l. c .before .loop .inv .1 b (omega arith)

@@ -25,10 +25,10 @@ inside c =
     within (p .1 .1) (c .before .loop .inv .1 (p .0) (p .1 .0) (p .1 .1)) (omega arith)
 
 shared-slice-read-size : tie.Need-shared-slice-read-size Inv-loop μ-loop
-shared-slice-read-size c = omega (arith, c .before .pre .1 .1 .row-long)
+shared-slice-read-size c = omega (arith, c .before .pre .1 .1 .drawing .long)
 
 cast-size : tie.Need-cast-size Inv-loop μ-loop
-cast-size c = omega (arith, c .before .pre .1 .1 .size-is, c .before .pre .1 .1 .small)
+cast-size c = omega (arith, c .before .pre .1 .1 .drawing .size-is, c .before .pre .1 .1 .small)
 
 loop-holds : tie.Need-loop-holds Inv-loop μ-loop
 loop-holds c = (omega arith, λ d s h. going-start (c .before .args .symbols .now) (c .before .args .sizes .now) d s (c .before .args .n) (h .subject .stands))
@@ -102,7 +102,7 @@ returns-2 : tie.Need-returns-2 Inv-loop μ-loop
 returns-2 c =
     let a = c .before .before .before .args in
     let i = c .before .loop in
-    λ d s h. going-end (a .symbols .now) (a .sizes .now) d s (a .n) (i .inv .1 d s h) (omega (arith, h .size-is))
+    λ d s h. going-end (a .symbols .now) (a .sizes .now) d s (a .n) (i .inv .1 d s h) (omega (arith, h .drawing .size-is))
 
 pub walk-spec : {M : Type 1} → statement M
 walk-spec =

@@ -50,7 +50,7 @@ slice-aggregate-put-matches-2 : tie.Need-slice-aggregate-put-matches-2
 slice-aggregate-put-matches-2 c = search needs
 
 put-matches-requires : tie.Need-put-matches-requires
-put-matches-requires c κs =  let all = room (c .before .before .before .before .before .before .before .before .before .before .before .before .before .before .before .before .before .before .before .before .before .before) in omega arith
+put-matches-requires c κs = let all = room (c .before .before .before .before .before .before .before .before .before .before .before .before .before .before .before .before .before .before .before .before .before .before) in omega arith
 
 same-length : tie.Need-same-length
 same-length c = search needs

@@ -1,6 +1,7 @@
 use borrow.Author.Needs.{needs}
-use Rattle.sheets.specs.Report.{ofLibraryJudged, Limited}
-use Rattle.sheets.proofs.Whole.{library-sound, library-refused, library-refused-limited}
+use Rattle.fields.specs.Answer.{onSuccess}
+use Rattle.sheets.specs.Report.{ofLibraryJudged}
+use Rattle.sheets.proofs.Whole.{library-sound, library-refused}
 use Rattle.sheets.proofs.judge_library.Statement.{statement}
 use Rattle.sheets.proofs.judge_library.Tie as tie
 
@@ -13,19 +14,21 @@ enum-told c = search needs
 enum-known-scan : tie.Need-enum-known-scan
 enum-known-scan c = search needs
 
+library-number-requires : tie.Need-library-number-requires
+library-number-requires c κs = search needs
+
 returns : tie.Need-returns
-unfolding ofLibraryJudged Limited
-returns c =
+unfolding ofLibraryJudged onSuccess
+returns c = 
     let r = c .before .before .read-library in
-    (library-sound (c .before .before .before .before .args .s .now) (r .result) (r .ensures) (c .enum-told .given .0 .0) (c .enum-told .given .1), (r .ensures .cells-few, r .ensures .patterns-few))
+    library-sound (c .before .before .before .before .args .s .now) (r .result) (r .ensures) (c .enum-told .given .0 .0) (c .enum-told .given .1)
 
 returns-2 : tie.Need-returns-2
-unfolding ofLibraryJudged
-returns-2 c =
-    let r = c .before .before .before .read-library in
-    let told = c .before .scan .given in
-    (library-refused (c .before .before .before .before .before .args .s .now) (r .result) (r .ensures) (told .0 .0) (told .0 .1 .0) (told .1), library-refused-limited (c .before .before .before .before .before .args .s .now) (r .result) (r .ensures) (told .0 .0) (told .0 .1 .0) (told .1))
+unfolding ofLibraryJudged onSuccess
+returns-2 c = 
+    let r = c .before .before .before .before .read-library in
+    let told = c .before .before .scan .given in
+    library-refused (c .before .before .before .before .before .before .args .s .now) (r .result) (r .ensures) (told .0 .0) (c .library-number .result) (told .0 .1 .0) (told .1) (c .library-number .ensures .0)
 
 pub judge-library-spec : {M : Type 1} → statement M
-judge-library-spec =
-    tie.close (tie.spec read-library-requires enum-told enum-known-scan returns returns-2)
+judge-library-spec = tie.close (tie.spec read-library-requires enum-told enum-known-scan library-number-requires returns returns-2)
