@@ -50,10 +50,11 @@ fn write_points(scan: Scan, sheet: &[u8], count: u32)
 // A list sheet: its count, and every trade-off.
 fn write_list(sheet: &[u8]) {
     let count = fields::raw(fields::begin(), sheet, Sheet::POINT_COUNT);
+    let at = count.scan;
     write_word(b"list ");
     write_number(count.value as u64);
     write_word(b"\n");
-    write_points(count.scan, sheet, count.value);
+    write_points(at, sheet, count.value);
 }
 
 // The reply, with the sheet that it points at.
