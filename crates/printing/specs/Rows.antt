@@ -35,6 +35,6 @@ module _ (rows : List ℕ) where
   abbrev pub HaveRows : List Placed → Type 0
   HaveRows xs = (x : Placed) → List·Memᴰ x xs → rowWords * x .pattern < length rows
 
-  -- So a text of that length can be put.
+  -- And the text has room.
   abbrev pub Printable : Cover → List ℕ → Type 0
   Printable c text = HaveRows (c .placed) × (length (rowText c) ≤ length text)
