@@ -20,7 +20,8 @@ use Rattle.mapper.specs.Promises.{Curved, Asked, MappedIs, ListedIs}
 module _ {l : Library} {t : Tree} {rows : List ℕ} {bins : Bins} {tree : TreeRecord} {most : ℕ} {found work : List ℕ} (s : FillStart l t rows bins tree most found work) (work′ : List ℕ) where
   pub core-curved : length work′ ≡ length work → FillingIs most l t work′ Whole → Curved most l t tree work′
   core-curved e w = record {
-    sound = s .decoded .tree;
+    rows = rows;
+    decoded = s .decoded;
     tree-is = s .tree-is;
     area = record { bounded = s .bounded; room = omega (arith, e, s .work-length); small = w .1 .small };
     curves = w .1;

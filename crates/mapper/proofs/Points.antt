@@ -7,6 +7,7 @@ use mathlib.Core.List.{List, [], _∷_, _++_, map, map-append, append-assoc, app
 use mathlib.Core.Option.{Option, none, some, Option·none-ne-some}
 use native.Mathlib.Numerals.{add-one}
 use native.Mathlib.Nat.{le-refl}
+use native.Mathlib.Nat.{mul-zero}
 use native.Mathlib.Omega.{arith}
 use borrow.Author.Tests.{eq-eqb, le-leb}
 use lib.ListN.{length, getD, take, drop, set, length-map, length-reverse}
@@ -122,7 +123,9 @@ module _ {most : ℕ} {l : Library} {t : Tree} {tree : TreeRecord} {work : List 
 
     words-are : map pointOf (take count work) ≡ reverse all
     unfolding curve tradeoffs
-    words-are = ap (map pointOf) (sym front) ∙ sym counted ∙ given .curves .root (gate-root given gate)
+    words-are =
+        ap (map pointOf) (sym front) ∙ sym counted ∙ ap (λ (i : ℕ). stored (take (most + 1) (drop i work))) (sym (mul-zero (most + 1)))
+        ∙ given .curves .root (gate-root given gate)
 
     many : count ≡ length all
     many = sym (length-take-le count work (omega (arith, within, room, given .area .room))) ∙ sym (length-map (take count work) pointOf) ∙ ap length words-are ∙ length-reverse all

@@ -27,13 +27,14 @@ use Rattle.covers.proofs.Matching.{gates-lt-size}
 use Rattle.covers.proofs.Nodes.{root-in}
 use Rattle.covers.proofs.Unroll.{choice-unroll}
 use Rattle.matching.specs.Standing.{Stands}
-use Rattle.matching.proofs.Standing.{stands-everywhere}
+use Rattle.matching.proofs.Standing.{stands-everywhere, subject-everywhere}
 use Rattle.curves.specs.Words.{absent, pointLimit, stored, curveAt}
 use Rattle.curves.specs.Best.{symbolLimit}
 use Rattle.curves.specs.Promises.{Worth}
 use Rattle.choosing.specs.declared.Goal.{Goal}
 use Rattle.choosing.specs.Promises.{at-root, Chooses, appended}
 use Rattle.choosing.proofs.Gate.{chosen-there}
+use Rattle.choosing.proofs.Below.{appended-cover}
 use Rattle.results.specs.declared.CoverRecord.{CoverRecord}
 use Rattle.results.specs.Public.{placedOf, coverOf}
 use Rattle.mapper.specs.declared.Finding.the-variants.{Found}
@@ -53,41 +54,16 @@ module _ (l : Library) (load x time : ℕ) where
   leaf-late h = sym (ap (answered none) (leaf-is ∙ ap (λ (b : Bool). cond b (some (leafCover x load)) none) (lt-leb _ _ h)))
 
   pub leaf-timely : (a : ℕ) → a ≡ leafArrival x load → a ≤ time → ofMapped (record { finding = Found; cover = bareCover 0 a }) ≡ answered none (choice l load 0 (leaf x) time)
-  unfolding ofMapped ofFinding bareCover coverOf placedOf answered choiceStep leafCover leafPoint
+  unfolding ofMapped ofFinding bareCover placedOf answered choiceStep leafCover leafPoint
   leaf-timely a e h =
       ap (λ (b : ℕ). success (record { point = record { area = 0; arrival = b }; placed = [] })) e
-      ∙ sym (ap (answered none) (leaf-is ∙ ap (λ (b : Bool). cond b (some (leafCover x load)) none) (le-leb _ _ (rw (← e) h))))
-
--- ---- a cover from its record
-
-placed-back : (xs : List Placed) → placedOf (map (λ (x : Placed). x .node) xs) (map (λ (x : Placed). x .pattern) xs) ≡ xs
-unfolding placedOf
-placed-back [] = refl
-placed-back (x ∷ xs) = ap (λ (ys : List Placed). x ∷ ys) (placed-back xs)
-
--- What is appended to a cover with no match is all that it lists.
-whole-cover : (area arrival : ℕ) (xs : List Placed) → length xs ≤ 64 → coverOf (appended (bareCover area arrival) xs) ≡ record { point = record { area = area; arrival = arrival }; placed = xs }
-unfolding coverOf appended bareCover
-whole-cover area arrival xs h =
-    ap (λ (ys : List Placed). record { point = record { area = area; arrival = arrival }; placed = ys })
-    (ap₂ placedOf (front (λ x. x .node)) (front (λ x. x .pattern)) ∙ placed-back xs)
-  where
-    front : (f : Placed → ℕ) → take (0 + length xs) (sets (replicate 64 0) 0 (map f xs)) ≡ map f xs
-    front f =
-        let many = length-map xs f in
-        ap (take (0 + length xs)) (sets-eq (map f xs) (replicate 64 0) 0 (omega (arith, many, length-replicate {A = ℕ} 64 0)))
-        ∙ ap (λ (k : ℕ). take k (map f xs ++ drop (0 + length (map f xs)) (replicate 64 0))) (zero-add (length xs) ∙ sym many)
-        ∙ take-append-seam (map f xs) (drop (0 + length (map f xs)) (replicate 64 0))
+      ∙ sym (ap (answered none) (leaf-is ∙ ap (λ (b : Bool). cond b (some (leafCover x load)) none) (le-leb (leafArrival x load) time (subst (λ (b : ℕ). b ≤ time) e h))))
 
 -- ---- the root
 
 module _ {most : ℕ} {l : Library} {t : Tree} {tree : TreeRecord} {work : List ℕ} (given : Curved most l t tree work) where
   abbrev first : ℕ
   first = getD (tree .symbols) 0 0
-
-  symbols-are : tree .symbols ≡ padded 64 0 (symbols (t .shape))
-  unfolding treeLaid
-  symbols-are = ap (λ (r : TreeRecord). r .symbols) (given .tree-is)
 
   pub load-is : tree .load ≡ t .load
   unfolding treeLaid
@@ -97,13 +73,19 @@ module _ {most : ℕ} {l : Library} {t : Tree} {tree : TreeRecord} {work : List 
   unfolding treeLaid
   time-is = ap (λ (r : TreeRecord). r .required) (given .tree-is)
 
-  root-stands : Stands (tree .symbols) (padded 64 0 (sizes (t .shape))) 0 (t .shape)
-  root-stands = stands-everywhere (tree .symbols) _ (t .shape) (given .sound .size) symbols-are refl (record { number = 0; shape = t .shape }) (root-in 0 (t .shape))
+  abbrev Root : Shape → Type 0
+  Root = Stands (tree .symbols) (tree .sizes) 0
+
+  root-stands : Root (t .shape)
+  root-stands = stands-everywhere (given .decoded) (record { number = 0; shape = t .shape }) (root-in 0 (t .shape))
+
+  pub sizes-long : length (tree .sizes) ≡ 64
+  sizes-long = subject-everywhere (given .decoded) (record { number = 0; shape = t .shape }) (root-in 0 (t .shape)) .sizes-long
 
   pub gate-root : first < 2 → 0 < gates (t .shape)
   gate-root = go (t .shape) root-stands
     where
-      go : (x : Shape) → Stands (tree .symbols) _ 0 x → first < 2 → 0 < gates x
+      go : (x : Shape) → Root x → first < 2 → 0 < gates x
       go (leaf y) h g = absurd (omega (arith, h .0))
       go (inv a) h g = unfold gates in omega arith
       go (nand a b) h g = unfold gates in omega arith
@@ -111,13 +93,13 @@ module _ {most : ℕ} {l : Library} {t : Tree} {tree : TreeRecord} {work : List 
   pub leaf-root : 2 ≤ first → t .shape ≡ leaf (first - 2)
   leaf-root = go (t .shape) root-stands
     where
-      go : (x : Shape) → Stands (tree .symbols) _ 0 x → 2 ≤ first → x ≡ leaf (first - 2)
+      go : (x : Shape) → Root x → 2 ≤ first → x ≡ leaf (first - 2)
       go (leaf y) h g = ap leaf (omega (arith, h .0))
       go (inv a) h g = absurd (omega (arith, h .0))
       go (nand a b) h g = absurd (omega (arith, h .0))
 
   pub leaf-small : 2 ≤ first → first ≤ symbolLimit
-  leaf-small h = omega (arith, at-leaf (t .shape) (leaf-root h) (given .sound .leaves))
+  leaf-small h = omega (arith, at-leaf (t .shape) (leaf-root h) (given .decoded .tree .leaves))
     where
       at-leaf : (s : Shape) → s ≡ leaf (first - 2) → ((x : ℕ) → List·Memᴰ x (leaves s) → x ≤ 1000000) → first - 2 ≤ 1000000
       at-leaf s e h = subst (λ (q : Shape). ((x : ℕ) → List·Memᴰ x (leaves q) → x ≤ 1000000) → first - 2 ≤ 1000000) (sym e) (λ k. k (first - 2) (unfold leaves in List·Memᴰ·head refl)) h
@@ -129,8 +111,8 @@ module _ {most : ℕ} {l : Library} {t : Tree} {tree : TreeRecord} {work : List 
       ap (answered none) (sym e ∙ ap₂ (λ (a b : ℕ). choice l a 0 (t .shape) b) load-is time-is)
       ∙ ap (λ (q : Option ℕ). answered q (choice l (t .load) 0 (t .shape) (t .required))) (sym (given .not-overfull))
 
-  pub leaf-mapped : 2 ≤ first → {r : Mapped} → ofMapped r ≡ answered none (choice l (tree .load) 0 (leaf (first - 2)) (tree .required)) → ofMapped r ≡ mapped most l t
-  leaf-mapped h e = e ∙ ap (λ (s : Shape). answered none (choice l (tree .load) 0 s (tree .required))) (sym (leaf-root h)) ∙ chosen-is _ refl
+  pub leaf-mapped : 2 ≤ first → (r : Mapped) → ofMapped r ≡ answered none (choice l (tree .load) 0 (leaf (first - 2)) (tree .required)) → ofMapped r ≡ mapped most l t
+  leaf-mapped h r e = e ∙ ap (λ (s : Shape). answered none (choice l (tree .load) 0 s (tree .required))) (sym (leaf-root h)) ∙ chosen-is _ refl
 
   module _ (gate : first < 2) (w : ℕ) (worth : Worth pointLimit (tree .required + 1) w (lookup (tree .required + 1) (stored (curveAt most work 0)))) where
     looked : lookup (tree .required + 1) (stored (curveAt most work 0)) ≡ least (suc (tree .required)) (covers l (tree .load) 0 (t .shape))
@@ -160,15 +142,15 @@ module _ {most : ℕ} {l : Library} {t : Tree} {tree : TreeRecord} {work : List 
       chosen = chosen-there l (tree .load) 0 (t .shape) (tree .required) least-here
 
       few-placed : length (chosen .0 .placed) ≤ 63
-      few-placed = omega (arith, few-matches (choice-handed l (tree .load) 0 (t .shape) (tree .required) (chosen .1) .legal), gates-lt-size (t .shape), given .sound .size)
+      few-placed = omega (arith, few-matches (choice-handed l (tree .load) 0 (t .shape) (tree .required) (chosen .1) .legal), gates-lt-size (t .shape), given .decoded .tree .size)
 
       pub gate-found : (cover : CoverRecord) → ((c : Cover) → choice l (tree .load) 0 (t .shape) (tree .required) ≡ some c → cover ≡ appended (bareCover (w / base) (w % base)) (c .placed)) → MappedIs most l t (record { finding = Found; cover = cover })
-      unfolding ofMapped ofFinding answered appended bareCover pointOf
+      unfolding ofMapped ofFinding answered bareCover pointOf
       gate-found cover h =
           let c = chosen .0 in
           let is = h c (chosen .1) in
           let p : pointOf w ≡ c .point = Option·some-injective _ _ (sym least-here ∙ sym (choice-point l (tree .load) 0 (t .shape) (tree .required)) ∙ ap (Option·map (λ (d : Cover). d .point)) (chosen .1)) in
-          let whole : coverOf cover ≡ c = ap coverOf is ∙ whole-cover (w / base) (w % base) (c .placed) (omega (arith, few-placed)) ∙ ap (λ (q : Point). record { point = q; placed = c .placed }) p in
+          let whole : coverOf cover ≡ c = ap coverOf is ∙ appended-cover (bareCover (w / base) (w % base)) (c .placed) refl (omega (arith, few-placed)) (omega (arith, few-placed)) ∙ ap (λ (q : Point). record { point = q; placed = c .placed }) p in
           record { answer-is = ap success whole ∙ chosen-is (some c) (chosen .1); few = omega (arith, ap (λ (r : CoverRecord). r .count) is, few-placed) }
 
       -- What the choice is lent.
@@ -179,8 +161,8 @@ module _ {most : ℕ} {l : Library} {t : Tree} {tree : TreeRecord} {work : List 
         driven = record {
           node = root-in 0 (t .shape);
           drives = at-root refl load-is refl;
-          time-small = omega (arith, time-is, given .sound .required);
+          time-small = omega (arith, time-is, given .decoded .tree .required);
           some-cover = (pointOf w, least-here);
         };
-        fits = omega (arith, gates-lt-size (t .shape), given .sound .size);
+        fits = omega (arith, gates-lt-size (t .shape), given .decoded .tree .size);
       }

@@ -9,7 +9,7 @@ use Rattle.sheets.specs.Model.{Library, Tree}
 use Rattle.sheets.specs.Layout.{treeLaid}
 use Rattle.covers.specs.Tradeoff.{overfullNode}
 use Rattle.covers.specs.Answer.{mapped, listed}
-use Rattle.sheets.specs.Sound.{SoundTree}
+use Rattle.matching.specs.Promises.{Decoded}
 use Rattle.curves.specs.Words.{pointLimit, WorkArea}
 use Rattle.curves.specs.Stored.{Stored}
 use Rattle.choosing.specs.Promises.{Prepared}
@@ -17,9 +17,10 @@ use Rattle.mapper.specs.declared.Mapped.{Mapped}
 use Rattle.mapper.specs.declared.Listed.{Listed}
 use Rattle.mapper.specs.Found.{ofMapped, ofListed}
 
--- A sound tree as decoded, with the curves of all its nodes, none of which is overfull.
+-- The library and the tree as decoded, with the curves of all nodes, none of which is overfull.
 pub record Curved (most : ℕ) (l : Library) (t : Tree) (tree : TreeRecord) (work : List ℕ) : Type 0 where
-  pub sound : SoundTree t
+  pub rows : List ℕ
+  pub decoded : Decoded l t rows (tree .symbols) (tree .sizes)
   pub tree-is : tree ≡ treeLaid t
   pub area : WorkArea most work
   pub curves : Stored most l t work

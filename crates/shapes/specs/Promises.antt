@@ -29,9 +29,16 @@ pub record Room (rules : Rules) (n : ℕ) (l m : List ℕ) : Type 0 where
   pub sizes : length m ≡ rules .nodes
   pub read : n ≤ rules .nodes
 
--- The scan is near enough to the sheet's start: a node takes 26 bits at the most.
+-- A node takes 26 bits at the most, and a scan reaches places up to 2^20: farther than a sheet goes, and far below 2^32.
+abbrev pub nodeBits : ℕ
+nodeBits = 26
+
+abbrev pub reach : ℕ
+reach = 1048576
+
+-- The scan is near enough to the sheet's start.
 abbrev pub Near : Rules → Scan → ℕ → Type 0
-Near rules scan n = place scan + 26 * (rules .nodes - n) ≤ 1048576
+Near rules scan n = place scan + nodeBits * (rules .nodes - n) ≤ reach
 
 -- Nodes from n on were laid out in l and m, which became l′ and m′: their symbols and their sizes, and nothing else.
 pub record Laid (n : ℕ) (l m l′ m′ : List ℕ) (r : Branch) (after : Scan) (ss zs : List ℕ) : Type 0 where
@@ -44,7 +51,7 @@ pub record Laid (n : ℕ) (l m l′ m′ : List ℕ) (r : Branch) (after : Scan)
 pub record Went (rules : Rules) (scan : Scan) (n : ℕ) (r : Branch) : Type 0 where
   pub from : n ≤ r .next
   pub upto : r .next ≤ rules .nodes
-  pub near : place (r .scan) + 26 * (rules .nodes - r .next) ≤ place scan + 26 * (rules .nodes - n)
+  pub near : place (r .scan) + nodeBits * (rules .nodes - r .next) ≤ place scan + nodeBits * (rules .nodes - n)
 
 module _ (s : List ℕ) (rules : Rules) (scan : Scan) (n : ℕ) (l m l′ m′ : List ℕ) (r : Branch) where
   -- A leaf, a node with all below it, and a NAND's two branches, as Drawing defines them, at every depth that is enough.

@@ -13,15 +13,15 @@ use Rattle.shapes.specs.Shape.{Shape}
 use Rattle.fields.specs.Reading.{Reader, times, field}
 use Rattle.fields.specs.Promises.{Live}
 use Rattle.fields.proofs.Laws.{length-times, times-value, times-scan}
-use Rattle.sheets.specs.declared.HeadRead.{HeadRead}
-use Rattle.sheets.specs.declared.PinsRead.{PinsRead}
-use Rattle.sheets.specs.declared.DrawingsRead.{DrawingsRead}
-use Rattle.sheets.specs.declared.Bins.{Bins}
-use Rattle.sheets.specs.declared.NumberedCell.{NumberedCell}
+use Rattle.sheets.specs.declared.library.HeadRead.{HeadRead}
+use Rattle.sheets.specs.declared.library.PinsRead.{PinsRead}
+use Rattle.sheets.specs.declared.library.DrawingsRead.{DrawingsRead}
+use Rattle.sheets.specs.declared.library.Bins.{Bins}
+use Rattle.sheets.specs.declared.library.NumberedCell.{NumberedCell}
 use Rattle.sheets.specs.Model.{Pin, binLoadOf, Cell, Pattern, drawn, patternsFrom}
 use Rattle.sheets.specs.LibrarySheet.{head, pin, pattern, countVerdict, drawings, cell}
 use Rattle.sheets.specs.Layout.{padded, pinsMost, cellLaid, rowWords, row, tableFrom, patternRow, patternRows}
-use Rattle.sheets.specs.Promises.{HeadIs, PinsAre, rowOf, patternOf, RowsAre, CountIs, DrawingsAre, CellIs, cellAfter}
+use Rattle.sheets.specs.Inside.{HeadIs, PinsAre, rowOf, patternOf, RowsAre, CountIs, DrawingsAre, CellIs, cellAfter}
 use Rattle.sheets.proofs.Laws.{table-append}
 
 pub drawings-are : (s : List ℕ) (numbered : NumberedCell) (total : ℕ) (scan : Scan) (l l′ : List ℕ) (got : Got) (r : Scan) →

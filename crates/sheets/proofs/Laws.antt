@@ -27,9 +27,10 @@ use Rattle.fields.specs.Promises.{Live}
 use Rattle.shapes.specs.Promises.{Laid, NodeRead}
 use Rattle.sheets.specs.LibrarySheet.{last, binLoad, complete, hasAll, pattern, patternRules, countVerdict}
 use Rattle.sheets.specs.Layout.{padded, sizeAt, symbolsAt, rowWords, cellWords, tableFrom}
-use Rattle.sheets.specs.Promises.{PatternIs, rowOf, patternOf, RowIs}
-use Rattle.sheets.specs.declared.NumberedCell.{NumberedCell}
-use Rattle.sheets.specs.declared.PatternRead.{PatternRead}
+use Rattle.sheets.specs.Inside.{PatternIs, rowOf, patternOf, RowIs}
+use Rattle.sheets.specs.declared.library.NumberedCell.{NumberedCell}
+use Rattle.sheets.specs.declared.library.PatternRead.{PatternRead}
+use Rattle.sheets.specs.Reach.{patternBits}
 use Rattle.sheets.proofs.Rows.{row-written, length-row}
 
 -- ---- arrays that a loop fills
@@ -131,8 +132,8 @@ pattern-is s pins most scan l m l′ m′ read whole first res em el h ew ef er 
     laid : Laid 0 l m l′ m′ read (x .1) (symbols (x .0)) (sizes (x .0))
     laid = here .laid 17 (omega arith)
 
-    near : place res ≤ place scan + 416
-    near = rw er (complete-near whole first (read .scan) (place scan + 416) (omega arith) (omega (arith, here .went .near)))
+    near : place res ≤ place scan + patternBits
+    near = rw er (complete-near whole first (read .scan) (place scan + patternBits) (omega arith) (omega (arith, here .went .near)))
 
     go : Dec (Live (read .scan)) → PatternIs s pins scan l l′ (record { scan = res; size = read .next })
     go (yes z) =

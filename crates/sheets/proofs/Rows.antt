@@ -1,10 +1,10 @@
 -- A pattern's row, written part by part and read back word by word.
-use Prim.Native.Nat.{ℕ, zero, suc, _+_, _*_, _≤_, _<_}
+use Prim.Native.Nat.{ℕ, zero, suc, _+_, _*_, _<_}
 use mathlib.Core.Path.{_≡_, refl, sym, ap, ap₂, _∙_}
 use mathlib.Core.Logic.{_⊎_, inl, inr}
 use mathlib.Core.Bool.{cond}
 use mathlib.Core.List.{List, [], _∷_, _++_}
-use native.Mathlib.Nat.{add-assoc, eq-or-lt-of-le, le-of-suc-le-suc}
+use native.Mathlib.Nat.{eq-or-lt-of-le, le-of-suc-le-suc}
 use native.Mathlib.Numerals.{add-one}
 use native.Mathlib.Omega.{arith}
 use lib.ListN.{length, getD, set, length-append, List·getD-append}
@@ -12,7 +12,7 @@ use lib.Seq.{sets, getD-append-add}
 use Rattle.fields.proofs.Lists.{sets-append}
 use Rattle.shapes.specs.Shape.{Shape, size, symbols}
 use Rattle.shapes.proofs.Drawn.{length-symbols}
-use Rattle.sheets.specs.declared.CellRecord.{CellRecord}
+use Rattle.sheets.specs.declared.library.CellRecord.{CellRecord}
 use Rattle.sheets.specs.Layout.{pinsMost, pinWords, figuresAt, sizeAt, symbolsAt, pinFigures, figures, cellWords, row}
 
 -- ---- written

@@ -18,7 +18,7 @@ use Rattle.shapes.proofs.Drawn.{leaf-passes, length-symbols, node-live}
 use Rattle.sheets.specs.Model.{Shape, size, leaves, Pin, Cell, patternsFrom, patterns}
 use Rattle.sheets.specs.LibrarySheet.{Head, last, binLoad, head, pin, patternRules, hasAll, pattern, countVerdict, drawings, cell, bins, cells, library}
 use Rattle.sheets.specs.TreeSheet.{tree, treeRules}
-use Rattle.sheets.specs.Promises.{cellAfter}
+use Rattle.sheets.specs.Inside.{cellAfter}
 use Rattle.sheets.specs.Sound.{IsGate, SoundDrawing, SoundPin, SoundCell, SoundLibrary, SoundTree}
 use Rattle.sheets.proofs.Laws.{complete-live, count-fits}
 use Rattle.sheets.proofs.Cells.{length-drawn, patterns-more}

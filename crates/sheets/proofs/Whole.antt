@@ -22,19 +22,20 @@ use Rattle.fields.specs.Promises.{Live, Reads}
 use Rattle.shapes.specs.Promises.{Laid, NodeRead}
 use Rattle.fields.proofs.Laws.{start-place, value-at, scan-at, length-times}
 use Rattle.shapes.proofs.Drawn.{length-symbols}
-use Rattle.sheets.specs.declared.Bins.{Bins}
-use Rattle.sheets.specs.declared.BinsRead.{BinsRead}
-use Rattle.sheets.specs.declared.CellsRead.{CellsRead}
+use Rattle.sheets.specs.declared.library.Bins.{Bins}
+use Rattle.sheets.specs.declared.library.BinsRead.{BinsRead}
+use Rattle.sheets.specs.declared.library.CellsRead.{CellsRead}
 use Rattle.sheets.specs.Model.{Pin, binLoadOf, Cell, Pattern, patterns, patternsFrom}
 use Rattle.sheets.specs.LibrarySheet.{binLoad, bins, cells, library}
 use Rattle.sheets.specs.TreeSheet.{tree, treeRules}
 use Rattle.sheets.specs.Report.{libraryNumber, treeNumber, LibraryCounts, libraryWord, libraryRead, treeRead, libraryReport, treeReport}
-use Rattle.sheets.specs.declared.LibraryRead.{LibraryRead}
-use Rattle.sheets.specs.declared.LibraryRecord.{LibraryRecord}
-use Rattle.sheets.specs.declared.TreeRead.{TreeRead}
-use Rattle.sheets.specs.declared.TreeRecord.{TreeRecord}
+use Rattle.sheets.specs.declared.library.LibraryRead.{LibraryRead}
+use Rattle.sheets.specs.declared.library.LibraryRecord.{LibraryRecord}
+use Rattle.sheets.specs.declared.tree.TreeRead.{TreeRead}
+use Rattle.sheets.specs.declared.tree.TreeRecord.{TreeRecord}
 use Rattle.sheets.specs.Layout.{padded, pinsMost, cellLaid, rowWords, tableWords, row, tableFrom, patternRow, patternRows, libraryLaid, treeLaid}
-use Rattle.sheets.specs.Promises.{BinsAre, CellsAre, cellAfter, LibraryIs, TreeIs}
+use Rattle.sheets.specs.Public.{LibraryIs, TreeIs}
+use Rattle.sheets.specs.Inside.{BinsAre, CellsAre, cellAfter}
 use Rattle.sheets.proofs.Laws.{padded-at}
 
 -- A scan that was not refused at the end was not refused before.
@@ -153,7 +154,7 @@ module _ (s : List ℕ) (r : LibraryRead) (h : LibraryIs s r) where
   library-sound c e =
       let same = h .laid (subst Live (sym e) tt) in (
         ap (λ (k : LibraryRecord). success (record { cells = k .count; patterns = k .total })) same
-        ∙ ap (λ (q : Scan). libraryRead (library s start .0, q)) (sym e ∙ h .scan-is),
+            ∙ ap (λ (q : Scan). libraryRead (library s start .0, q)) (sym e ∙ h .scan-is),
         omega (arith, h .cells-few, h .patterns-few),
       )
 

@@ -5,9 +5,9 @@ use mathlib.Core.Bool.{cond}
 use lib.ListN.{length, getD, take, replicate}
 use lib.Seq.{sets}
 use Rattle.shapes.specs.Shape.{symbols, sizes}
-use Rattle.sheets.specs.declared.CellRecord.{CellRecord}
-use Rattle.sheets.specs.declared.LibraryRecord.{LibraryRecord}
-use Rattle.sheets.specs.declared.TreeRecord.{TreeRecord}
+use Rattle.sheets.specs.declared.library.CellRecord.{CellRecord}
+use Rattle.sheets.specs.declared.library.LibraryRecord.{LibraryRecord}
+use Rattle.sheets.specs.declared.tree.TreeRecord.{TreeRecord}
 use Rattle.sheets.specs.Model.{Shape, size, Pin, binLoadOf, Cell, Library, Pattern, patterns, Tree}
 
 -- A list at the front of an array of n places, the rest of which is blank.

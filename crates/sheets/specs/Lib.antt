@@ -4,5 +4,7 @@ pub mod LibrarySheet
 pub mod TreeSheet
 pub mod Report
 pub mod Layout
-pub mod Promises
+pub mod Reach
+pub mod Public
+pub mod Inside
 pub mod Sound

@@ -8,8 +8,8 @@ use Rattle.fields.specs.declared.Fault.{Fault}
 use Rattle.fields.specs.declared.Fault.the-variants.{Truncated, Tail, Range, Drawing, Size}
 use Rattle.fields.specs.declared.Scan.{Scan}
 use Rattle.fields.specs.declared.Scan.the-variants.{At, Refused}
-use Rattle.sheets.specs.declared.LibraryJudged as LibraryJudged
-use Rattle.sheets.specs.declared.TreeJudged as TreeJudged
+use Rattle.sheets.specs.declared.library.LibraryJudged as LibraryJudged
+use Rattle.sheets.specs.declared.tree.TreeJudged as TreeJudged
 use Rattle.sheets.specs.Model.{Library, Tree, patterns, size}
 use Rattle.sheets.specs.LibrarySheet.{library}
 use Rattle.sheets.specs.TreeSheet.{tree}

@@ -1,6 +1,7 @@
 use borrow.Author.Needs.{needs}
 use native.Mathlib.Omega.{arith}
 use Prim.Native.Nat.{_-_, _≤_}
+use lib.ListN.{length}
 use mathlib.Core.Path.{refl}
 use Rattle.mapper.proofs.Points.{Counted, counted-more, counted-end, counted-all}
 use Rattle.mapper.proofs.count_points.Statement.{statement}
@@ -9,10 +10,10 @@ use Rattle.mapper.proofs.count_points.Reads as reads
 use Rattle.mapper.proofs.count_points.Lts as lts
 
 abbrev Inv-loop : tie.InvT-loop
-Inv-loop work k₀ k = (k ≤ 32) × Counted work k
+Inv-loop curve k₀ k = (k ≤ length curve) × Counted curve k
 
 abbrev μ-loop : tie.MeasureT-loop
-μ-loop work k₀ k = 32 - k
+μ-loop curve k₀ k = length curve - k
 
 loop-holds : tie.Need-loop-holds Inv-loop μ-loop
 loop-holds c = (omega arith, refl)
@@ -34,18 +35,18 @@ loop-again c =
     let i = c .before .before .before .loop in
     let a = c .before .before .before .before .args in
     let e = c .if1 in
-    (omega arith, counted-more (a .work .now) (i .k) (omega arith) (c .before .before .before .before .pre) (λ z. omega (arith, e, z)) (i .inv .1))
+    (omega arith, counted-more (a .curve .now) (i .k) (omega arith) (λ z. omega (arith, e, z)) (i .inv .1))
 
 returns : tie.Need-returns Inv-loop μ-loop
 returns c =
     let i = c .before .loop in
-    (i .inv .0, counted-all (c .before .before .args .work .now) (i .k) (omega arith) (i .inv .1))
+    (i .inv .0, counted-all (c .before .before .args .curve .now) (i .k) (omega arith) (i .inv .1))
 
 returns-2 : tie.Need-returns-2 Inv-loop μ-loop
 returns-2 c =
     let i = c .before .before .before .loop in
     let e = c .if1 in
-    (i .inv .0, counted-end (c .before .before .before .before .args .work .now) (i .k) (omega arith) (omega (arith, e)) (i .inv .1))
+    (i .inv .0, counted-end (c .before .before .before .before .args .curve .now) (i .k) (omega (arith, e)) (i .inv .1))
 
 pub count-points-spec : {M : Type 1} → statement M
 count-points-spec =

@@ -1,0 +1,103 @@
+use native.Mathlib.Omega.{arith}
+use Prim.Native.Nat.{ℕ, _≤_, _+_, _-_, _*_}
+use mathlib.Core.Path.{_≡_, refl, ap, _∙_}
+use mathlib.Core.List.{List, map}
+use lib.ListN.{length, drop, length-drop}
+use lib.Seq.{length-take-le}
+use borrow.Rule.Slice.PartMut.{same-len-mid}
+use Rattle.fields.specs.declared.Scan.{Scan}
+use Rattle.shapes.specs.Shape.{Shape}
+use Rattle.fields.specs.Reading.{place, times}
+use Rattle.fields.specs.Promises.{Live}
+use Rattle.sheets.specs.Layout.{rowWords, tableFrom}
+use Rattle.sheets.specs.Inside.{rowOf, patternOf}
+use Rattle.sheets.specs.Reach.{patternBits}
+use Rattle.sheets.proofs.Laws.{rows-turn}
+use Rattle.sheets.proofs.library.read_rows.Statement.{statement}
+use Rattle.sheets.proofs.library.read_rows.Tie as tie
+
+abbrev Inv-loop : tie.InvT-loop
+Inv-loop s numbered total count rows₀ at₀ k₀ rows at k =
+    let x = times k (patternOf s numbered) at₀ in
+    (k ≤ count)
+    × (length rows ≡ length rows₀)
+    × (at ≡ x .1)
+    × (Live at → rows ≡ tableFrom rowWords rows₀ total (map (rowOf numbered) (x .0)))
+    × (place at ≤ place at₀ + patternBits * k)
+
+abbrev μ-loop : tie.MeasureT-loop
+μ-loop s numbered total count rows₀ at₀ k₀ rows at k = count - k
+
+loop-holds : tie.Need-loop-holds Inv-loop μ-loop
+unfolding times tableFrom
+loop-holds c = (omega arith, refl, refl, λ q. refl, omega arith)
+
+cast-first : tie.Need-cast-first Inv-loop μ-loop
+cast-first c = omega arith
+
+add-first : tie.Need-add-first Inv-loop μ-loop
+add-first c = omega arith
+
+mul-first : tie.Need-mul-first Inv-loop μ-loop
+mul-first c = omega arith
+
+add-read-row : tie.Need-add-read-row Inv-loop μ-loop
+add-read-row c = omega arith
+
+mul-read-row : tie.Need-mul-read-row Inv-loop μ-loop
+mul-read-row c = omega arith
+
+sub-read-row : tie.Need-sub-read-row Inv-loop μ-loop
+sub-read-row c = omega arith
+
+part-read-row-start : tie.Need-part-read-row-start Inv-loop μ-loop
+part-read-row-start c = omega arith
+
+part-read-row-end : tie.Need-part-read-row-end Inv-loop μ-loop
+part-read-row-end c = omega arith
+
+read-row-requires : tie.Need-read-row-requires Inv-loop μ-loop
+read-row-requires c κs =
+    let a = c .before .before .before .before .before .args in
+    let i = c .before .before .loop in
+    let first = rowWords * (a .total + i .k) in
+    (omega arith, length-take-le (first + rowWords - first) (drop first (i .rows)) (omega (arith, length-drop first (i .rows), i .inv .1)) ∙ omega arith, omega (arith, i .inv .4))
+
+add-k : tie.Need-add-k Inv-loop μ-loop
+add-k c = omega arith
+
+loop-less : tie.Need-loop-less Inv-loop μ-loop
+loop-less c = omega arith
+
+loop-again : tie.Need-loop-again Inv-loop μ-loop
+loop-again c =
+    let a = c .before .before .before .before .before .before .before .before .args in
+    let i = c .before .before .before .before .before .loop in
+    let first = rowWords * (a .total + i .k) in
+    let r = c .before .before .read-row in
+    let turn = rows-turn (a .s .now) (a .numbered) (a .total) (a .scan) (a .rows .now) (i .k) (i .rows) (r .last .1 .1 .1 .0) (i .at) (r .result) (first + rowWords - first)
+    (omega arith) (omega (arith, i .inv .1)) (i .inv .2) (i .inv .3) (r .ensures) in (
+      omega arith,
+      same-len-mid first (first + rowWords - first) (i .rows) (r .last .1 .1 .1 .0) (r .kept .1 .1 .1 .0) ∙ i .inv .1,
+      turn .0,
+      turn .1,
+      omega (arith, r .ensures .near, i .inv .4),
+    )
+
+same-length : tie.Need-same-length Inv-loop μ-loop
+same-length c = c .before .loop .inv .1
+
+returns : tie.Need-returns Inv-loop μ-loop
+returns c =
+    let a = c .before .before .before .before .args in
+    let i = c .before .loop in
+    let done : i .k ≡ a .count = omega arith in
+    let x : ℕ → List Shape × Scan = λ k. times k (patternOf (a .s .now) (a .numbered)) (a .scan) in
+    record {
+      scan-is = i .inv .2 ∙ ap (λ (k : ℕ). x k .1) done;
+      laid = λ q. i .inv .3 q ∙ ap (λ (k : ℕ). tableFrom rowWords (a .rows .now) (a .total) (map (rowOf (a .numbered)) (x k .0))) done;
+      near = omega (arith, i .inv .4);
+    }
+
+pub read-rows-spec : {M : Type 1} → statement M
+read-rows-spec = tie.close (tie.spec Inv-loop μ-loop loop-holds cast-first add-first mul-first add-read-row mul-read-row sub-read-row part-read-row-start part-read-row-end read-row-requires add-k loop-less loop-again same-length returns)

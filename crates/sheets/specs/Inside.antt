@@ -1,0 +1,116 @@
+-- What the readers inside this crate promise each other, by the sheets' definitions. The bound on the place is what the next reader needs.
+use Prim.Native.Nat.{ℕ, _+_, _*_, _≤_}
+use mathlib.Core.Path.{_≡_}
+use mathlib.Core.List.{List, [], map}
+use lib.ListN.{length}
+use lib.Seq.{sets}
+use Rattle.fields.specs.declared.Scan.{Scan}
+use Rattle.fields.specs.Reading.{Reader, place, times, field}
+use Rattle.shapes.specs.Shape.{symbols}
+use Rattle.fields.specs.declared.Got.{Got}
+use Rattle.fields.specs.Promises.{Live, Reads}
+use Rattle.sheets.specs.declared.library.Bins.{Bins}
+use Rattle.sheets.specs.declared.library.NumberedCell.{NumberedCell}
+use Rattle.sheets.specs.declared.library.BinsRead.{BinsRead}
+use Rattle.sheets.specs.declared.library.HeadRead.{HeadRead}
+use Rattle.sheets.specs.declared.library.PinRead.{PinRead}
+use Rattle.sheets.specs.declared.library.PinsRead.{PinsRead}
+use Rattle.sheets.specs.declared.library.PatternRead.{PatternRead}
+use Rattle.sheets.specs.declared.library.DrawingsRead.{DrawingsRead}
+use Rattle.sheets.specs.declared.library.CellsRead.{CellsRead}
+use Rattle.sheets.specs.Model.{Shape, Pin, binLoadOf, size, Cell, patternsFrom}
+use Rattle.sheets.specs.LibrarySheet.{binLoad, head, pin, pattern, countVerdict, drawings, cell}
+use Rattle.sheets.specs.Reach.{binBits, headBits, pinBits, patternBits, countBits, drawingsBits, cellBits}
+use Rattle.sheets.specs.Layout.{padded, pinsMost, cellLaid, rowWords, row, tableFrom, patternRows}
+
+-- The row of a pattern of a cell.
+abbrev pub rowOf : NumberedCell → Shape → List ℕ
+rowOf numbered = row (numbered .number) (numbered .cell)
+
+module _ (s : List ℕ) where
+  pub record BinsAre (count : ℕ) (scan : Scan) (r : BinsRead) : Type 0 where
+    pub loads : r .loads ≡ padded 4 0 (times count (binLoad s) scan .0)
+    pub scan-is : r .scan ≡ times count (binLoad s) scan .1
+    pub near : place (r .scan) ≤ place scan + binBits * count
+
+  pub record HeadIs (scan : Scan) (r : HeadRead) : Type 0 where
+    pub held : r .held ≡ head s scan .0 .held
+    pub area : r .area ≡ head s scan .0 .area
+    pub highest : r .highest ≡ head s scan .0 .highest
+    pub pins : r .pins ≡ head s scan .0 .pins
+    pub few : r .pins ≤ 6
+    pub scan-is : r .scan ≡ head s scan .1
+    pub near : place (r .scan) ≤ place scan + headBits
+
+  pub record PinIs (bins : Bins) (scan : Scan) (r : PinRead) : Type 0 where
+    pub bin : r .bin ≡ pin s (bins .count) [] scan .0 .bin
+    pub load : r .load ≡ binLoadOf (bins .loads) (pin s (bins .count) [] scan .0)
+    pub intrinsic : r .intrinsic ≡ pin s (bins .count) [] scan .0 .intrinsic
+    pub drive : r .drive ≡ pin s (bins .count) [] scan .0 .drive
+    pub scan-is : r .scan ≡ pin s (bins .count) [] scan .1
+    pub near : place (r .scan) ≤ place scan + pinBits
+
+  pub record PinsAre (bins : Bins) (count : ℕ) (scan : Scan) (r : PinsRead) : Type 0 where
+    pub bins-are : r .bins ≡ padded pinsMost 0 (map (λ (p : Pin). p .bin) (times count (pin s (bins .count)) scan .0))
+    pub loads : r .loads ≡ padded pinsMost 0 (map (binLoadOf (bins .loads)) (times count (pin s (bins .count)) scan .0))
+    pub intrinsics : r .intrinsics ≡ padded pinsMost 0 (map (λ (p : Pin). p .intrinsic) (times count (pin s (bins .count)) scan .0))
+    pub drives : r .drives ≡ padded pinsMost 0 (map (λ (p : Pin). p .drive) (times count (pin s (bins .count)) scan .0))
+    pub scan-is : r .scan ≡ times count (pin s (bins .count)) scan .1
+    pub near : place (r .scan) ≤ place scan + pinBits * count
+
+  -- A pattern, its symbols laid out in l, which became l′.
+  pub record PatternIs (pins : ℕ) (scan : Scan) (l l′ : List ℕ) (r : PatternRead) : Type 0 where
+    pub scan-is : r .scan ≡ pattern s pins [] scan .1
+    pub size-is : Live (r .scan) → r .size ≡ size (pattern s pins [] scan .0)
+    pub small : r .size ≤ 16
+    pub laid : Live (r .scan) → l′ ≡ sets l 0 (symbols (pattern s pins [] scan .0))
+    pub near : place (r .scan) ≤ place scan + patternBits
+
+  -- The patterns of a cell, and the row of one.
+  abbrev pub patternOf : NumberedCell → List Shape → Reader Shape
+  patternOf numbered = pattern s (numbered .cell .pins)
+
+  pub record RowIs (numbered : NumberedCell) (scan : Scan) (l l′ : List ℕ) (r : Scan) : Type 0 where
+    pub scan-is : r ≡ patternOf numbered [] scan .1
+    pub laid : Live r → l′ ≡ sets l 0 (rowOf numbered (patternOf numbered [] scan .0))
+    pub few : Live r → length (rowOf numbered (patternOf numbered [] scan .0)) ≤ rowWords
+    pub near : place r ≤ place scan + patternBits
+
+  -- So many patterns of a cell, their rows laid out in l from row `total` on.
+  pub record RowsAre (numbered : NumberedCell) (total count : ℕ) (scan : Scan) (l l′ : List ℕ) (r : Scan) : Type 0 where
+    pub scan-is : r ≡ times count (patternOf numbered) scan .1
+    pub laid : Live r → l′ ≡ tableFrom rowWords l total (map (rowOf numbered) (times count (patternOf numbered) scan .0))
+    pub near : place r ≤ place scan + patternBits * count
+
+  -- A pattern count.
+  pub record CountIs (total : ℕ) (scan : Scan) (r : Got) : Type 0 where
+    pub reads : Reads r (field s 3 (countVerdict total) scan) (place scan + countBits) 7
+    pub fits : total + r .value ≤ 128
+
+  pub record DrawingsAre (numbered : NumberedCell) (total : ℕ) (scan : Scan) (l l′ : List ℕ) (r : DrawingsRead) : Type 0 where
+    pub scan-is : r .scan ≡ drawings s (numbered .cell .pins) total scan .1
+    pub count-is : r .count ≡ length (drawings s (numbered .cell .pins) total scan .0)
+    pub laid : Live (r .scan) → l′ ≡ tableFrom rowWords l total (map (rowOf numbered) (drawings s (numbered .cell .pins) total scan .0))
+    pub fits : total + r .count ≤ 128
+    pub near : place (r .scan) ≤ place scan + drawingsBits
+
+  pub record CellIs (bins : Bins) (number total : ℕ) (scan : Scan) (l l′ : List ℕ) (r : DrawingsRead) : Type 0 where
+    pub scan-is : r .scan ≡ cell s (bins .count) total scan .1
+    pub count-is : r .count ≡ length (cell s (bins .count) total scan .0 .drawings)
+    pub laid : Live (r .scan) →
+        let c = cell s (bins .count) total scan .0 in l′ ≡ tableFrom rowWords l total (map (row number (cellLaid (bins .loads) c)) (c .drawings))
+    pub fits : total + r .count ≤ 128
+    pub near : place (r .scan) ≤ place scan + cellBits
+
+  -- The cells of a library with so many bins, each read after the patterns of those before it.
+  abbrev pub cellAfter : ℕ → List Cell → Reader Cell
+  cellAfter bins before = cell s bins (length (patternsFrom 0 before))
+
+  -- So many cells.
+  pub record CellsAre (bins : Bins) (count : ℕ) (scan : Scan) (l l′ : List ℕ) (r : CellsRead) : Type 0 where
+    pub scan-is : r .scan ≡ times count (cellAfter (bins .count)) scan .1
+    pub total-is : r .total ≡ length (patternsFrom 0 (times count (cellAfter (bins .count)) scan .0))
+    pub laid : Live (r .scan) →
+        l′ ≡ tableFrom rowWords l 0 (patternRows (bins .loads) (patternsFrom 0 (times count (cellAfter (bins .count)) scan .0)))
+    pub fits : r .total ≤ 128
+    pub near : place (r .scan) ≤ place scan + cellBits * count

@@ -1,0 +1,29 @@
+-- What the two readers of whole sheets promise.
+use Prim.Native.Nat.{ℕ, _≤_}
+use mathlib.Core.Path.{_≡_}
+use mathlib.Core.List.{List}
+use Rattle.fields.specs.Reading.{place, start}
+use Rattle.fields.specs.Promises.{Live}
+use Rattle.sheets.specs.declared.library.LibraryRead.{LibraryRead}
+use Rattle.sheets.specs.declared.tree.TreeRead.{TreeRead}
+use Rattle.sheets.specs.LibrarySheet.{library}
+use Rattle.sheets.specs.TreeSheet.{tree}
+use Rattle.sheets.specs.Reach.{libraryBits, treeBits}
+use Rattle.sheets.specs.Layout.{libraryLaid, treeLaid}
+
+module _ (s : List ℕ) where
+  -- The whole library and the whole tree: the sheet's scan and, if it was not refused, the record that lays out its value. The counts
+  -- keep their limits either way.
+  pub record LibraryIs (r : LibraryRead) : Type 0 where
+    pub scan-is : r .scan ≡ library s start .1
+    pub laid : Live (r .scan) → r .library ≡ libraryLaid (library s start .0)
+    pub bins-few : r .library .bins .count ≤ 4
+    pub cells-few : r .library .count ≤ 64
+    pub patterns-few : r .library .total ≤ 128
+    pub near : place (r .scan) ≤ libraryBits
+
+  pub record TreeIs (r : TreeRead) : Type 0 where
+    pub scan-is : r .scan ≡ tree s start .1
+    pub laid : Live (r .scan) → r .tree ≡ treeLaid (tree s start .0)
+    pub nodes-few : r .tree .count ≤ 64
+    pub near : place (r .scan) ≤ treeBits

@@ -1,0 +1,82 @@
+// The tree sheet: what is decoded from it, and its judge.
+use crate::Limits;
+use fields::Fault;
+use fields::Scan;
+use shapes::Rules;
+ghost use mathlib.Core.Path.{_≡_};
+ghost use Prim.Native.Nat.{_≤_};
+ghost use Rattle.fields.specs.Answer.{Bounded};
+ghost use Rattle.sheets.specs.Public.{TreeIs};
+ghost use Rattle.sheets.specs.Report.{ofTreeJudged, treeReport, treeNumber};
+
+// A tree as decoded: its nodes' symbols in preorder, and how many nodes stand under each.
+pub struct TreeRecord {
+    pub load: u8,
+    pub required: u32,
+    pub count: usize,
+    pub symbols: [u32; Limits::TREE_NODES],
+    pub sizes: [u8; Limits::TREE_NODES],
+}
+
+// What a judge of trees answers: the node count, or document 01's number and the place.
+pub enum TreeJudged {
+    Sound(usize),
+    Refused(u32, usize),
+}
+
+// The whole tree, and the scan after it.
+pub struct TreeRead {
+    pub scan: Scan,
+    pub tree: TreeRecord,
+}
+
+// The tree sheet.
+pub fn read_tree(s: &[u8]) -> TreeRead
+    ensures { λ r. ⌜ TreeIs (now (s .entry)) r ⌝ }
+{
+    let start = fields::begin();
+    let load = fields::ranged(start, s, 8, 0, Limits::LOAD);
+    let at = load.scan;
+    let required = fields::ranged(at, s, 24, 0, Limits::TIME);
+    let at = required.scan;
+    let rules = Rules {
+        width: 20,
+        most: Limits::ARRIVAL,
+        nodes: Limits::TREE_NODES,
+        pattern: false,
+    };
+    let mut symbols = [0u32; Limits::TREE_NODES];
+    let mut sizes = [0u8; Limits::TREE_NODES];
+    let read = shapes::read_node(at, s, rules, 0, &mut symbols, &mut sizes);
+    let at = read.scan;
+    TreeRead {
+        scan: fields::end(at, s),
+        tree: TreeRecord {
+            load: load.value as u8,
+            required: required.value,
+            count: read.next,
+            symbols,
+            sizes,
+        },
+    }
+}
+
+// Judges a tree: its node count, or what is wrong with it and where.
+pub fn judge_tree(s: &[u8]) -> TreeJudged
+    ensures { λ r. ⌜ ofTreeJudged r ≡ treeReport (now (s .entry)) ⌝ }
+    ensures { λ r. ⌜ Bounded (ofTreeJudged r) ⌝ }
+{
+    let read = read_tree(s);
+    let scan = read.scan;
+    match scan {
+        Scan::At(_) => TreeJudged::Sound(read.tree.count),
+        Scan::Refused(fault, place) => TreeJudged::Refused(tree_number(fault), place),
+    }
+}
+
+// Document 01's number of a fault in a tree.
+pub fn tree_number(fault: Fault) -> u32
+    ensures { λ r. ⌜ (r ≡ treeNumber fault) × (r ≤ 16) ⌝ }
+{
+    crate::library::library_number(fault) + 10
+}
