@@ -6,9 +6,9 @@
 use libc::STDOUT_FILENO;
 use mapper::Numbers;
 use operations::Reply;
-use sheets::LibraryJudged;
 use sheets::Limits;
-use sheets::TreeJudged;
+use sheets::library::LibraryJudged;
+use sheets::tree::TreeJudged;
 ghost use Prim.Native.Nat.{_+_, _<_, _≤_};
 ghost use lib.ListN.{length};
 
@@ -63,7 +63,7 @@ fn write_refusal(number: u32, place: usize) {
 
 // "library", cell count, pattern count; or the refusal.
 fn run_library(sheet: &[u8]) {
-    let judged = sheets::judge_library(sheet);
+    let judged = sheets::library::judge_library(sheet);
     match judged {
         LibraryJudged::Sound(cells, patterns) => {
             io::write_all(STDOUT_FILENO, b"library");
@@ -77,7 +77,7 @@ fn run_library(sheet: &[u8]) {
 
 // "tree", node count; or the refusal.
 fn run_tree(sheet: &[u8]) {
-    let judged = sheets::judge_tree(sheet);
+    let judged = sheets::tree::judge_tree(sheet);
     match judged {
         TreeJudged::Sound(nodes) => {
             io::write_all(STDOUT_FILENO, b"tree");

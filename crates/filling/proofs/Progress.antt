@@ -10,8 +10,8 @@ use native.Mathlib.Numerals.{add-one}
 use lib.Dec.{ltb}
 use lib.ListN.{length, getD, length-take, length-reverse}
 use borrow.Author.Tests.{lt-ltb, le-ltb}
-use Rattle.sheets.specs.declared.Bins.{Bins}
-use Rattle.sheets.specs.declared.TreeRecord.{TreeRecord}
+use Rattle.sheets.specs.declared.library.Bins.{Bins}
+use Rattle.sheets.specs.declared.tree.TreeRecord.{TreeRecord}
 use Rattle.sheets.specs.Model.{Shape, leaf, inv, nand, size, Library, Tree}
 use Rattle.sheets.specs.Layout.{libraryLaid, treeLaid}
 use Rattle.covers.specs.Lists.{select}

@@ -1,7 +1,7 @@
 // Every node's curves, filled from the highest number down.
 use curves::Words;
-use sheets::Bins;
-use sheets::TreeRecord;
+use sheets::library::Bins;
+use sheets::tree::TreeRecord;
 ghost use Prim.Native.Nat.{_≤_};
 ghost use Rattle.sheets.specs.Model.{Shape, Library, Tree};
 ghost use Rattle.filling.specs.Promises.{NodeReady, NodeFilled, FillReady, NodeDone, Exceeds, FillStart, FillingIs};

@@ -1,7 +1,7 @@
 // The C interface: see include/treecover.h. A refusal is number × 2^32 + place.
 use operations::Reply;
-use sheets::LibraryJudged;
-use sheets::TreeJudged;
+use sheets::library::LibraryJudged;
+use sheets::tree::TreeJudged;
 ghost use mathlib.Core.Path.{_≡_};
 ghost use Prim.Native.Nat.{_+_, _*_, _<_, _≤_};
 ghost use lib.ListN.{length};
@@ -24,7 +24,7 @@ fn refusal(number: u32, place: usize) -> u64
 pub extern "C" fn treecover_judge_library(library: &[u8]) -> u64
     ensures { λ r. ⌜ r ≡ word (onSuccess libraryWord (libraryReport (now (library .entry)))) ⌝ }
 {
-    let judged = sheets::judge_library(library);
+    let judged = sheets::library::judge_library(library);
     match judged {
         LibraryJudged::Sound(cells, patterns) => (cells * 256 + patterns) as u64,
         LibraryJudged::Refused(number, place) => refusal(number, place),
@@ -36,7 +36,7 @@ pub extern "C" fn treecover_judge_library(library: &[u8]) -> u64
 pub extern "C" fn treecover_judge_tree(tree: &[u8]) -> u64
     ensures { λ r. ⌜ r ≡ word (treeReport (now (tree .entry))) ⌝ }
 {
-    let judged = sheets::judge_tree(tree);
+    let judged = sheets::tree::judge_tree(tree);
     match judged {
         TreeJudged::Sound(nodes) => nodes as u64,
         TreeJudged::Refused(number, place) => refusal(number, place),

@@ -5,8 +5,8 @@ use mathlib.Core.List.{List}
 use mathlib.Core.Option.{Option, some}
 use native.Mathlib.Omega.{arith}
 use lib.ListN.{length}
-use Rattle.sheets.specs.declared.Bins.{Bins}
-use Rattle.sheets.specs.declared.TreeRecord.{TreeRecord}
+use Rattle.sheets.specs.declared.library.Bins.{Bins}
+use Rattle.sheets.specs.declared.tree.TreeRecord.{TreeRecord}
 use Rattle.sheets.specs.Model.{Library, Tree}
 use Rattle.covers.specs.Choice.{choice}
 use Rattle.covers.specs.Tradeoff.{tradeoffs}

@@ -13,7 +13,7 @@ use borrow.Author.Tests.{eq-eqb, le-leb}
 use lib.ListN.{length, getD, take, drop, set, length-map, length-reverse}
 use lib.Seq.{take-suc, take-take, length-take-le, drop-length, getD-set-same}
 use Rattle.fields.specs.Answer.{Answer, success}
-use Rattle.sheets.specs.declared.TreeRecord.{TreeRecord}
+use Rattle.sheets.specs.declared.tree.TreeRecord.{TreeRecord}
 use Rattle.sheets.specs.Model.{Shape, leaf, Library, Tree}
 use Rattle.covers.specs.Lists.{any, select}
 use Rattle.covers.specs.Cover.{Point, Cover, leafArrival, leafPoint, leafCover}

@@ -12,7 +12,7 @@ use lib.ListN.{length, getD, take, drop, replicate, length-map, length-replicate
 use lib.Seq.{sets, sets-eq, take-append-seam}
 use Rattle.fields.specs.Answer.{Answer, refused, success}
 use Rattle.shapes.specs.Shape.{symbols, sizes}
-use Rattle.sheets.specs.declared.TreeRecord.{TreeRecord}
+use Rattle.sheets.specs.declared.tree.TreeRecord.{TreeRecord}
 use Rattle.sheets.specs.Model.{Shape, leaf, inv, nand, leaves, Library, Tree}
 use Rattle.sheets.specs.Layout.{padded, treeLaid}
 use Rattle.covers.specs.Cover.{Point, Placed, Cover, leafArrival, leafPoint, leafCover}

@@ -4,7 +4,7 @@ use mathlib.Core.Path.{_≡_}
 use mathlib.Core.List.{List}
 use mathlib.Core.Option.{none}
 use lib.ListN.{getD}
-use Rattle.sheets.specs.declared.TreeRecord.{TreeRecord}
+use Rattle.sheets.specs.declared.tree.TreeRecord.{TreeRecord}
 use Rattle.sheets.specs.Model.{Library, Tree}
 use Rattle.sheets.specs.Layout.{treeLaid}
 use Rattle.covers.specs.Tradeoff.{overfullNode}

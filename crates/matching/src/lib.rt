@@ -1,5 +1,5 @@
 // Which patterns match at a node of the subject tree. They are found once for a node, and serve every load and every deadline.
-use sheets::PatternRow;
+use sheets::library::PatternRow;
 ghost use mathlib.Core.Path.{_≡_};
 ghost use mathlib.Core.Bool.{Bool, cond, not};
 ghost use mathlib.Core.List.{[], map};
@@ -114,7 +114,7 @@ fn write_inputs<'a>(table: &mut [u32], walked: Walked, row: &'a [u32])
         let at = Row::INPUTS + Row::INPUT * k;
         let figures = PatternRow::FIGURES + PatternRow::PIN * walked.pins[k] as usize;
         table[at] = walked.nodes[k] as u32;
-        sheets::write_words(
+        sheets::library::write_words(
             table,
             at + Row::BIN,
             row[figures + PatternRow::BIN],
@@ -133,7 +133,7 @@ fn write_row<'a>(table: &mut [u32], walked: Walked, row: &'a [u32], pattern: usi
         now (table .exit) ≡ sets (now (table .entry)) 0 (matchRow l m)) ⌝ }
 {
     let illegal = first_illegal(row[PatternRow::HELD], row[PatternRow::HIGHEST]);
-    sheets::write_words(
+    sheets::library::write_words(
         table,
         Row::PATTERN,
         pattern as u32,

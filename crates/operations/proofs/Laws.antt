@@ -1,11 +1,11 @@
 -- From the records that the readers hand over to what the core is given, and from what it answers to the reply, the output and the work area.
 use mathlib.Core.Path.{_≡_, refl, sym, ap, ap₂, subst, _∙_}
 use mathlib.Core.Bool.{Bool, true, false}
-use mathlib.Core.List.{List, _++_}
+use mathlib.Core.List.{List, [], _∷_, _++_, map, reverse, zipWith}
 use mathlib.Core.Option.{Option, none, some}
 use Prim.Native.Nat.{ℕ, _+_, _-_, _*_, _≤_, _<_, _^_}
 use native.Mathlib.Omega.{arith}
-use lib.ListN.{length, getD, take, drop, replicate, length-replicate, List·getD-append, length-append}
+use lib.ListN.{length, getD, take, drop, replicate, length-replicate, length-take, length-map, length-reverse}
 use lib.Seq.{take-append-seam, drop-append-seam}
 use borrow.Rule.Slice.PartMut.{midOf, putMid, mid-len, drop-put}
 use borrow.Author.Tests.{le-leb, lt-leb}
@@ -18,21 +18,23 @@ use Rattle.fields.specs.Reading.{start, place}
 use Rattle.fields.specs.Promises.{Live}
 use Rattle.fields.specs.Answer.{Answer, refused, success, onSuccess, places, Bounded}
 use Rattle.fields.proofs.Lists.{zeros-at}
-use Rattle.sheets.specs.declared.LibraryRecord.{LibraryRecord}
-use Rattle.sheets.specs.declared.TreeRecord.{TreeRecord}
-use Rattle.sheets.specs.declared.LibraryRead.{LibraryRead}
-use Rattle.sheets.specs.declared.TreeRead.{TreeRead}
+use Rattle.sheets.specs.declared.library.LibraryRecord.{LibraryRecord}
+use Rattle.sheets.specs.declared.tree.TreeRecord.{TreeRecord}
+use Rattle.sheets.specs.declared.library.LibraryRead.{LibraryRead}
+use Rattle.sheets.specs.declared.tree.TreeRead.{TreeRead}
 use Rattle.sheets.specs.Model.{Library, Tree, patterns}
-use Rattle.sheets.specs.Layout.{rowWords, patternTable, libraryLaid, treeLaid}
+use Rattle.sheets.specs.Layout.{rowWords, tableWords, patternRows, patternTable, libraryLaid, treeLaid}
 use Rattle.sheets.specs.LibrarySheet.{library as libraryOf}
 use Rattle.sheets.specs.TreeSheet.{tree as treeOf}
-use Rattle.sheets.specs.Promises.{LibraryIs, TreeIs}
+use Rattle.sheets.specs.Public.{LibraryIs, TreeIs}
 use Rattle.sheets.specs.Report.{libraryNumber, treeNumber}
 use Rattle.sheets.specs.Sound.{SoundTree}
+use Rattle.sheets.proofs.Tables.{length-table}
 use Rattle.sheets.proofs.Sound.{library-limits, tree-limits}
 use Rattle.covers.specs.Cover.{Point, Cover}
 use Rattle.covers.specs.Tradeoff.{nodes, overfull, overfullNode, tradeoffs}
 use Rattle.covers.specs.Choice.{choice}
+use Rattle.covers.specs.Curve.{pointOf}
 use Rattle.covers.specs.CoverSheet.{coverSheet, listSheet}
 use Rattle.covers.specs.Capacity.{capacity, workWords}
 use Rattle.covers.specs.Answer.{answered, nonempty, mapped, listed, mapAnswer, listAnswer}
@@ -43,14 +45,14 @@ use Rattle.covers.proofs.SheetLengths.{cover-sheet-fits, list-sheet-fits}
 use Rattle.covers.proofs.Demands.{observed-is}
 use Rattle.matching.specs.Found.{matchTable}
 use Rattle.filling.specs.Promises.{FillStart}
-use Rattle.results.specs.Public.{coverOf, pointsOf, Written}
+use Rattle.results.specs.Public.{placedOf, coverOf, pointsOf, Written}
 use Rattle.mapper.specs.declared.Finding.{Finding}
 use Rattle.mapper.specs.declared.Finding.the-variants as Finding
 use Rattle.mapper.specs.declared.Mapped.{Mapped}
 use Rattle.mapper.specs.declared.Listed.{Listed}
 use Rattle.mapper.specs.Found.{ofFinding, ofMapped, ofListed}
 use Rattle.operations.specs.declared.Task.{Task}
-use Rattle.operations.specs.declared.Task.the-variants.{Cover, Tradeoffs}
+use Rattle.operations.specs.declared.Task.the-variants as Task
 use Rattle.operations.specs.declared.Reply.{Reply}
 use Rattle.operations.specs.declared.Reply.the-variants as Reply
 use Rattle.operations.specs.Public.{ofReply, Operated}
@@ -83,6 +85,15 @@ start-of {l} {t} {library} {tree} g work work′ e =
       some-most = omega arith;
       bounded = omega arith;
     }
+
+-- There are no more rows than the table has room for.
+pub rows-long : {l : Library} {t : Tree} {library : LibraryRecord} {tree : TreeRecord} → Laid l t library tree → length (library .rows) ≡ tableWords
+unfolding libraryLaid
+rows-long {l} g = ap (λ (r : LibraryRecord). length (r .rows)) (g .read .library-is) ∙ length-table rowWords (replicate tableWords 0) 0 (patternRows (l .bins) (patterns l)) ∙ length-replicate {A = ℕ} tableWords 0
+
+pub total-few : {l : Library} {t : Tree} {library : LibraryRecord} {tree : TreeRecord} → Laid l t library tree → library .total ≤ 128
+unfolding libraryLaid
+total-few g = omega (arith, ap (λ (r : LibraryRecord). r .total) (g .read .library-is), g .read .sound .few-patterns)
 
 -- Cleared a second time, after the words in front were lent: those beyond are as they were.
 pub cleared-again : (n : ℕ) (work before part after : List ℕ) → before ≡ replicate n 0 ++ drop n work → length part ≡ length (midOf 0 (n - 0) before) → n ≤ length before → after ≡ replicate n 0 ++ drop n (putMid 0 (n - 0) before part) → after ≡ cleared n work
@@ -131,9 +142,19 @@ module _ (l : Library) (t : Tree) (g : SoundTree t) (entry exit : List ℕ) wher
       let said : refused n p ≡ listed capacity l t = ap (ofFinding (pointsOf (r .count) work)) (sym e) ∙ h in
       refusal-replied listSheet said (refused-bounded (overfullNode capacity l t) (nonempty (tradeoffs l (t .load) 0 (t .shape))) (λ j f. node-small l g f) (sym said)) k
 
+placed-few : (ns ps : List ℕ) → length (placedOf ns ps) ≤ length ns
+unfolding placedOf zipWith
+placed-few [] ps = omega arith
+placed-few (n ∷ ns) [] = omega arith
+placed-few (n ∷ ns) (p ∷ ps) = omega (arith, placed-few ns ps)
+
+points-few : (count : ℕ) (ws : List ℕ) → length (pointsOf count ws) ≤ count
+unfolding pointsOf
+points-few count ws = omega (arith, length-reverse (map pointOf (take count ws)), length-map (take count ws) pointOf, length-take count ws)
+
 pub map-found : (l : Library) (t : Tree) {entry exit : List ℕ} (r : Mapped) (n : ℕ) → ofMapped r ≡ mapped capacity l t → r .finding ≡ Finding.Found → r .cover .count ≤ 63 → Written (coverSheet (coverOf (r .cover))) entry exit n → Replied (mapAnswer capacity l t) entry exit (Reply.Sheet n)
 unfolding mapAnswer ofMapped ofFinding
-map-found l t r n h e few w = sheet-replied coverSheet (ap (ofFinding (coverOf (r .cover))) (sym e) ∙ h) w (omega (arith, w .bytes, cover-sheet-fits (coverOf (r .cover)) (omega (arith, few, cover-few (r .cover)))))
+map-found l t r n h e few w = sheet-replied coverSheet (ap (ofFinding (coverOf (r .cover))) (sym e) ∙ h) w (omega (arith, w .bytes, cover-sheet-fits (coverOf (r .cover)) (omega (arith, few, length-take (r .cover .count) (r .cover .nodes), placed-few (take (r .cover .count) (r .cover .nodes)) (take (r .cover .count) (r .cover .patterns))))))
 
 pub list-found : (l : Library) (t : Tree) {entry exit : List ℕ} (work : List ℕ) (r : Listed) (n : ℕ) → ofListed work r ≡ listed capacity l t → r .finding ≡ Finding.Found → r .count ≤ capacity → Written (listSheet (pointsOf (r .count) work)) entry exit n → Replied (listAnswer capacity l t) entry exit (Reply.Sheet n)
 unfolding listAnswer ofListed ofFinding
@@ -150,32 +171,36 @@ worked f none (some a) work = refl
 
 task-worked : (task : Task) (l : Library) (t : Tree) (work : List ℕ) → workAfter (taskAnswer task capacity l t) work ≡ cleared (workWords capacity) work
 unfolding taskAnswer mapAnswer mapped listAnswer listed
-task-worked Cover l t work = worked coverSheet (overfullNode capacity l t) (choice l (t .load) 0 (t .shape) (t .required)) work
-task-worked Tradeoffs l t work = worked listSheet (overfullNode capacity l t) (nonempty (tradeoffs l (t .load) 0 (t .shape))) work
+task-worked Task.Cover l t work = worked coverSheet (overfullNode capacity l t) (choice l (t .load) 0 (t .shape) (t .required)) work
+task-worked Task.Tradeoffs l t work = worked listSheet (overfullNode capacity l t) (nonempty (tradeoffs l (t .load) 0 (t .shape))) work
 
 -- After a refusal of a sheet it is as it was.
-library-spared : (f : Fault) → leavesZero (libraryNumber f) ≡ false
-unfolding leavesZero libraryNumber
-library-spared Truncated = refl
-library-spared Tail = refl
-library-spared Range = refl
-library-spared Drawing = refl
-library-spared Size = refl
+-- And its number fits a word.
+abbrev Spares : ℕ → Type 0
+Spares n = (leavesZero n ≡ false) × (1 ≤ n) × (n ≤ 255)
 
-tree-spared : (f : Fault) → leavesZero (treeNumber f) ≡ false
+library-spared : (f : Fault) → Spares (libraryNumber f)
+unfolding leavesZero libraryNumber
+library-spared Truncated = (refl, omega arith, omega arith)
+library-spared Tail = (refl, omega arith, omega arith)
+library-spared Range = (refl, omega arith, omega arith)
+library-spared Drawing = (refl, omega arith, omega arith)
+library-spared Size = (refl, omega arith, omega arith)
+
+tree-spared : (f : Fault) → Spares (treeNumber f)
 unfolding leavesZero treeNumber libraryNumber
-tree-spared Truncated = refl
-tree-spared Tail = refl
-tree-spared Range = refl
-tree-spared Drawing = refl
-tree-spared Size = refl
+tree-spared Truncated = (refl, omega arith, omega arith)
+tree-spared Tail = (refl, omega arith, omega arith)
+tree-spared Range = (refl, omega arith, omega arith)
+tree-spared Drawing = (refl, omega arith, omega arith)
+tree-spared Size = (refl, omega arith, omega arith)
 
 -- A refusal that leaves the work area as it was: output and work area are untouched.
-untouched : (output work : List ℕ) (number place n : ℕ) → n ≡ number → leavesZero number ≡ false → Bounded (refused number place) → Operated (refused number place) output output work work (Reply.Refused n place)
-unfolding told onSuccess outputAfter workAfter ofReply
-untouched output work number place n k spared bounded =
+untouched : (output work : List ℕ) (number place n : ℕ) → n ≡ number → Spares number → place < places → Operated (refused number place) output output work work (Reply.Refused n place)
+unfolding told onSuccess outputAfter workAfter ofReply Bounded
+untouched output work number place n k spared near =
     subst (λ (m : ℕ). Operated (refused number place) output output work work (Reply.Refused m place)) (sym k)
-    (record { reply-is = refl; leaves = record { output-is = refl; work-is = rw spared refl }; bounded = bounded })
+    (record { reply-is = refl; leaves = record { output-is = refl; work-is = rw (spared .0) refl }; bounded = (spared .1, spared .2, near) })
 
 -- ---- a tree, sound or not
 
@@ -189,11 +214,11 @@ module _ (ts : List ℕ) (read : TreeRead) (h : TreeIs ts read) where
       subst (λ (o : Answer (List ℕ)). Operated o output output′ work work′ r) (ap (λ (q : Scan). withTree (taskAnswer task capacity l) (treeOf ts start .0, q)) (sym e ∙ h .scan-is))
       (record { reply-is = p .reply-is; leaves = record { output-is = p .output-is; work-is = w ∙ sym (task-worked task l (treeOf ts start .0) work) }; bounded = p .bounded })
 
-  pub tree-not-sound : (answer : Tree → Answer (List ℕ)) (output work : List ℕ) (f : Fault) (p n : ℕ) → read .scan ≡ Refused f p → (n ≡ treeNumber f) × (1 ≤ n) × (n ≤ 16) → Operated (withTree answer (treeOf ts start)) output output work work (Reply.Refused n p)
-  unfolding withTree Bounded
+  pub tree-not-sound : (answer : Tree → Answer (List ℕ)) (output work : List ℕ) (f : Fault) (p n : ℕ) → read .scan ≡ Refused f p → n ≡ treeNumber f → Operated (withTree answer (treeOf ts start)) output output work work (Reply.Refused n p)
+  unfolding withTree
   tree-not-sound answer output work f p n e k =
       subst (λ (o : Answer (List ℕ)). Operated o output output work work (Reply.Refused n p)) (ap (λ (q : Scan). withTree answer (treeOf ts start .0, q)) (sym e ∙ h .scan-is))
-      (untouched output work (treeNumber f) p n (k .0) (tree-spared f) (omega (arith, k), omega (arith, k), omega (arith, h .near, ap place e)))
+      (untouched output work (treeNumber f) p n k (tree-spared f) (omega (arith, h .near, ap place e)))
 
 -- ---- a library, sound or not
 
@@ -220,8 +245,8 @@ module _ (least : ℕ) (answer : ℕ → Library → Tree → Answer (List ℕ))
   inner = withLibrary (answer capacity) (libraryOf ls start) (treeOf ts start)
 
   pub lent-short : lent least (length output) (length work) inner ≡ refused 1 0 → Operated (operation least answer ls ts (length output) (length work)) output output work work (Reply.Refused 1 0)
-  unfolding operation leavesZero Bounded
-  lent-short e = subst (λ (o : Answer (List ℕ)). Operated o output output work work (Reply.Refused 1 0)) (sym e) (untouched output work 1 0 1 refl refl (omega arith, omega arith, omega arith))
+  unfolding operation leavesZero
+  lent-short e = subst (λ (o : Answer (List ℕ)). Operated o output output work work (Reply.Refused 1 0)) (sym e) (untouched output work 1 0 1 refl (refl, omega arith, omega arith) (omega arith))
 
   module _ (long : least ≤ length output) (room : workWords capacity ≤ length work) (read : LibraryRead) (h : LibraryIs ls read) where
     pub library-answered : {output′ work′ : List ℕ} {r : Reply} (c : Cursor) → read .scan ≡ At c → Operated (withTree (answer capacity (libraryOf ls start .0)) (treeOf ts start)) output output′ work work′ r → Operated (operation least answer ls ts (length output) (length work)) output output′ work work′ r
@@ -230,12 +255,12 @@ module _ (least : ℕ) (answer : ℕ → Library → Tree → Answer (List ℕ))
         subst (λ (o : Answer (List ℕ)). Operated o output output′ work work′ r)
         (ap (λ (q : Scan). withLibrary (answer capacity) (libraryOf ls start .0, q) (treeOf ts start)) (sym e ∙ h .scan-is) ∙ sym (enough least (length output) (length work) inner long room)) p
 
-    pub library-not-sound : (f : Fault) (p n : ℕ) → read .scan ≡ Refused f p → (n ≡ libraryNumber f) × (1 ≤ n) × (n ≤ 6) → Operated (operation least answer ls ts (length output) (length work)) output output work work (Reply.Refused n p)
-    unfolding operation withLibrary Bounded
+    pub library-not-sound : (f : Fault) (p n : ℕ) → read .scan ≡ Refused f p → n ≡ libraryNumber f → Operated (operation least answer ls ts (length output) (length work)) output output work work (Reply.Refused n p)
+    unfolding operation withLibrary
     library-not-sound f p n e k =
         subst (λ (o : Answer (List ℕ)). Operated o output output work work (Reply.Refused n p))
         (ap (λ (q : Scan). withLibrary (answer capacity) (libraryOf ls start .0, q) (treeOf ts start)) (sym e ∙ h .scan-is) ∙ sym (enough least (length output) (length work) inner long room))
-        (untouched output work (libraryNumber f) p n (k .0) (library-spared f) (omega (arith, k), omega (arith, k), omega (arith, h .near, ap place e)))
+        (untouched output work (libraryNumber f) p n k (library-spared f) (omega (arith, h .near, ap place e)))
 
 -- The caller sees the outcome, and so what is demanded of it.
 pub seen : {o : Answer (List ℕ)} {output output′ work work′ : List ℕ} {r : Reply} → Operated o output output′ work work′ r → observed (ofReply r) output′ ≡ o

@@ -2,11 +2,11 @@
 use fields::Scan;
 use mapper::Finding;
 use mapper::Numbers;
-use sheets::Bins;
-use sheets::LibraryRecord;
+use sheets::library::Bins;
+use sheets::library::LibraryRecord;
 use sheets::Limits;
-use sheets::PatternRow;
-use sheets::TreeRecord;
+use sheets::library::PatternRow;
+use sheets::tree::TreeRecord;
 ghost use mathlib.Core.Path.{_≡_};
 ghost use Prim.Native.Nat.{_≤_};
 ghost use lib.ListN.{length, replicate};
@@ -143,11 +143,11 @@ fn with_library(
     ensures { λ r. ⌜ ((l : Library) → LibraryLaid l library →
         Operated (withTree (taskAnswer task capacity l) (treeOf (now (tree .entry)) start)) (now (output .entry)) (now (output .exit)) (now (work .entry)) (now (work .exit)) r) ⌝ }
 {
-    let read = sheets::read_tree(tree);
+    let read = sheets::tree::read_tree(tree);
     let scan = read.scan;
     match scan {
         Scan::At(_) => with_records(task, library, read.tree, output, work),
-        Scan::Refused(fault, place) => Reply::Refused(sheets::tree_number(fault), place),
+        Scan::Refused(fault, place) => Reply::Refused(sheets::tree::tree_number(fault), place),
     }
 }
 
@@ -161,11 +161,11 @@ fn operate(task: Task, library: &[u8], tree: &[u8], output: &mut [u8], work: &mu
     if work.len() < Limits::WORK {
         return Reply::Refused(Numbers::SHORT, 0);
     }
-    let read = sheets::read_library(library);
+    let read = sheets::library::read_library(library);
     let scan = read.scan;
     match scan {
         Scan::At(_) => with_library(task, read.library, tree, output, work),
-        Scan::Refused(fault, place) => Reply::Refused(sheets::library_number(fault), place),
+        Scan::Refused(fault, place) => Reply::Refused(sheets::library::library_number(fault), place),
     }
 }
 

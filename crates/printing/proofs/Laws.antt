@@ -14,11 +14,11 @@ use borrow.Author.Tests.{lt-ltb, le-ltb, ltb-false, le-leb, lt-leb}
 use Rattle.fields.specs.Promises.{Live}
 use Rattle.fields.specs.Reading.{start}
 use Rattle.fields.proofs.Lists.{at-mem}
-use Rattle.sheets.specs.declared.LibraryRead.{LibraryRead}
-use Rattle.sheets.specs.declared.LibraryRecord.{LibraryRecord}
+use Rattle.sheets.specs.declared.library.LibraryRead.{LibraryRead}
+use Rattle.sheets.specs.declared.library.LibraryRecord.{LibraryRecord}
 use Rattle.sheets.specs.LibrarySheet.{library as libraryOf}
 use Rattle.sheets.specs.Layout.{rowWords}
-use Rattle.sheets.specs.Promises.{LibraryIs}
+use Rattle.sheets.specs.Public.{LibraryIs}
 use Rattle.covers.specs.Cover.{Placed, Cover}
 use Rattle.results.specs.declared.CoverRecord.{CoverRecord}
 use Rattle.results.specs.declared.CoverRead.{CoverRead}

@@ -2,7 +2,7 @@
 use operations::Reply;
 use results::CoverRecord;
 use sheets::Limits;
-use sheets::PatternRow;
+use sheets::library::PatternRow;
 ghost use mathlib.Core.Path.{_≡_};
 ghost use Prim.Native.Nat.{_+_, _*_, _<_, _≤_};
 ghost use lib.ListN.{length};
@@ -106,7 +106,7 @@ fn put_sheet(text: &mut [u8], sheet: &[u8], library: &[u8]) -> usize
     requires { ⌜ Live (libraryOf (now library) start .1) × Printable (rowsOf (now library)) (coverIn (now sheet)) (now text) ⌝ }
     ensures { λ r. ⌜ Appended (rowText (rowsOf (now (library .entry))) (coverIn (now (sheet .entry)))) (now (text .entry)) 0 (now (text .exit)) r ⌝ }
 {
-    let read = sheets::read_library(library);
+    let read = sheets::library::read_library(library);
     let decoded = read.library;
     let rows = decoded.rows;
     let found = results::read_cover(sheet);

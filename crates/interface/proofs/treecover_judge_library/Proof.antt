@@ -2,7 +2,7 @@ use borrow.Author.Needs.{needs}
 use native.Mathlib.Omega.{arith}
 use Prim.Native.Nat.{ℕ, _+_, _*_, _^_}
 use mathlib.Core.Path.{sym, ap, subst, _∙_}
-use Rattle.sheets.specs.declared.LibraryJudged.{LibraryJudged}
+use Rattle.sheets.specs.declared.library.LibraryJudged.{LibraryJudged}
 use Rattle.sheets.specs.Report.{ofLibraryJudged, word, Limited}
 use Rattle.interface.proofs.treecover_judge_library.Statement.{statement}
 use Rattle.interface.proofs.treecover_judge_library.Tie as tie

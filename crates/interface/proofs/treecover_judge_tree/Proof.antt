@@ -2,7 +2,7 @@ use borrow.Author.Needs.{needs}
 use native.Mathlib.Omega.{arith}
 use Prim.Native.Nat.{ℕ, _+_, _*_, _^_}
 use mathlib.Core.Path.{sym, ap, subst, _∙_}
-use Rattle.sheets.specs.declared.TreeJudged.{TreeJudged}
+use Rattle.sheets.specs.declared.tree.TreeJudged.{TreeJudged}
 use Rattle.sheets.specs.Report.{ofTreeJudged, word, Limited}
 use Rattle.interface.proofs.treecover_judge_tree.Statement.{statement}
 use Rattle.interface.proofs.treecover_judge_tree.Tie as tie

@@ -15,7 +15,7 @@ use Rattle.matching.proofs.write_inputs.Statement.{statement}
 use Rattle.matching.proofs.write_inputs.Tie as tie
 use Rattle.matching.proofs.write_inputs.Reads as reads
 use Rattle.matching.proofs.write_inputs.Lts as lts
-use Rattle.sheets.proofs.write_words.Reads as write-words-reads
+use Rattle.sheets.proofs.library.write_words.Reads as write-words-reads
 
 abbrev Inv-loop : tie.InvT-loop
 Inv-loop table₀ row walked count k₀ table k =

@@ -8,7 +8,7 @@ use Rattle.matching.proofs.write_row.Reads as reads
 use Rattle.matching.proofs.write_row.Lts as lts
 use Rattle.matching.proofs.first_illegal.Reads as first-illegal-reads
 use Rattle.matching.proofs.write_inputs.Reads as write-inputs-reads
-use Rattle.sheets.proofs.write_words.Reads as write-words-reads
+use Rattle.sheets.proofs.library.write_words.Reads as write-words-reads
 
 shared-slice-read-first-illegal : tie.Need-shared-slice-read-first-illegal
 shared-slice-read-first-illegal c = omega (arith, c .before .before .before .pre .2 .1 .1 .cell .long)

@@ -1,6 +1,6 @@
 use borrow.Author.Needs.{needs}
 use mathlib.Core.Path.{sym, ap}
-use Rattle.mapper.specs.Promises.{leastOutput}
+use Rattle.operations.specs.Inside.{leastOutput}
 use Rattle.operations.proofs.least_output.Statement.{statement}
 use Rattle.operations.proofs.least_output.Tie as tie
 use Rattle.operations.proofs.least_output.Reads as reads

@@ -1,10 +1,10 @@
 use borrow.Author.Needs.{needs}
 use mathlib.Core.Path.{sym, subst}
 use lib.ListN.{length}
-use Rattle.covers.specs.Outcome.{listOutcome}
+use Rattle.covers.specs.Outcome.{listBytes, listOutcome}
 use Rattle.covers.specs.Demands.{ListDemands, WhereSound}
 use Rattle.covers.proofs.Demands.{list-demands}
-use Rattle.mapper.specs.Promises.{leastOutput, taskAnswer}
+use Rattle.operations.specs.Inside.{leastOutput, taskAnswer}
 use Rattle.operations.proofs.Laws.{seen}
 use Rattle.operations.proofs.list.Statement.{statement}
 use Rattle.operations.proofs.list.Tie as tie
@@ -26,7 +26,7 @@ unfolding listOutcome leastOutput taskAnswer
 returns c =
     let a = c .before .before .before .before .before .before .before .before .before .before .before .args in
     let done = c .before .before .before .before .operate .ensures in
-    (done, subst (WhereSound ListDemands 179 (a .library .now) (a .tree .now) (length (a .output .now)) (length (a .work .now))) (sym (seen done)) (list-demands (a .library .now) (a .tree .now) (length (a .output .now)) (length (a .work .now))))
+    (done, subst (WhereSound ListDemands listBytes (a .library .now) (a .tree .now) (length (a .output .now)) (length (a .work .now))) (sym (seen done)) (list-demands (a .library .now) (a .tree .now) (length (a .output .now)) (length (a .work .now))))
 
 pub list-spec : {M : Type 1} → statement M
 list-spec = tie.close (tie.spec operate-requires same-length same-length-2 returns)

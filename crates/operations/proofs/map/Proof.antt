@@ -1,10 +1,10 @@
 use borrow.Author.Needs.{needs}
 use mathlib.Core.Path.{sym, subst}
 use lib.ListN.{length}
-use Rattle.covers.specs.Outcome.{mapOutcome}
+use Rattle.covers.specs.Outcome.{mapBytes, mapOutcome}
 use Rattle.covers.specs.Demands.{MapDemands, WhereSound}
 use Rattle.covers.proofs.Demands.{map-demands}
-use Rattle.mapper.specs.Promises.{leastOutput, taskAnswer}
+use Rattle.operations.specs.Inside.{leastOutput, taskAnswer}
 use Rattle.operations.proofs.Laws.{seen}
 use Rattle.operations.proofs.map.Statement.{statement}
 use Rattle.operations.proofs.map.Tie as tie
@@ -26,7 +26,7 @@ unfolding mapOutcome leastOutput taskAnswer
 returns c =
     let a = c .before .before .before .before .before .before .before .before .before .before .before .args in
     let done = c .before .before .before .before .operate .ensures in
-    (done, subst (WhereSound MapDemands 109 (a .library .now) (a .tree .now) (length (a .output .now)) (length (a .work .now))) (sym (seen done)) (map-demands (a .library .now) (a .tree .now) (length (a .output .now)) (length (a .work .now))))
+    (done, subst (WhereSound MapDemands mapBytes (a .library .now) (a .tree .now) (length (a .output .now)) (length (a .work .now))) (sym (seen done)) (map-demands (a .library .now) (a .tree .now) (length (a .output .now)) (length (a .work .now))))
 
 pub map-spec : {M : Type 1} → statement M
 map-spec = tie.close (tie.spec operate-requires same-length same-length-2 returns)

@@ -4,17 +4,12 @@ use lib.ListN.{length}
 use Rattle.sheets.specs.LibrarySheet.{library as libraryOf}
 use Rattle.sheets.specs.TreeSheet.{tree as treeOf}
 use Rattle.fields.specs.Reading.{start}
-use Rattle.covers.specs.Outcome.{capacity, withLibrary}
-use Rattle.mapper.specs.Promises.{leastOutput, taskAnswer}
+use Rattle.covers.specs.Capacity.{capacity}
+use Rattle.covers.specs.Outcome.{withLibrary}
+use Rattle.operations.specs.Inside.{leastOutput, taskAnswer}
 use Rattle.operations.proofs.Laws.{library-laid, short-output, short-work, lent-short, library-answered, library-not-sound}
 use Rattle.operations.proofs.operate.Statement.{statement}
 use Rattle.operations.proofs.operate.Tie as tie
-use Rattle.operations.proofs.operate.Reads as reads
-use Rattle.operations.proofs.operate.Lts as lts
-use Rattle.operations.proofs.least_output.Reads as least-output-reads
-use Rattle.operations.proofs.with_library.Reads as with-library-reads
-use Rattle.sheets.proofs.library_number.Reads as library-number-reads
-use Rattle.sheets.proofs.read_library.Reads as read-library-reads
 
 least-output-requires : tie.Need-least-output-requires
 least-output-requires c κs = search needs
@@ -22,13 +17,13 @@ least-output-requires c κs = search needs
 returns : tie.Need-returns
 returns c =
     let a = c .before .before .before .before .before .before .args in
-    lent-short (leastOutput (a .task)) (taskAnswer (a .task) capacity) (a .library .now) (a .tree .now) (a .output .now) (a .work .now)
+    lent-short (leastOutput (a .task)) (taskAnswer (a .task)) (a .library .now) (a .tree .now) (a .output .now) (a .work .now)
     (short-output (leastOutput (a .task)) (length (a .output .now)) (length (a .work .now)) (withLibrary (taskAnswer (a .task) capacity) (libraryOf (a .library .now) start) (treeOf (a .tree .now) start)) (omega (arith, c .before .least-output .ensures)))
 
 returns-2 : tie.Need-returns-2
 returns-2 c =
     let a = c .before .before .before .before .before .before .before .args in
-    lent-short (leastOutput (a .task)) (taskAnswer (a .task) capacity) (a .library .now) (a .tree .now) (a .output .now) (a .work .now)
+    lent-short (leastOutput (a .task)) (taskAnswer (a .task)) (a .library .now) (a .tree .now) (a .output .now) (a .work .now)
     (short-work (leastOutput (a .task)) (length (a .output .now)) (length (a .work .now)) (withLibrary (taskAnswer (a .task) capacity) (libraryOf (a .library .now) start) (treeOf (a .tree .now) start)) (omega (arith, c .before .before .least-output .ensures)) (omega arith))
 
 read-library-requires : tie.Need-read-library-requires
@@ -61,7 +56,7 @@ returns-3 c =
     let a = c .before .before .before .before .before .before .before .before .before .before .before .before .before .before .before .before .before .args in
     let read = c .before .before .before .before .before .before .before .before .before .read-library in
     let told = c .before .before .before .before .before .before .before .enum-told .given in
-    library-answered (leastOutput (a .task)) (taskAnswer (a .task) capacity) (a .library .now) (a .tree .now) (a .output .now) (a .work .now) (omega (arith, c .before .before .before .before .before .before .before .before .before .before .before .before .least-output .ensures)) (omega arith) (read .result) (read .ensures) (told .0 .0) (told .1)
+    library-answered (leastOutput (a .task)) (taskAnswer (a .task)) (a .library .now) (a .tree .now) (a .output .now) (a .work .now) (omega (arith, c .before .before .before .before .before .before .before .before .before .before .before .before .least-output .ensures)) (omega arith) (read .result) (read .ensures) (told .0 .0) (told .1)
     (c .before .before .before .before .with-library .ensures (libraryOf (a .library .now) start .0) (library-laid (a .library .now) (read .result) (read .ensures) (told .0 .0) (told .1)))
 
 returns-4 : tie.Need-returns-4
@@ -69,7 +64,7 @@ returns-4 c =
     let a = c .before .before .before .before .before .before .before .before .before .before .before .before .args in
     let read = c .before .before .before .before .read-library in
     let told = c .before .before .scan .given in
-    library-not-sound (leastOutput (a .task)) (taskAnswer (a .task) capacity) (a .library .now) (a .tree .now) (a .output .now) (a .work .now) (omega (arith, c .before .before .before .before .before .before .before .least-output .ensures)) (omega arith) (read .result) (read .ensures) (told .0 .0) (told .0 .1 .0) (c .library-number .result) (told .1) (c .library-number .ensures)
+    library-not-sound (leastOutput (a .task)) (taskAnswer (a .task)) (a .library .now) (a .tree .now) (a .output .now) (a .work .now) (omega (arith, c .before .before .before .before .before .before .before .least-output .ensures)) (omega arith) (read .result) (read .ensures) (told .0 .0) (told .0 .1 .0) (c .library-number .result) (told .1) (c .library-number .ensures .0)
 
 pub operate-spec : {M : Type 1} → statement M
 operate-spec =

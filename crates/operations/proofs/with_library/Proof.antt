@@ -1,16 +1,11 @@
 use borrow.Author.Needs.{needs}
 use Rattle.sheets.specs.TreeSheet.{tree as treeOf}
 use Rattle.fields.specs.Reading.{start}
-use Rattle.covers.specs.Outcome.{capacity}
-use Rattle.mapper.specs.Promises.{taskAnswer}
+use Rattle.covers.specs.Capacity.{capacity}
+use Rattle.operations.specs.Inside.{taskAnswer}
 use Rattle.operations.proofs.Laws.{tree-laid, tree-answered, tree-not-sound}
 use Rattle.operations.proofs.with_library.Statement.{statement}
 use Rattle.operations.proofs.with_library.Tie as tie
-use Rattle.operations.proofs.with_library.Reads as reads
-use Rattle.operations.proofs.with_library.Lts as lts
-use Rattle.operations.proofs.with_records.Reads as with-records-reads
-use Rattle.sheets.proofs.read_tree.Reads as read-tree-reads
-use Rattle.sheets.proofs.tree_number.Reads as tree-number-reads
 
 read-tree-requires : tie.Need-read-tree-requires
 read-tree-requires c κs = search needs
@@ -45,14 +40,14 @@ returns c l laid =
     let told = c .before .before .before .before .before .before .before .enum-told .given in
     let call = c .before .before .before .before .with-records in
     let ts = first .args .tree .now in
-    tree-answered ts (read .result) (read .ensures) (taskAnswer (first .args .task) capacity l) (told .0 .0) (told .1) (call .ensures .1 l (treeOf ts start .0) (tree-laid ts (read .result) (read .ensures) laid (told .0 .0) (told .1))) (call .ensures .0)
+    tree-answered ts (read .result) (read .ensures) (first .args .task) l (told .0 .0) (told .1) (call .ensures .1 l (treeOf ts start .0) (tree-laid ts (read .result) (read .ensures) laid (told .0 .0) (told .1))) (call .ensures .0)
 
 returns-2 : tie.Need-returns-2
 returns-2 c l laid =
     let first = c .before .before .before .before .before .before .before .before in
     let read = c .before .before .before .before .read-tree in
     let told = c .before .before .scan .given in
-    tree-not-sound (first .args .tree .now) (read .result) (read .ensures) (taskAnswer (first .args .task) capacity l) (first .args .output .now) (first .args .work .now) (told .0 .0) (told .0 .1 .0) (c .tree-number .result) (told .1) (c .tree-number .ensures)
+    tree-not-sound (first .args .tree .now) (read .result) (read .ensures) (taskAnswer (first .args .task) capacity l) (first .args .output .now) (first .args .work .now) (told .0 .0) (told .0 .1 .0) (c .tree-number .result) (told .1) (c .tree-number .ensures .0)
 
 pub with-library-spec : {M : Type 1} → statement M
 with-library-spec =
