@@ -4,13 +4,14 @@ use results::CoverRecord;
 use sheets::Limits;
 use sheets::library::PatternRow;
 ghost use mathlib.Core.Path.{_≡_};
-ghost use Prim.Native.Nat.{_+_, _*_, _<_, _≤_};
+ghost use Prim.Native.Nat.{_+_, _*_, _<_, _≤_, _^_};
 ghost use lib.ListN.{length};
 ghost use Rattle.io.specs.Counts.{Counts};
 ghost use Rattle.fields.specs.Promises.{Live};
 ghost use Rattle.fields.specs.Reading.{start};
 ghost use Rattle.sheets.specs.LibrarySheet.{library as libraryOf};
 ghost use Rattle.sheets.specs.Layout.{rowWords};
+ghost use Rattle.covers.specs.CoverSheet.{matchCountWidth};
 ghost use Rattle.results.specs.Public.{coverOf, Written};
 ghost use Rattle.lines.specs.Text.{Appended};
 ghost use Rattle.printing.specs.Printed.{coverLine, refusalLine, spoiledLine, mapText, spoiled, longestText, printedWithin};
@@ -77,7 +78,7 @@ fn put_match(text: &mut [u8], at: usize, node: u8, pattern: u8, rows: &[u32]) ->
 
 // A line for each match of a cover.
 fn put_matches(text: &mut [u8], from: usize, cover: CoverRecord, rows: &[u32]) -> usize
-    requires { ⌜ (cover .count ≤ 63) × HaveRows (now rows) (coverOf cover .placed) × (from + length (rowLines (now rows) (coverOf cover .placed)) ≤ length (now text)) ⌝ }
+    requires { ⌜ (cover .count < 2 ^ matchCountWidth) × HaveRows (now rows) (coverOf cover .placed) × (from + length (rowLines (now rows) (coverOf cover .placed)) ≤ length (now text)) ⌝ }
     ensures { λ r. ⌜ Appended (rowLines (now (rows .entry)) (coverOf cover .placed)) (now (text .entry)) from (now (text .exit)) r ⌝ }
 {
     let count = cover.count;
@@ -94,7 +95,7 @@ fn put_matches(text: &mut [u8], from: usize, cover: CoverRecord, rows: &[u32]) -
 
 // The text of a cover.
 fn put_cover(text: &mut [u8], cover: CoverRecord, rows: &[u32]) -> usize
-    requires { ⌜ (cover .count ≤ 63) × Printable (now rows) (coverOf cover) (now text) ⌝ }
+    requires { ⌜ (cover .count < 2 ^ matchCountWidth) × Printable (now rows) (coverOf cover) (now text) ⌝ }
     ensures { λ r. ⌜ Appended (rowText (now (rows .entry)) (coverOf cover)) (now (text .entry)) 0 (now (text .exit)) r ⌝ }
 {
     let at = put_head(text, cover.area, cover.arrival, cover.count);
