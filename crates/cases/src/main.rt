@@ -5,9 +5,9 @@
 //   4 treecover: the input's length, the input.
 use libc::STDOUT_FILENO;
 use mapper::Numbers;
-use mapper::Reply;
-use sheets::library::LibraryJudged;
+use operations::Reply;
 use sheets::Limits;
+use sheets::library::LibraryJudged;
 use sheets::tree::TreeJudged;
 ghost use Prim.Native.Nat.{_+_, _<_, _≤_};
 ghost use lib.ListN.{length};
@@ -71,7 +71,7 @@ fn run_library(sheet: &[u8]) {
             write_number(patterns as u64);
             end_line();
         }
-        LibraryJudged::Refused(fault, place) => write_refusal(sheets::library::library_number(fault), place),
+        LibraryJudged::Refused(number, place) => write_refusal(number, place),
     }
 }
 
@@ -84,7 +84,7 @@ fn run_tree(sheet: &[u8]) {
             write_number(nodes as u64);
             end_line();
         }
-        TreeJudged::Refused(fault, place) => write_refusal(sheets::tree::tree_number(fault), place),
+        TreeJudged::Refused(number, place) => write_refusal(number, place),
     }
 }
 

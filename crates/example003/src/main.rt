@@ -1,14 +1,16 @@
 // The example of source document 003: its least arrival and its whole list. Standard input is as treecover's: the library's length in two
 // bytes, high byte first, the library, and the tree as all that is left. Prints "list" and the count, then a line of arrival and area for
 // each trade-off; or "refused", number, place.
-use bits::Cursor;
-use bits::Field;
+use fields::Scan;
 use libc::STDOUT_FILENO;
-use mapper::Reply;
+use operations::Reply;
 use printing::Text;
+use results::Sheet;
 use sheets::Limits;
-use writing::Sheet;
-ghost use Prim.Native.Nat.{_<_, _≤_, _^_};
+ghost use Prim.Native.Nat.{_+_, _*_, _≤_};
+ghost use Rattle.fields.specs.Reading.{place};
+ghost use Rattle.covers.specs.Capacity.{capacity};
+ghost use Rattle.covers.specs.CoverSheet.{arrivalWidth, areaWidth, pointCountWidth};
 
 fn write_word(word: &[u8]) {
     io::write_all(STDOUT_FILENO, word);
@@ -18,47 +20,41 @@ fn write_number(n: u64) {
     io::print_decimal(STDOUT_FILENO, n);
 }
 
-// A number of a sheet; 0 where the sheet has ended.
-fn number_at(sheet: &[u8], at: usize, width: usize) -> u32
-    requires { ⌜ (at < 2 ^ 32) × (width ≤ 24) ⌝ }
+// The trade-off at the scan, and the scan after it.
+fn write_point(scan: Scan, sheet: &[u8]) -> Scan
+    requires { ⌜ place scan ≤ pointCountWidth + (arrivalWidth + areaWidth) * capacity ⌝ }
+    ensures { λ r. ⌜ place r ≤ place scan + (arrivalWidth + areaWidth) ⌝ }
 {
-    let cursor = Cursor { at };
-    let field = cursor.field(sheet, width);
-    match field {
-        Field::Value(v, _) => v,
-        Field::Truncated => 0,
-    }
-}
-
-// The trade-off at place `at`.
-fn write_point(sheet: &[u8], at: usize)
-    requires { ⌜ at < 65536 ⌝ }
-{
-    write_number(number_at(sheet, at, Sheet::ARRIVAL) as u64);
+    let arrival = fields::raw(scan, sheet, Sheet::ARRIVAL);
+    let at = arrival.scan;
+    let area = fields::raw(at, sheet, Sheet::AREA);
+    write_number(arrival.value as u64);
     write_word(b" ");
-    write_number(number_at(sheet, at + Sheet::ARRIVAL, Sheet::AREA) as u64);
+    write_number(area.value as u64);
     write_word(b"\n");
+    area.scan
 }
 
-// The first `count` trade-offs of a list sheet.
-fn write_points(sheet: &[u8], count: u32) {
-    let mut k: usize = 0;
-    while k < Limits::POINTS {
-        if count as usize <= k {
-            return;
-        }
-        write_point(sheet, Sheet::POINTS_AT + Sheet::POINT * k);
+// The next `count` trade-offs of a list sheet.
+fn write_points(scan: Scan, sheet: &[u8], count: u32)
+    requires { ⌜ (place scan ≤ pointCountWidth) × (count ≤ capacity) ⌝ }
+{
+    let mut at = scan;
+    let mut k: u32 = 0;
+    while k < count {
+        at = write_point(at, sheet);
         k += 1;
     }
 }
 
 // A list sheet: its count, and every trade-off.
 fn write_list(sheet: &[u8]) {
-    let count = number_at(sheet, 0, Sheet::POINT_COUNT);
+    let count = fields::raw(fields::begin(), sheet, Sheet::POINT_COUNT);
+    let at = count.scan;
     write_word(b"list ");
-    write_number(count as u64);
+    write_number(count.value as u64);
     write_word(b"\n");
-    write_points(sheet, count);
+    write_points(at, sheet, count.value);
 }
 
 // The reply, with the sheet that it points at.

@@ -2,9 +2,8 @@
 use Prim.Native.Nat.{ℕ, zero, suc, _+_, _-_, _*_, _≤_, _<_}
 use mathlib.Core.Path.{_≡_, refl, sym, ap, ap₂, subst, _∙_}
 use mathlib.Core.Bool.{Bool, true, false, _||_, true≢false}
-use mathlib.Core.List.{List, [], _∷_, _++_}
-use native.Mathlib.Nat.{zero-add}
-use native.Mathlib.Decide.{decLt}
+use mathlib.Core.List.{List, [], _∷_, _++_, zipWith, flatMap, append-nil, append-assoc, List·Memᴰ}
+use native.Mathlib.Nat.{add-zero, zero-add}
 use native.Mathlib.Omega.{arith}
 use native.Mathlib.Numerals.{add-one}
 use lib.Dec.{ltb}
@@ -12,24 +11,23 @@ use lib.ListN.{length, take, drop, getD, length-append, length-drop}
 use lib.Seq.{take-all, length-take-le}
 use Rattle.io.specs.Counts.{Counts}
 use borrow.Author.Tests.{lt-ltb, le-ltb, ltb-false, le-leb, lt-leb}
-use Rattle.bits.specs.declared.Field.the-variants.{Value}
-use Rattle.bits.specs.Bits.{valueAt, cursorAt, fieldAt}
 use Rattle.fields.specs.Promises.{Live}
+use Rattle.fields.specs.Reading.{start}
+use Rattle.fields.proofs.Lists.{at-mem}
 use Rattle.sheets.specs.declared.library.LibraryRead.{LibraryRead}
 use Rattle.sheets.specs.declared.library.LibraryRecord.{LibraryRecord}
 use Rattle.sheets.specs.LibrarySheet.{library as libraryOf}
+use Rattle.sheets.specs.Layout.{rowWords}
 use Rattle.sheets.specs.Public.{LibraryIs}
-use Rattle.fields.specs.Reading.{start}
-use Rattle.writing.specs.Written.{Written}
+use Rattle.covers.specs.Cover.{Placed, Cover}
+use Rattle.results.specs.declared.CoverRecord.{CoverRecord}
+use Rattle.results.specs.declared.CoverRead.{CoverRead}
+use Rattle.results.specs.Public.{placedOf, coverOf, Written, CoverIs}
+use Rattle.results.proofs.Laws.{placed-length}
 use Rattle.lines.specs.Text.{decimal, spaced, line, Appended}
-use Rattle.lines.proofs.Laws.{length-spaced, length-line, appended-both}
-use Rattle.printing.specs.Printed.{coverWord, refusedWord, coverLine, refusalLine, spoiledLine, mapText, statedLength, spoiled, printed, printedWithin}
-use Rattle.printing.specs.Fields.{rowsOf, areaIn, arrivalIn, countIn, nodeIn, patternIn, fieldLine, fieldLines, sheetText}
-
--- A field that the bytes have.
-pub field-there : (s : List ℕ) (at width : ℕ) → at + width ≤ 8 * length s → fieldAt s at width ≡ Value (valueAt s at width) (cursorAt (at + width))
-unfolding fieldAt
-field-there s at width h = rw (le-leb (at + width) (8 * length s) h)
+use Rattle.lines.proofs.Laws.{length-spaced, length-line, appended-none, appended-both}
+use Rattle.printing.specs.Printed.{coverWord, refusedWord, coverLine, refusalLine, spoiledLine, mapText, statedLength, spoiled, printed, longestText, printedWithin}
+use Rattle.printing.specs.Rows.{rowsOf, coverIn, rowLine, rowLines, rowText, HaveRows, Printable}
 
 -- ---- how long a line is, by what is put for it
 
@@ -41,39 +39,91 @@ pub refusal-length : (n p : ℕ) → length (refusalLine n p) ≡ 7 + length (sp
 unfolding refusalLine
 refusal-length n p = length-line refusedWord (decimal n ∷ decimal p ∷ [])
 
+-- The line of a match, as it is put.
+module _ (rows : List ℕ) (node pattern : ℕ) where
+  pub row-line : decimal node ++ spaced (decimal (getD rows (rowWords * pattern + 0) 0) ∷ decimal pattern ∷ []) ≡ rowLine rows (record { node = node; pattern = pattern })
+  unfolding rowLine line
+  row-line = ap (λ (i : ℕ). decimal node ++ spaced (decimal (getD rows i 0) ∷ decimal pattern ∷ [])) (add-zero (rowWords * pattern))
+
+  pub row-line-length : length (rowLine rows (record { node = node; pattern = pattern })) ≡ length (decimal node) + length (spaced (decimal (getD rows (rowWords * pattern + 0) 0) ∷ decimal pattern ∷ []))
+  row-line-length = sym (ap length row-line) ∙ length-append (decimal node) (spaced (decimal (getD rows (rowWords * pattern + 0) 0) ∷ decimal pattern ∷ []))
+
 -- ---- the lines of the matches
 
-module _ (sheet rows : List ℕ) where
-  pub line-read : (k node pattern : ℕ) → node ≡ nodeIn sheet k → pattern ≡ patternIn sheet k → line (decimal node ∷ decimal (getD rows (18 * pattern) 0) ∷ decimal pattern ∷ []) ≡ fieldLine sheet rows k
-  unfolding fieldLine
-  line-read k node pattern e f = ap₂ (λ (n p : ℕ). line (decimal n ∷ decimal (getD rows (18 * p) 0) ∷ decimal p ∷ [])) e f
+placed-at : (count k : ℕ) (ns ps : List ℕ) (d : Placed) → k < count → count ≤ length ns → count ≤ length ps → getD (placedOf (take count ns) (take count ps)) k d ≡ record { node = getD ns k 0; pattern = getD ps k 0 }
+unfolding placedOf zipWith
+placed-at zero k ns ps d h f g = absurd (omega arith)
+placed-at (suc count) k [] ps d h f g = absurd (omega arith)
+placed-at (suc count) k (n ∷ ns) [] d h f g = absurd (omega arith)
+placed-at (suc count) zero (n ∷ ns) (p ∷ ps) d h f g = refl
+placed-at (suc count) (suc k) (n ∷ ns) (p ∷ ps) d h f g = placed-at count k ns ps d (omega arith) (omega arith) (omega arith)
 
-  -- The line of a match stands among the first n.
-  pub line-fits : (k n : ℕ) → k < n → length (fieldLines sheet rows k) + length (fieldLine sheet rows k) ≤ length (fieldLines sheet rows n)
-  unfolding fieldLines
-  line-fits k zero h = absurd (omega arith)
-  line-fits k (suc n) h = go (line-fits k n) (decLt k n)
-    where
-      grown : length (fieldLines sheet rows n ++ fieldLine sheet rows n) ≡ length (fieldLines sheet rows n) + length (fieldLine sheet rows n)
-      grown = length-append (fieldLines sheet rows n) (fieldLine sheet rows n)
+module _ (rows : List ℕ) where
+  pub no-lines : (entry : List ℕ) (from : ℕ) → Appended (rowLines rows []) entry from entry from
+  unfolding rowLines flatMap
+  no-lines entry from = appended-none entry from
 
-      go : (k < n → length (fieldLines sheet rows k) + length (fieldLine sheet rows k) ≤ length (fieldLines sheet rows n)) → Dec (k < n) → length (fieldLines sheet rows k) + length (fieldLine sheet rows k) ≤ length (fieldLines sheet rows n ++ fieldLine sheet rows n)
-      go before (yes l) = omega (arith, grown, before l)
-      go before (no l) = let e : k ≡ n = omega arith in rw e (omega (arith, grown))
+  lines-fit : (xs : List Placed) (k : ℕ) (d : Placed) → k < length xs → length (rowLines rows (take k xs)) + length (rowLine rows (getD xs k d)) ≤ length (rowLines rows xs)
+  unfolding rowLines flatMap
+  lines-fit [] k d h = absurd (omega arith)
+  lines-fit (x ∷ xs) zero d h = omega (arith, length-append (rowLine rows x) (rowLines rows xs))
+  lines-fit (x ∷ xs) (suc k) d h = omega (arith, length-append (rowLine rows x) (rowLines rows xs), length-append (rowLine rows x) (rowLines rows (take k xs)), lines-fit xs k d (omega arith))
 
-  pub lines-turn : {entry text exit : List ℕ} {from at r : ℕ} (k : ℕ) → from ≤ length entry → Appended (fieldLines sheet rows k) entry from text at → Appended (fieldLine sheet rows k) text at exit r → Appended (fieldLines sheet rows (k + 1)) entry from exit r
-  unfolding fieldLines
-  lines-turn {entry} {exit = exit} {from} {r = r} k h p q = subst (λ (j : ℕ). Appended (fieldLines sheet rows j) entry from exit r) (sym (add-one k)) (appended-both h p q)
+  lines-more : (xs : List Placed) (k : ℕ) (d : Placed) → k < length xs → rowLines rows (take k xs) ++ rowLine rows (getD xs k d) ≡ rowLines rows (take (suc k) xs)
+  unfolding rowLines flatMap
+  lines-more [] k d h = absurd (omega arith)
+  lines-more (x ∷ xs) zero d h = sym (append-nil (rowLine rows x))
+  lines-more (x ∷ xs) (suc k) d h = append-assoc (rowLine rows x) (rowLines rows (take k xs)) (rowLine rows (getD xs k d)) ∙ ap (λ (r : List ℕ). rowLine rows x ++ r) (lines-more xs k d (omega arith))
 
-  pub sheet-read : (area arrival count : ℕ) → area ≡ areaIn sheet → arrival ≡ arrivalIn sheet → count ≡ countIn sheet → coverLine area arrival count ++ fieldLines sheet rows count ≡ sheetText sheet rows
-  unfolding sheetText
-  sheet-read area arrival count e f g = rw (e, f, g)
+-- Match k of a cover.
+module _ (rows : List ℕ) (cover : CoverRecord) (k : ℕ) (h : k < cover .count) (f : cover .count ≤ length (cover .nodes)) (g : cover .count ≤ length (cover .patterns)) where
+  abbrev matches : List Placed
+  matches = coverOf cover .placed
 
--- ---- the library's rows
+  abbrev match : Placed
+  match = record { node = getD (cover .nodes) k 0; pattern = getD (cover .patterns) k 0 }
 
-pub rows-read : {library : List ℕ} {read : LibraryRead} → LibraryIs library read → Live (libraryOf library start .1) → read .library .rows ≡ rowsOf library
-unfolding rowsOf
-rows-read h live = ap (λ (r : LibraryRecord). r .rows) (h .laid (subst Live (sym (h .scan-is)) live))
+  here : getD matches k match ≡ match
+  here = placed-at (cover .count) k (cover .nodes) (cover .patterns) match h f g
+
+  among : k < length matches
+  among = omega (arith, placed-length (cover .count) (cover .nodes) (cover .patterns) f g)
+
+  pub match-row : HaveRows rows matches → rowWords * getD (cover .patterns) k 0 < length rows
+  match-row rowed = rowed match (subst (λ (x : Placed). List·Memᴰ x matches) here (at-mem matches k match among))
+
+  pub match-fits : length (rowLines rows (take k matches)) + length (rowLine rows match) ≤ length (rowLines rows matches)
+  match-fits = rw here at (lines-fit rows matches k match among)
+
+  pub match-turn : {entry text exit : List ℕ} {from at r : ℕ} → from ≤ length entry → Appended (rowLines rows (take k matches)) entry from text at → Appended (rowLine rows match) text at exit r → Appended (rowLines rows (take (k + 1) matches)) entry from exit r
+  match-turn {entry} {exit = exit} {from} {r = r} l p q =
+      subst (λ (w : List ℕ). Appended w entry from exit r)
+      (ap (λ (x : Placed). rowLines rows (take k matches) ++ rowLine rows x) (sym here) ∙ lines-more rows matches k match among ∙ ap (λ (j : ℕ). rowLines rows (take j matches)) (sym (add-one k)))
+      (appended-both l p q)
+
+-- All of them.
+module _ (cover : CoverRecord) (f : cover .count ≤ length (cover .nodes)) (g : cover .count ≤ length (cover .patterns)) where
+  many : length (coverOf cover .placed) ≡ cover .count
+  many = placed-length (cover .count) (cover .nodes) (cover .patterns) f g
+
+  pub matches-done : (k : ℕ) → k ≡ cover .count → take k (coverOf cover .placed) ≡ coverOf cover .placed
+  matches-done k e = take-all k (coverOf cover .placed) (omega (arith, many))
+
+  pub cover-text : (rows : List ℕ) → coverLine (cover .area) (cover .arrival) (cover .count) ++ rowLines rows (coverOf cover .placed) ≡ rowText rows (coverOf cover)
+  unfolding rowText
+  cover-text rows = ap (λ (n : ℕ). coverLine (cover .area) (cover .arrival) n ++ rowLines rows (coverOf cover .placed)) (sym many)
+
+-- ---- what is read back
+
+module _ {library sheet : List ℕ} {read : LibraryRead} {found : CoverRead} (h : LibraryIs library read) (live : Live (libraryOf library start .1)) (g : CoverIs sheet found) where
+  rows-read : read .library .rows ≡ rowsOf library
+  rows-read = ap (λ (r : LibraryRecord). r .rows) (h .laid (subst Live (sym (h .scan-is)) live))
+
+  pub text-read : rowText (read .library .rows) (coverOf (found .cover)) ≡ rowText (rowsOf library) (coverIn sheet)
+  text-read = ap₂ rowText rows-read (g .cover-is)
+
+  pub printable-read : (text : List ℕ) → Printable (rowsOf library) (coverIn sheet) text → Printable (read .library .rows) (coverOf (found .cover)) text
+  printable-read text p = subst (λ (r : List ℕ). Printable r (coverOf (found .cover)) text) (sym rows-read) (subst (λ (c : Cover). Printable (rowsOf library) c text) (sym (g .cover-is)) p)
 
 -- ---- the input
 
@@ -102,14 +152,14 @@ module _ (input : List ℕ) where
   -- ---- what is put at the front of a text
 
   module _ (room : ℕ) where
-    pub fitting-none : room < 655 → printedWithin room input ≡ []
+    pub fitting-none : room < longestText → printedWithin room input ≡ []
     unfolding printedWithin
-    fitting-none h = rw (lt-leb 655 room h)
+    fitting-none h = rw (lt-leb longestText room h)
 
-    module _ (h : 655 ≤ room) where
+    module _ (h : longestText ≤ room) where
       pub fitting-spoiled : spoiled input ≡ true → printedWithin room input ≡ spoiledLine
       unfolding printedWithin printed
-      fitting-spoiled e = rw (le-leb 655 room h, e)
+      fitting-spoiled e = rw (le-leb longestText room h, e)
 
       -- The library and the tree as the parts of the input that map is handed.
       pub fitting-whole : spoiled input ≡ false → (n : ℕ) → n ≡ statedLength input → printedWithin room input ≡ mapText (take (2 + n - 2) (drop 2 input)) (take (length input - (2 + n)) (drop (2 + n) input))
@@ -117,7 +167,7 @@ module _ (input : List ℕ) where
       fitting-whole e n f =
           let size : statedLength input ≡ 2 + n - 2 = omega arith in
           let rest = drop (2 + n) input in
-          rw (le-leb 655 room h, e)
+          rw (le-leb longestText room h, e)
           (ap₂ mapText (ap (λ (k : ℕ). take k (drop 2 input)) size) (ap (λ (k : ℕ). drop (2 + k) input) (sym f) ∙ sym (take-all (length input - (2 + n)) rest (omega (arith, length-drop (2 + n) input)))))
 
 pub at-front : {words entry exit : List ℕ} {r : ℕ} → Appended words entry 0 exit r → Written words entry exit r

@@ -1,3 +1,3 @@
--- What the contracts of `printing` say, in reading order.
+-- What the contracts of `printing` say, in reading order, and what its functions promise each other.
 pub mod Printed
-pub mod Fields
+pub mod Rows

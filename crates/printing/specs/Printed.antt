@@ -4,10 +4,12 @@ use mathlib.Core.Bool.{Bool, cond, _||_}
 use mathlib.Core.List.{List, [], _∷_, _++_, map, flatMap}
 use lib.Dec.{leb, ltb}
 use lib.ListN.{length, take, drop, getD}
-use Rattle.sheets.specs.Model.{Library, Pattern, patterns}
+use Rattle.fields.specs.Answer.{Answer, refused, success, onSuccess}
+use Rattle.sheets.specs.Model.{Library, Pattern, patterns, Tree}
 use Rattle.covers.specs.Cover.{Placed, Cover}
-use Rattle.covers.specs.Answer.{onSheet, mapped}
-use Rattle.covers.specs.Outcome.{Outcome, refused, sheet, operation, capacity}
+use Rattle.covers.specs.Capacity.{capacity, workWords}
+use Rattle.covers.specs.Answer.{mapped}
+use Rattle.covers.specs.Outcome.{operation, mapBytes}
 use Rattle.lines.specs.Text.{decimal, line, spaced}
 
 -- The fixed words `cover`, `refused` and `spoiled`, in ASCII.
@@ -49,16 +51,21 @@ unfoldable pub spoiledLine : List ℕ
 unfolding line spaced
 spoiledLine = line (spoiledWord ∷ [])
 
--- The outcome of an operation whose sheet is its text.
-unfoldable pub outcomeText : Outcome → List ℕ
+-- An answer whose success is its text.
+unfoldable pub outcomeText : Answer (List ℕ) → List ℕ
 unfolding refusalLine
 outcomeText (refused number place) = refusalLine number place
-outcomeText (sheet text) = text
+outcomeText (success text) = text
+
+-- Map's answer with the cover's text.
+unfoldable pub textAnswer : ℕ → Library → Tree → Answer (List ℕ)
+unfolding onSuccess coverText mapped
+textAnswer most l t = onSuccess (coverText l) (mapped most l t)
 
 -- The outcome of map as text, lent an output and a work area that are just long enough.
 unfoldable pub mapText : (library tree : List ℕ) → List ℕ
-unfolding outcomeText operation onSheet coverText mapped
-mapText library tree = outcomeText (operation 109 (λ l t. onSheet (coverText l) (mapped capacity l t)) library tree 109 8192)
+unfolding outcomeText operation textAnswer
+mapText library tree = outcomeText (operation mapBytes textAnswer library tree mapBytes (workWords capacity))
 
 -- The library's length in bytes as the input says it: 16 bits, high byte first.
 unfoldable pub statedLength : List ℕ → ℕ
@@ -74,7 +81,11 @@ unfoldable pub printed : List ℕ → List ℕ
 unfolding spoiled spoiledLine mapText statedLength
 printed input = cond (spoiled input) spoiledLine (mapText (take (statedLength input) (drop 2 input)) (drop (2 + statedLength input) input))
 
+-- How many bytes the longest text takes: that of a cover of 63 matches.
+abbrev pub longestText : ℕ
+longestText = 655
+
 -- What is put into a text that is lent `room` bytes: nothing if they are fewer than the longest text takes.
 unfoldable pub printedWithin : (room : ℕ) → List ℕ → List ℕ
 unfolding printed
-printedWithin room input = cond (leb 655 room) (printed input) []
+printedWithin room input = cond (leb longestText room) (printed input) []

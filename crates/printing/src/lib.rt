@@ -1,23 +1,21 @@
 // The text that `treecover` prints: the outcome of map for an input that holds a library and a tree.
-use bits::Cursor;
-use bits::Field;
-use mapper::Reply;
+use operations::Reply;
+use results::CoverRecord;
 use sheets::Limits;
 use sheets::library::PatternRow;
-use writing::Sheet;
-ghost use mathlib.Core.List.{[], _∷_};
 ghost use mathlib.Core.Path.{_≡_};
 ghost use Prim.Native.Nat.{_+_, _*_, _<_, _≤_, _^_};
-ghost use lib.ListN.{length, take};
+ghost use lib.ListN.{length};
 ghost use Rattle.io.specs.Counts.{Counts};
-ghost use Rattle.bits.specs.Bits.{valueAt};
 ghost use Rattle.fields.specs.Promises.{Live};
-ghost use Rattle.sheets.specs.LibrarySheet.{library as libraryOf};
 ghost use Rattle.fields.specs.Reading.{start};
-ghost use Rattle.writing.specs.Written.{Written};
-ghost use Rattle.lines.specs.Text.{decimal, line, Appended};
-ghost use Rattle.printing.specs.Printed.{coverLine, refusalLine, spoiledLine, mapText, spoiled, printedWithin};
-ghost use Rattle.printing.specs.Fields.{rowsOf, fieldLine, fieldLines, sheetText, Printable};
+ghost use Rattle.sheets.specs.LibrarySheet.{library as libraryOf};
+ghost use Rattle.sheets.specs.Layout.{rowWords};
+ghost use Rattle.covers.specs.CoverSheet.{matchCountWidth};
+ghost use Rattle.results.specs.Public.{coverOf, Written};
+ghost use Rattle.lines.specs.Text.{Appended};
+ghost use Rattle.printing.specs.Printed.{coverLine, refusalLine, spoiledLine, mapText, spoiled, longestText, printedWithin};
+ghost use Rattle.printing.specs.Rows.{rowsOf, coverIn, rowLine, rowLines, rowText, HaveRows, Printable};
 
 // The bytes of the library's length, and the longest text: a cover of 63 matches.
 pub struct Text {}
@@ -41,19 +39,6 @@ pub fn length_of(high: u8, low: u8) -> usize
     256 * wide(high) + wide(low)
 }
 
-// The field of `width` bits from bit `at` on.
-fn read_field(s: &[u8], at: usize, width: usize) -> u32
-    requires { ⌜ (at + width ≤ 8 * length (now s)) × (at < 2 ^ 32) × (width ≤ 24) ⌝ }
-    ensures { λ r. ⌜ r ≡ valueAt (now (s .entry)) at width ⌝ }
-{
-    let cursor = Cursor { at };
-    let field = cursor.field(s, width);
-    match field {
-        Field::Value(value, _) => value,
-        Field::Truncated => 0,
-    }
-}
-
 // The line of a refusal.
 fn put_refusal(text: &mut [u8], number: u32, place: usize) -> usize
     requires { ⌜ length (refusalLine number place) ≤ length (now text) ⌝ }
@@ -72,7 +57,7 @@ fn put_spoiled(text: &mut [u8]) -> usize
 }
 
 // The first line of a cover.
-fn put_head(text: &mut [u8], area: u32, arrival: u32, count: u32) -> usize
+fn put_head(text: &mut [u8], area: u32, arrival: u32, count: usize) -> usize
     requires { ⌜ length (coverLine area arrival count) ≤ length (now text) ⌝ }
     ensures { λ r. ⌜ Appended (coverLine area arrival count) (now (text .entry)) 0 (now (text .exit)) r ⌝ }
 {
@@ -81,76 +66,52 @@ fn put_head(text: &mut [u8], area: u32, arrival: u32, count: u32) -> usize
     lines::put_last(text, third, arrival as u64, count as u64)
 }
 
-// The line of a match, by its three numbers.
-fn put_numbers(text: &mut [u8], at: usize, node: u32, cell: u32, pattern: u32) -> usize
-    requires { ⌜ at + length (line (decimal node ∷ decimal cell ∷ decimal pattern ∷ [])) ≤ length (now text) ⌝ }
-    ensures { λ r. ⌜ Appended (line (decimal node ∷ decimal cell ∷ decimal pattern ∷ [])) (now (text .entry)) at (now (text .exit)) r ⌝ }
+// The line of a match.
+fn put_match(text: &mut [u8], at: usize, node: u8, pattern: u8, rows: &[u32]) -> usize
+    requires { ⌜ (rowWords * pattern < length (now rows)) × (at + length (rowLine (now rows) (record { node = node; pattern = pattern })) ≤ length (now text)) ⌝ }
+    ensures { λ r. ⌜ Appended (rowLine (now (rows .entry)) (record { node = node; pattern = pattern })) (now (text .entry)) at (now (text .exit)) r ⌝ }
 {
+    let cell = rows[PatternRow::WORDS * pattern as usize + PatternRow::CELL];
     let second = lines::put_number(text, at, node as u64);
     lines::put_last(text, second, cell as u64, pattern as u64)
 }
 
-// The line of match `k`.
-fn put_match(text: &mut [u8], at: usize, sheet: &[u8], rows: &[u32], k: usize) -> usize
-    requires { ⌜ (k < 63) × (65 + 13 * k ≤ 8 * length (now sheet)) × (length (now rows) ≡ 2304) × (at + length (fieldLine (now sheet) (now rows) k) ≤ length (now text)) ⌝ }
-    ensures { λ r. ⌜ Appended (fieldLine (now (sheet .entry)) (now (rows .entry)) k) (now (text .entry)) at (now (text .exit)) r ⌝ }
+// A line for each match of a cover.
+fn put_matches(text: &mut [u8], from: usize, cover: CoverRecord, rows: &[u32]) -> usize
+    requires { ⌜ (cover .count < 2 ^ matchCountWidth) × HaveRows (now rows) (coverOf cover .placed) × (from + length (rowLines (now rows) (coverOf cover .placed)) ≤ length (now text)) ⌝ }
+    ensures { λ r. ⌜ Appended (rowLines (now (rows .entry)) (coverOf cover .placed)) (now (text .entry)) from (now (text .exit)) r ⌝ }
 {
-    let first = Sheet::MATCHES_AT + Sheet::MATCH * k;
-    let node = read_field(sheet, first, Sheet::NODE);
-    let pattern = read_field(sheet, first + Sheet::NODE, Sheet::PATTERN);
-    let cell = rows[PatternRow::WORDS * pattern as usize];
-    put_numbers(text, at, node, cell, pattern)
-}
-
-// A line for each of the first `count` matches.
-fn put_matches(text: &mut [u8], from: usize, sheet: &[u8], rows: &[u32], count: usize) -> usize
-    requires { ⌜ (count ≤ 63) × (52 + 13 * count ≤ 8 * length (now sheet)) × (length (now rows) ≡ 2304) × (from + length (fieldLines (now sheet) (now rows) count) ≤ length (now text)) ⌝ }
-    ensures { λ r. ⌜ Appended (fieldLines (now (sheet .entry)) (now (rows .entry)) count) (now (text .entry)) from (now (text .exit)) r ⌝ }
-{
+    let count = cover.count;
+    let nodes = cover.nodes;
+    let patterns = cover.patterns;
     let mut at = from;
     let mut k = 0;
     while k < count {
-        at = put_match(text, at, sheet, rows, k);
+        at = put_match(text, at, nodes[k], patterns[k], rows);
         k += 1;
     }
     at
 }
 
-// The text of a cover sheet.
-fn put_sheet(text: &mut [u8], sheet: &[u8], rows: &[u32]) -> usize
-    requires { ⌜ Printable (now sheet) (now rows) (now text) ⌝ }
-    ensures { λ r. ⌜ Appended (sheetText (now (sheet .entry)) (now (rows .entry))) (now (text .entry)) 0 (now (text .exit)) r ⌝ }
+// The text of a cover.
+fn put_cover(text: &mut [u8], cover: CoverRecord, rows: &[u32]) -> usize
+    requires { ⌜ (cover .count < 2 ^ matchCountWidth) × Printable (now rows) (coverOf cover) (now text) ⌝ }
+    ensures { λ r. ⌜ Appended (rowText (now (rows .entry)) (coverOf cover)) (now (text .entry)) 0 (now (text .exit)) r ⌝ }
 {
-    let area = read_field(sheet, 0, Sheet::AREA);
-    let arrival = read_field(sheet, Sheet::AREA, Sheet::ARRIVAL);
-    let count = read_field(sheet, Sheet::MATCH_COUNT_AT, Sheet::MATCH_COUNT);
-    let at = put_head(text, area, arrival, count);
-    put_matches(text, at, sheet, rows, count as usize)
+    let at = put_head(text, cover.area, cover.arrival, cover.count);
+    put_matches(text, at, cover, rows)
 }
 
-// The text of the cover sheet in the first `bytes` of the output, by a sound library's cells.
-fn put_cover(text: &mut [u8], output: &[u8], bytes: usize, library: &[u8]) -> usize
-    requires { ⌜ (bytes ≤ length (now output)) × Live (libraryOf (now library) start .1) × Printable (take bytes (now output)) (rowsOf (now library)) (now text) ⌝ }
-    ensures { λ r. ⌜ Appended (sheetText (take bytes (now (output .entry))) (rowsOf (now (library .entry)))) (now (text .entry)) 0 (now (text .exit)) r ⌝ }
+// The text of a cover sheet, by a sound library's cells.
+fn put_sheet(text: &mut [u8], sheet: &[u8], library: &[u8]) -> usize
+    requires { ⌜ Live (libraryOf (now library) start .1) × Printable (rowsOf (now library)) (coverIn (now sheet)) (now text) ⌝ }
+    ensures { λ r. ⌜ Appended (rowText (rowsOf (now (library .entry))) (coverIn (now (sheet .entry)))) (now (text .entry)) 0 (now (text .exit)) r ⌝ }
 {
     let read = sheets::library::read_library(library);
     let decoded = read.library;
     let rows = decoded.rows;
-    put_sheet(text, &output[..bytes], &rows)
-}
-
-// The outcome of map for a library and a tree.
-fn put_map(text: &mut [u8], library: &[u8], tree: &[u8]) -> usize
-    requires { ⌜ 655 ≤ length (now text) ⌝ }
-    ensures { λ r. ⌜ Appended (mapText (now (library .entry)) (now (tree .entry))) (now (text .entry)) 0 (now (text .exit)) r ⌝ }
-{
-    let mut output = [0u8; Limits::OUTPUT_MAP];
-    let mut work = [0u64; Limits::WORK];
-    let reply = operations::map(library, tree, &mut output, &mut work);
-    match reply {
-        Reply::Refused(number, place) => put_refusal(text, number, place),
-        Reply::Sheet(bytes) => put_cover(text, &output, bytes, library),
-    }
+    let found = results::read_cover(sheet);
+    put_cover(text, found.cover, &rows)
 }
 
 // Whether the input is under 2 bytes, over 4,096, or too short for the library's length.
@@ -164,6 +125,20 @@ fn is_spoiled(input: &[u8]) -> bool
         return true;
     }
     input.len() < Text::HEAD + length_of(input[0], input[1])
+}
+
+// The outcome of map for a library and a tree.
+fn put_map(text: &mut [u8], library: &[u8], tree: &[u8]) -> usize
+    requires { ⌜ longestText ≤ length (now text) ⌝ }
+    ensures { λ r. ⌜ Appended (mapText (now (library .entry)) (now (tree .entry))) (now (text .entry)) 0 (now (text .exit)) r ⌝ }
+{
+    let mut output = [0u8; Limits::OUTPUT_MAP];
+    let mut work = [0u64; Limits::WORK];
+    let reply = operations::map(library, tree, &mut output, &mut work);
+    match reply {
+        Reply::Refused(number, place) => put_refusal(text, number, place),
+        Reply::Sheet(bytes) => put_sheet(text, &output[..bytes], library),
+    }
 }
 
 // Puts what is printed for an input at the front of the text, and answers how many bytes it takes. A text that may be too
@@ -180,4 +155,17 @@ pub fn print_cover(input: &[u8], text: &mut [u8]) -> usize
     }
     let end = Text::HEAD + length_of(input[0], input[1]);
     put_map(text, &input[Text::HEAD..end], &input[end..])
+}
+
+// Reads an input from standard input and prints its text; answers how many bytes were printed.
+pub fn run() -> usize
+    ensures { λ r. ⌜ r ≤ longestText ⌝ }
+{
+    // One byte more than the longest input, so that a longer one shows.
+    let mut input = [0u8; Limits::INPUT + 1];
+    let count = io::read_full(libc::STDIN_FILENO, &mut input);
+    let mut text = [0u8; Text::LONGEST];
+    let length = print_cover(&input[..count], &mut text);
+    io::write_all(libc::STDOUT_FILENO, &text[..length]);
+    length
 }

@@ -4,7 +4,7 @@ use Prim.Native.Nat.{ℕ, _+_, _≤_}
 use mathlib.Core.Path.{_≡_, refl, sym, subst, _∙_}
 use mathlib.Core.List.{List}
 use lib.ListN.{length}
-use Rattle.writing.specs.Written.{Written}
+use Rattle.results.specs.Public.{Written}
 use Rattle.lines.specs.Text.{spaced, line}
 use Rattle.printing.specs.Printed.{spoiledLine, statedLength}
 use Rattle.printing.proofs.Laws.{whole, fitting-none, fitting-spoiled, fitting-whole, at-front, counted}

@@ -1,49 +1,46 @@
 use borrow.Author.Needs.{needs}
-use Prim.Native.Nat.{ℕ}
-use mathlib.Core.Path.{sym, subst}
-use mathlib.Core.List.{List}
-use lib.Seq.{length-take-le}
-use lib.ListN.{take}
+use native.Mathlib.Omega.{arith}
+use Prim.Native.Nat.{ℕ, _+_, _≤_}
+use mathlib.Core.Path.{_≡_, ap, subst}
+use mathlib.Core.List.{List, _++_}
+use lib.ListN.{length, length-append}
+use Rattle.results.specs.Public.{coverOf}
 use Rattle.lines.specs.Text.{Appended}
-use Rattle.printing.specs.Fields.{sheetText, Printable}
-use Rattle.printing.proofs.Laws.{rows-read}
+use Rattle.lines.proofs.Laws.{appended-both}
+use Rattle.printing.specs.Printed.{coverLine}
+use Rattle.printing.specs.Rows.{rowLines, rowText}
+use Rattle.printing.proofs.Laws.{cover-text}
 use Rattle.printing.proofs.put_cover.Statement.{statement}
 use Rattle.printing.proofs.put_cover.Tie as tie
 
-read-library-requires : tie.Need-read-library-requires
-read-library-requires c κs = search needs
+-- What is put makes up the text.
+text-is : (c : tie.Start) → let a = c .args in
+    coverLine (a .cover .area) (a .cover .arrival) (a .cover .count) ++ rowLines (a .rows .now) (coverOf (a .cover) .placed) ≡ rowText (a .rows .now) (coverOf (a .cover))
+text-is c =
+    let n : length (c .args .cover .nodes) ≡ 64 = search needs in
+    let p : length (c .args .cover .patterns) ≡ 64 = search needs in
+    cover-text (c .args .cover) (omega (arith, c .pre .0)) (omega (arith, c .pre .0)) (c .args .rows .now)
 
-slice-aggregate-put-sheet : tie.Need-slice-aggregate-put-sheet
-slice-aggregate-put-sheet c = let start = c .before .before .before .before .before .before .before .before in sym (length-take-le (start .args .bytes) (start .args .output .now) (start .pre .0))
+fits : (c : tie.Start) → let a = c .args in
+    length (coverLine (a .cover .area) (a .cover .arrival) (a .cover .count)) + length (rowLines (a .rows .now) (coverOf (a .cover) .placed)) ≤ length (a .text .now)
+fits c = omega (arith, c .pre .1 .1, simp length-append at (ap length (text-is c)))
 
-slice-aggregate-put-sheet-2 : tie.Need-slice-aggregate-put-sheet-2
-slice-aggregate-put-sheet-2 c = search needs
+put-head-requires : tie.Need-put-head-requires
+put-head-requires c κs = omega (arith, fits (c .before .before .before))
 
-put-sheet-requires : tie.Need-put-sheet-requires
-put-sheet-requires c κs =
-    let start = c .before .before .before .before .before .before .before .before .before in
-    let a = start .args in
-    let read = c .before .before .before .before .before .read-library in
-    subst (λ (rows : List ℕ). Printable (take (a .bytes) (a .output .now)) rows (a .text .now)) (sym (rows-read (read .ensures) (start .pre .1))) (start .pre .2)
+put-matches-requires : tie.Need-put-matches-requires
+put-matches-requires c κs =
+    let start = c .before .before .before .before .before .before .before in
+    (start .pre .0, start .pre .1 .0, omega (arith, c .before .before .before .put-head .ensures .place, fits start))
 
 same-length : tie.Need-same-length
 same-length c = search needs
 
 returns : tie.Need-returns
 returns c =
-    let start = c .before .before .before .before .before .before .before .before .before .before .before .before in
-    let a = start .args in
-    let read = c .before .before .before .before .before .before .before .before .read-library in
-    let put = c .before .before .put-sheet in
-    subst (λ (rows : List ℕ). Appended (sheetText (take (a .bytes) (a .output .now)) rows) (a .text .now) 0 (put .last .0) (put .result)) (rows-read (read .ensures) (start .pre .1)) (put .ensures)
+    let start = c .before .before .before .before .before .before .before .before .before .before in
+    let put = c .before .before .put-matches in
+    subst (λ (w : List ℕ). Appended w (start .args .text .now) 0 (put .last .0) (put .result)) (text-is start) (appended-both (omega arith) (c .before .before .before .before .before .before .put-head .ensures) (put .ensures))
 
 pub put-cover-spec : {M : Type 1} → statement M
-put-cover-spec =
-    tie.close
-    (tie.spec
-    read-library-requires
-    slice-aggregate-put-sheet
-    slice-aggregate-put-sheet-2
-    put-sheet-requires
-    same-length
-    returns)
+put-cover-spec = tie.close (tie.spec put-head-requires put-matches-requires same-length returns)

@@ -1,31 +1,48 @@
+use borrow.Author.Needs.{needs}
 use native.Mathlib.Omega.{arith}
 use Prim.Native.Nat.{ℕ, _≤_, _-_}
 use mathlib.Core.Path.{_≡_, refl, subst}
-use lib.ListN.{length}
+use mathlib.Core.List.{List}
+use lib.ListN.{length, take}
+use Rattle.covers.specs.Cover.{Placed}
+use Rattle.results.specs.Public.{placedOf}
 use Rattle.lines.specs.Text.{Appended}
 use Rattle.lines.proofs.Laws.{appended-none}
-use Rattle.printing.specs.Fields.{fieldLines}
-use Rattle.printing.proofs.Laws.{line-fits, lines-turn}
+use Rattle.printing.specs.Rows.{rowLine, rowLines}
+use Rattle.printing.proofs.Laws.{no-lines, match-row, match-fits, match-turn, matches-done}
 use Rattle.printing.proofs.put_matches.Statement.{statement}
 use Rattle.printing.proofs.put_matches.Tie as tie
 
 abbrev Inv-loop : tie.InvT-loop
-Inv-loop text₀ from sheet rows count at₀ k₀ text at k =
-    (k ≤ count) × (length text ≡ length text₀) × Appended (fieldLines sheet rows k) text₀ from text at
+Inv-loop text₀ from rows count nodes patterns at₀ k₀ text at k =
+    (k ≤ count) × (length text ≡ length text₀) × Appended (rowLines rows (take k (placedOf (take count nodes) (take count patterns)))) text₀ from text at
 
 abbrev μ-loop : tie.MeasureT-loop
-μ-loop text₀ from sheet rows count at₀ k₀ text at k = count - k
+μ-loop text₀ from rows count nodes patterns at₀ k₀ text at k = count - k
+
+-- The arrays have room for the matches.
+room : (c : tie.Start Inv-loop μ-loop) → (c .args .cover .count ≤ length (c .args .cover .nodes)) × (c .args .cover .count ≤ length (c .args .cover .patterns))
+room c =
+    let n : length (c .args .cover .nodes) ≡ 64 = search needs in
+    let p : length (c .args .cover .patterns) ≡ 64 = search needs in
+    (omega arith, omega arith)
 
 loop-holds : tie.Need-loop-holds Inv-loop μ-loop
-unfolding fieldLines
-loop-holds c = let a = c .before .before .before .args in (omega arith, refl, appended-none (a .text .now) (a .from))
+loop-holds c = let a = c .before .before .before .before .args in (omega arith, refl, no-lines (a .rows .now) (a .text .now) (a .from))
+
+array-read-put-match : tie.Need-array-read-put-match Inv-loop μ-loop
+array-read-put-match c = omega arith
+
+array-read-put-match-2 : tie.Need-array-read-put-match-2 Inv-loop μ-loop
+array-read-put-match-2 c = omega arith
 
 put-match-requires : tie.Need-put-match-requires Inv-loop μ-loop
 put-match-requires c κs =
-    let start = c .before .before .before .before .before .before in
+    let start = c .before .before .before .before .before .before .before in
     let a = start .args in
     let i = c .before .before .loop in
-    (omega arith, omega arith, start .pre .2, omega (arith, i .inv .2 .place, line-fits (a .sheet .now) (a .rows .now) (i .k) (a .count) (omega arith)))
+    let long = room start in
+    (match-row (a .rows .now) (a .cover) (i .k) (omega arith) (long .0) (long .1) (start .pre .1), omega (arith, i .inv .2 .place, start .pre .2, match-fits (a .rows .now) (a .cover) (i .k) (omega arith) (long .0) (long .1)))
 
 add-k : tie.Need-add-k Inv-loop μ-loop
 add-k c = omega arith
@@ -35,19 +52,22 @@ loop-less c = omega arith
 
 loop-again : tie.Need-loop-again Inv-loop μ-loop
 loop-again c =
-    let a = c .before .before .before .before .before .before .before .before .before .args in
+    let start = c .before .before .before .before .before .before .before .before .before .before in
+    let a = start .args in
     let i = c .before .before .before .before .before .loop in
-    (omega arith, omega arith, lines-turn (a .sheet .now) (a .rows .now) (i .k) (omega arith) (i .inv .2) (c .before .before .put-match .ensures))
+    let long = room start in
+    (omega arith, omega arith, match-turn (a .rows .now) (a .cover) (i .k) (omega arith) (long .0) (long .1) (omega (arith, start .pre .2)) (i .inv .2) (c .before .before .put-match .ensures))
 
 same-length : tie.Need-same-length Inv-loop μ-loop
 same-length c = omega arith
 
 returns : tie.Need-returns Inv-loop μ-loop
 returns c =
-    let a = c .before .before .before .before .before .args in
+    let start = c .before .before .before .before .before .before in
+    let a = start .args in
     let i = c .before .loop in
-    let all : i .k ≡ a .count = omega arith in
-    subst (λ (n : ℕ). Appended (fieldLines (a .sheet .now) (a .rows .now) n) (a .text .now) (a .from) (i .text) (i .at)) all (i .inv .2)
+    let long = room start in
+    subst (λ (xs : List Placed). Appended (rowLines (a .rows .now) xs) (a .text .now) (a .from) (i .text) (i .at)) (matches-done (a .cover) (long .0) (long .1) (i .k) (omega arith)) (i .inv .2)
 
 pub put-matches-spec : {M : Type 1} → statement M
 put-matches-spec =
@@ -56,6 +76,8 @@ put-matches-spec =
     Inv-loop
     μ-loop
     loop-holds
+    array-read-put-match
+    array-read-put-match-2
     put-match-requires
     add-k
     loop-less
