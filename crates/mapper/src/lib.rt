@@ -5,8 +5,8 @@ use curves::Words;
 use filling::Filling;
 use matching::Row;
 use results::CoverRecord;
-use sheets::library::Bins;
 use sheets::Limits;
+use sheets::library::Bins;
 use sheets::tree::TreeRecord;
 ghost use mathlib.Core.Path.{_≡_};
 ghost use mathlib.Core.List.{map};
@@ -95,13 +95,7 @@ fn map_leaf(symbol: u32, load: u32, time: u32) -> Mapped
 }
 
 // The root's cover under its required time, from the curves.
-fn map_root(
-    rows: &[u32],
-    tree: TreeRecord,
-    most: usize,
-    found: &mut [u32],
-    work: &[u64],
-) -> Mapped
+fn map_root(rows: &[u32], tree: TreeRecord, most: usize, found: &mut [u32], work: &[u64]) -> Mapped
     requires { ⌜ ((l : Library) × ((t : Tree) × Asked most l t (now rows) tree (length (now found)) (now work))) ⌝ }
     ensures { λ r. ⌜ ((l : Library) (t : Tree) → Asked most l t (now (rows .entry)) tree (length (now (found .entry))) (now (work .entry)) → MappedIs most l t r) ⌝ }
 {
@@ -132,13 +126,7 @@ fn map_root(
 }
 
 // The cover that map hands over, for a sound library and a sound tree as decoded, where a node may have `most` trade-offs under a load.
-pub fn map_tree(
-    rows: &[u32],
-    bins: Bins,
-    tree: TreeRecord,
-    most: usize,
-    work: &mut [u64],
-) -> Mapped
+pub fn map_tree(rows: &[u32], bins: Bins, tree: TreeRecord, most: usize, work: &mut [u64]) -> Mapped
     requires { ⌜ ((l : Library) × ((t : Tree) × FillStart l t (now rows) bins tree most (replicate matchTable 0) (now work))) ⌝ }
     ensures { λ r. ⌜ ((l : Library) (t : Tree) → FillStart l t (now (rows .entry)) bins tree most (replicate matchTable 0) (now (work .entry)) → MappedIs most l t r) ⌝ }
 {

@@ -56,7 +56,7 @@ use Rattle.operations.specs.declared.Task.the-variants as Task
 use Rattle.operations.specs.declared.Reply.{Reply}
 use Rattle.operations.specs.declared.Reply.the-variants as Reply
 use Rattle.operations.specs.Public.{ofReply, Operated}
-use Rattle.operations.specs.Inside.{leastOutput, taskAnswer, Replied, LibraryLaid, Laid}
+use Rattle.operations.specs.Inside.{leastOutput, taskAnswer, Replied, LibraryHeld, SheetsHeld}
 
 -- ---- what the core is given
 
@@ -64,7 +64,7 @@ use Rattle.operations.specs.Inside.{leastOutput, taskAnswer, Replied, Li
 zeros-first : (n : ℕ) (rest work : List ℕ) → work ≡ replicate n 0 ++ rest → take n work ≡ replicate n 0
 zeros-first n rest work e = ap (take n) e ∙ subst (λ (k : ℕ). take k (replicate n 0 ++ rest) ≡ replicate n 0) (length-replicate {A = ℕ} n 0) (take-append-seam (replicate n 0) rest)
 
-pub start-of : {l : Library} {t : Tree} {library : LibraryRecord} {tree : TreeRecord} → Laid l t library tree → (work work′ : List ℕ) → work′ ≡ replicate (workWords capacity) 0 ++ drop (workWords capacity) work →
+pub start-of : {l : Library} {t : Tree} {library : LibraryRecord} {tree : TreeRecord} → SheetsHeld l t library tree → (work work′ : List ℕ) → work′ ≡ replicate (workWords capacity) 0 ++ drop (workWords capacity) work →
     FillStart l t (take (rowWords * library .total) (library .rows)) (library .bins) tree capacity (replicate matchTable 0) (take (workWords capacity) work′)
 unfolding libraryLaid treeLaid patternTable
 start-of {l} {t} {library} {tree} g work work′ e =
@@ -87,11 +87,11 @@ start-of {l} {t} {library} {tree} g work work′ e =
     }
 
 -- There are no more rows than the table has room for.
-pub rows-long : {l : Library} {t : Tree} {library : LibraryRecord} {tree : TreeRecord} → Laid l t library tree → length (library .rows) ≡ tableWords
+pub rows-long : {l : Library} {t : Tree} {library : LibraryRecord} {tree : TreeRecord} → SheetsHeld l t library tree → length (library .rows) ≡ tableWords
 unfolding libraryLaid
 rows-long {l} g = ap (λ (r : LibraryRecord). length (r .rows)) (g .read .library-is) ∙ length-table rowWords (replicate tableWords 0) 0 (patternRows (l .bins) (patterns l)) ∙ length-replicate {A = ℕ} tableWords 0
 
-pub total-few : {l : Library} {t : Tree} {library : LibraryRecord} {tree : TreeRecord} → Laid l t library tree → library .total ≤ 128
+pub total-few : {l : Library} {t : Tree} {library : LibraryRecord} {tree : TreeRecord} → SheetsHeld l t library tree → library .total ≤ 128
 unfolding libraryLaid
 total-few g = omega (arith, ap (λ (r : LibraryRecord). r .total) (g .read .library-is), g .read .sound .few-patterns)
 
@@ -205,7 +205,7 @@ untouched output work number place n k spared near =
 -- ---- a tree, sound or not
 
 module _ (ts : List ℕ) (read : TreeRead) (h : TreeIs ts read) where
-  pub tree-laid : {l : Library} {library : LibraryRecord} → LibraryLaid l library → (c : Cursor) → read .scan ≡ At c → Laid l (treeOf ts start .0) library (read .tree)
+  pub tree-laid : {l : Library} {library : LibraryRecord} → LibraryHeld l library → (c : Cursor) → read .scan ≡ At c → SheetsHeld l (treeOf ts start .0) library (read .tree)
   tree-laid g c e = record { read = g; tree-sound = tree-limits ts (subst Live (sym e ∙ h .scan-is) tt); tree-is = h .laid (subst Live (sym e) tt) }
 
   pub tree-answered : (task : Task) (l : Library) {output output′ work work′ : List ℕ} {r : Reply} (c : Cursor) → read .scan ≡ At c → Replied (taskAnswer task capacity l (treeOf ts start .0)) output output′ r → work′ ≡ cleared (workWords capacity) work → Operated (withTree (taskAnswer task capacity l) (treeOf ts start)) output output′ work work′ r
@@ -223,7 +223,7 @@ module _ (ts : List ℕ) (read : TreeRead) (h : TreeIs ts read) where
 -- ---- a library, sound or not
 
 module _ (ls : List ℕ) (read : LibraryRead) (h : LibraryIs ls read) where
-  pub library-laid : (c : Cursor) → read .scan ≡ At c → LibraryLaid (libraryOf ls start .0) (read .library)
+  pub library-laid : (c : Cursor) → read .scan ≡ At c → LibraryHeld (libraryOf ls start .0) (read .library)
   library-laid c e = record { sound = library-limits ls (subst Live (sym e ∙ h .scan-is) tt); library-is = h .laid (subst Live (sym e) tt) }
 
 -- What is lent is enough, or it is not.

@@ -32,11 +32,11 @@ pub record Replied (o : Answer (List ℕ)) (entry exit : List ℕ) (r : Reply) :
   pub bounded : Bounded (ofReply r)
 
 -- A sound library and a sound tree in the records that the readers hand over.
-pub record LibraryLaid (l : Library) (library : LibraryRecord) : Type 0 where
+pub record LibraryHeld (l : Library) (library : LibraryRecord) : Type 0 where
   pub sound : SoundLibrary l
   pub library-is : library ≡ libraryLaid l
 
-pub record Laid (l : Library) (t : Tree) (library : LibraryRecord) (tree : TreeRecord) : Type 0 where
-  pub read : LibraryLaid l library
+pub record SheetsHeld (l : Library) (t : Tree) (library : LibraryRecord) (tree : TreeRecord) : Type 0 where
+  pub read : LibraryHeld l library
   pub tree-sound : SoundTree t
   pub tree-is : tree ≡ treeLaid t

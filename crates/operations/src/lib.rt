@@ -2,9 +2,9 @@
 use fields::Scan;
 use mapper::Finding;
 use mapper::Numbers;
+use sheets::Limits;
 use sheets::library::Bins;
 use sheets::library::LibraryRecord;
-use sheets::Limits;
 use sheets::library::PatternRow;
 use sheets::tree::TreeRecord;
 ghost use mathlib.Core.Path.{_≡_};
@@ -20,7 +20,7 @@ ghost use Rattle.covers.specs.Demands.{MapDemands, ListDemands, WhereSound};
 ghost use Rattle.matching.specs.Found.{matchTable};
 ghost use Rattle.filling.specs.Promises.{FillStart};
 ghost use Rattle.operations.specs.Public.{ofReply, Operated};
-ghost use Rattle.operations.specs.Inside.{leastOutput, taskAnswer, Replied, Laid, LibraryLaid};
+ghost use Rattle.operations.specs.Inside.{leastOutput, taskAnswer, Replied, SheetsHeld, LibraryHeld};
 
 // A refusal's number and place, or a sheet of so many bytes in the output.
 pub enum Reply {
@@ -111,9 +111,9 @@ fn with_records(
     output: &mut [u8],
     work: &mut [u64],
 ) -> Reply
-    requires { ⌜ (leastOutput task ≤ length (now output)) × (workWords capacity ≤ length (now work)) × ((l : Library) × ((t : Tree) × Laid l t library tree)) ⌝ }
+    requires { ⌜ (leastOutput task ≤ length (now output)) × (workWords capacity ≤ length (now work)) × ((l : Library) × ((t : Tree) × SheetsHeld l t library tree)) ⌝ }
     ensures { λ r. ⌜ now (work .exit) ≡ cleared (workWords capacity) (now (work .entry)) ⌝ }
-    ensures { λ r. ⌜ ((l : Library) (t : Tree) → Laid l t library tree → Replied (taskAnswer task capacity l t) (now (output .entry)) (now (output .exit)) r) ⌝ }
+    ensures { λ r. ⌜ ((l : Library) (t : Tree) → SheetsHeld l t library tree → Replied (taskAnswer task capacity l t) (now (output .entry)) (now (output .exit)) r) ⌝ }
 {
     let rows = library.rows;
     let words = PatternRow::WORDS * library.total;
@@ -139,8 +139,8 @@ fn with_library(
     output: &mut [u8],
     work: &mut [u64],
 ) -> Reply
-    requires { ⌜ (leastOutput task ≤ length (now output)) × (workWords capacity ≤ length (now work)) × ((l : Library) × LibraryLaid l library) ⌝ }
-    ensures { λ r. ⌜ ((l : Library) → LibraryLaid l library →
+    requires { ⌜ (leastOutput task ≤ length (now output)) × (workWords capacity ≤ length (now work)) × ((l : Library) × LibraryHeld l library) ⌝ }
+    ensures { λ r. ⌜ ((l : Library) → LibraryHeld l library →
         Operated (withTree (taskAnswer task capacity l) (treeOf (now (tree .entry)) start)) (now (output .entry)) (now (output .exit)) (now (work .entry)) (now (work .exit)) r) ⌝ }
 {
     let read = sheets::tree::read_tree(tree);
@@ -165,7 +165,10 @@ fn operate(task: Task, library: &[u8], tree: &[u8], output: &mut [u8], work: &mu
     let scan = read.scan;
     match scan {
         Scan::At(_) => with_library(task, read.library, tree, output, work),
-        Scan::Refused(fault, place) => Reply::Refused(sheets::library::library_number(fault), place),
+        Scan::Refused(fault, place) => Reply::Refused(
+            sheets::library::library_number(fault),
+            place,
+        ),
     }
 }
 

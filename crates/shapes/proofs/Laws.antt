@@ -48,4 +48,3 @@ elem-here x n l k h g e = rw (slice-cons k n l 0 h g) (simp (eq-eqb x (getD l k 
 pub elem-later : (x n : ℕ) (l : List ℕ) (k : ℕ) → k < n → n ≤ length l → (getD l k 0 ≡ x → ⊥) → elem x (slice k n l) ≡ elem x (slice (k + 1) n l)
 unfolding elem
 elem-later x n l k h g e = rw (slice-cons k n l 0 h g, add-one k) (simp (ne-eqb x (getD l k 0) (λ q. e (sym q))))
-

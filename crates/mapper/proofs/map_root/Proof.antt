@@ -74,10 +74,17 @@ choose-requires c κs =
     let e = c .before .before .before .before .before .before .if1 in
     let f = c .before .before .before .before .before .look-up in
     let z = c .before .before .before .before .if2 in
-    let asked = p .1 .1 in
-    (p .0, (p .1 .0, (p .1 .0 .shape,
-    subst (λ (k : CoverRecord). Chooses (first .args .most) (p .0) (p .1 .0) (first .args .rows .now) (first .args .tree .symbols) (first .args .tree .sizes) (length (first .args .found .now)) (first .args .work .now) (record { node = 0; load = first .args .tree .load; bin = 0; time = first .args .tree .required }) k (p .1 .0 .shape))
-    (sym (c .before .before .before .bare .ensures)) (gate-chooses (asked .curved) (omega (arith, e)) (f .result) (f .ensures) (λ y. omega (arith, z, y)) asked))))
+    let asked = p .1 .1 in (
+      p .0,
+      (
+        p .1 .0,
+        (
+          p .1 .0 .shape,
+          subst (λ (k : CoverRecord). Chooses (first .args .most) (p .0) (p .1 .0) (first .args .rows .now) (first .args .tree .symbols) (first .args .tree .sizes) (length (first .args .found .now)) (first .args .work .now) (record { node = 0; load = first .args .tree .load; bin = 0; time = first .args .tree .required }) k (p .1 .0 .shape))
+              (sym (c .before .before .before .bare .ensures)) (gate-chooses (asked .curved) (omega (arith, e)) (f .result) (f .ensures) (λ y. omega (arith, z, y)) asked),
+        ),
+      ),
+    )
 
 same-length : tie.Need-same-length
 same-length c = search needs
