@@ -170,11 +170,3 @@ value-field s i (suc w) v h =
 pub value-beside : (s : List ℕ) (i w v j u : ℕ) → (j + u ≤ i) ⊎ (i + w ≤ j) → valueAt (withField s i w v) j u ≡ valueAt s j u
 value-beside s i w v j u o =
     value-cong (withField s i w v) s j u (λ k a b. field-other s i w v k (⊎-elim (λ l. inl (omega arith)) (λ g. inr (omega arith)) o))
-
--- Zero bits written to the byte end the bytes.
-pub zeros-end : (s : List ℕ) (i : ℕ) → length s ≡ bytesTo i → endsAt (withField s i (restOf i) 0) i ≡ true
-unfolding endsAt bytesTo restOf
-zeros-end s i h =
-    let zero-rest : valueAt (withField s i (8 * ((i + 7) / 8) - i) 0) i (8 * ((i + 7) / 8) - i) ≡ 0 =
-    value-field s i (8 * ((i + 7) / 8) - i) 0 (omega arith) ∙ zero-mod (2 ^ (8 * ((i + 7) / 8) - i)) in
-    simp (length-field, eq-eqb (length s) ((i + 7) / 8) h, zero-rest)

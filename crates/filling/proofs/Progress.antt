@@ -1,8 +1,8 @@
 -- Every node in turn: what is filled so far, and what the counts of a node say of it.
 use mathlib.Core.Path.{_≡_, refl, sym, ap, subst, _∙_}
 use mathlib.Core.Logic.{_⊎_, inl, inr, ⊎-elim}
-use mathlib.Core.Bool.{Bool, true, false, cond, not, false≢true}
-use mathlib.Core.List.{List, [], _∷_, foldr, List·Memᴰ, List·Memᴰ·head, List·Memᴰ·tail, List·Memᴰ·not-nil, List·Memᴰ·eq-of-singleton, Memᴰ·append-left, Memᴰ·append-right}
+use mathlib.Core.Bool.{Bool, true, false, false≢true}
+use mathlib.Core.List.{List, [], _∷_, List·Memᴰ, List·Memᴰ·head, List·Memᴰ·tail, List·Memᴰ·not-nil, List·Memᴰ·eq-of-singleton, Memᴰ·append-left, Memᴰ·append-right}
 use mathlib.Core.Option.{Option, none, some}
 use Prim.Native.Nat.{ℕ, zero, suc, min, _+_, _*_, _≤_, _<_}
 use native.Mathlib.Omega.{arith}
@@ -14,10 +14,8 @@ use Rattle.sheets.specs.declared.library.Bins.{Bins}
 use Rattle.sheets.specs.declared.tree.TreeRecord.{TreeRecord}
 use Rattle.sheets.specs.Model.{Shape, leaf, inv, nand, size, Library, Tree}
 use Rattle.sheets.specs.Layout.{libraryLaid, treeLaid}
-use Rattle.covers.specs.Lists.{select}
-use Rattle.covers.specs.Cover.{Point, Cover, leafCover}
-use Rattle.covers.specs.Enumeration.{covers, coversStep}
-use Rattle.covers.specs.Tradeoff.{Node, nodes, tradeoffs, tradeoffsOf, insert, beaten, points, considered, overfull, overfullNode}
+use Rattle.covers.specs.Enumeration.{covers}
+use Rattle.covers.specs.Tradeoff.{Node, nodes, tradeoffs, tradeoffsOf, points, considered, overfull, overfullNode}
 use Rattle.covers.specs.Curve.{Filled, curve, gates}
 use Rattle.covers.proofs.Basics.{lt-or-le, at-all, true-any, false-any}
 use Rattle.covers.proofs.Matching.{size-pos}

@@ -1,6 +1,6 @@
 -- The root's curve as the words at the front of the work area, and its trade-offs.
-use Prim.Native.Nat.{ℕ, zero, suc, _+_, _-_, _*_, _≤_, _<_}
-use mathlib.Core.Path.{_≡_, refl, sym, ap, subst, _∙_}
+use Prim.Native.Nat.{ℕ, zero, suc, _+_, _-_, _≤_, _<_}
+use mathlib.Core.Path.{_≡_, refl, sym, ap, _∙_}
 use mathlib.Core.Logic.{⊎-elim}
 use mathlib.Core.Bool.{false≢true}
 use mathlib.Core.List.{List, [], _∷_, _++_, map, map-append, append-assoc, append-nil, reverse, reverse-reverse, List·Memᴰ·head}
@@ -12,9 +12,9 @@ use native.Mathlib.Omega.{arith}
 use borrow.Author.Tests.{eq-eqb, le-leb}
 use lib.ListN.{length, getD, take, drop, set, length-map, length-reverse}
 use lib.Seq.{take-suc, take-take, length-take-le, drop-length, getD-set-same}
-use Rattle.fields.specs.Answer.{Answer, success}
+use Rattle.fields.specs.Answer.{success}
 use Rattle.sheets.specs.declared.tree.TreeRecord.{TreeRecord}
-use Rattle.sheets.specs.Model.{Shape, leaf, Library, Tree}
+use Rattle.sheets.specs.Model.{leaf, Library, Tree}
 use Rattle.covers.specs.Lists.{any, select}
 use Rattle.covers.specs.Cover.{Point, Cover, leafArrival, leafPoint, leafCover}
 use Rattle.covers.specs.Enumeration.{coversStep}
@@ -26,7 +26,7 @@ use Rattle.covers.proofs.Nodes.{root-in}
 use Rattle.covers.proofs.Overfull.{LastOf, nowhere, at, overfull-listed, overfull-named}
 use Rattle.covers.proofs.Points.{point-path}
 use Rattle.covers.proofs.Unroll.{covers-unroll}
-use Rattle.curves.specs.Words.{pointLimit, stored, curveAt}
+use Rattle.curves.specs.Words.{pointLimit, stored}
 use Rattle.curves.proofs.Laws.{stored-end, stored-more}
 use Rattle.results.specs.Public.{pointsOf}
 use Rattle.mapper.specs.declared.Finding.the-variants.{Refused, Found}

@@ -2,20 +2,18 @@
 use Prim.Native.Nat.{ℕ, suc, _+_, _-_, _/_, _%_, _≤_, _<_}
 use mathlib.Core.Path.{_≡_, refl, sym, ap, ap₂, subst, _∙_}
 use mathlib.Core.Bool.{Bool, cond}
-use mathlib.Core.List.{List, [], _∷_, map, List·Memᴰ, List·Memᴰ·head}
+use mathlib.Core.List.{List, [], List·Memᴰ, List·Memᴰ·head}
 use mathlib.Core.Option.{Option, none, some, Option·map, Option·none-ne-some, Option·some-injective}
 use native.Mathlib.Numerals.{add-one}
-use native.Mathlib.Nat.{zero-add}
 use native.Mathlib.Omega.{arith}
 use borrow.Author.Tests.{le-leb, lt-leb}
-use lib.ListN.{length, getD, take, drop, replicate, length-map, length-replicate}
-use lib.Seq.{sets, sets-eq, take-append-seam}
-use Rattle.fields.specs.Answer.{Answer, refused, success}
+use lib.ListN.{length, getD}
+use Rattle.fields.specs.Answer.{success}
 use Rattle.shapes.specs.Shape.{symbols, sizes}
 use Rattle.sheets.specs.declared.tree.TreeRecord.{TreeRecord}
 use Rattle.sheets.specs.Model.{Shape, leaf, inv, nand, leaves, Library, Tree}
-use Rattle.sheets.specs.Layout.{padded, treeLaid}
-use Rattle.covers.specs.Cover.{Point, Placed, Cover, leafArrival, leafPoint, leafCover}
+use Rattle.sheets.specs.Layout.{treeLaid}
+use Rattle.covers.specs.Cover.{Point, Cover, leafArrival, leafPoint, leafCover}
 use Rattle.covers.specs.Enumeration.{covers}
 use Rattle.covers.specs.Choice.{least, choiceStep, choice}
 use Rattle.covers.specs.Answer.{answered, mapped}
@@ -31,7 +29,6 @@ use Rattle.matching.proofs.Standing.{stands-everywhere, subject-everywhere}
 use Rattle.curves.specs.Words.{absent, pointLimit, stored, curveAt}
 use Rattle.curves.specs.Best.{symbolLimit}
 use Rattle.curves.specs.Promises.{Worth}
-use Rattle.choosing.specs.declared.Goal.{Goal}
 use Rattle.choosing.specs.Promises.{at-root, Chooses, appended}
 use Rattle.choosing.proofs.Gate.{chosen-there}
 use Rattle.choosing.proofs.Below.{appended-cover}

@@ -1,9 +1,9 @@
 -- From the records that the readers hand over to what the core is given, and from what it answers to the reply, the output and the work area.
 use mathlib.Core.Path.{_≡_, refl, sym, ap, ap₂, subst, _∙_}
-use mathlib.Core.Bool.{Bool, true, false}
-use mathlib.Core.List.{List, [], _∷_, _++_, map, reverse, zipWith}
+use mathlib.Core.Bool.{false}
+use mathlib.Core.List.{List, [], _∷_, _++_, map, zipWith}
 use mathlib.Core.Option.{Option, none, some}
-use Prim.Native.Nat.{ℕ, _+_, _-_, _*_, _≤_, _<_, _^_}
+use Prim.Native.Nat.{ℕ, _+_, _-_, _*_, _≤_, _<_}
 use native.Mathlib.Omega.{arith}
 use lib.ListN.{length, getD, take, drop, replicate, length-replicate, length-take, length-map, length-reverse}
 use lib.Seq.{take-append-seam, drop-append-seam}
@@ -31,7 +31,7 @@ use Rattle.sheets.specs.Report.{libraryNumber, treeNumber}
 use Rattle.sheets.specs.Sound.{SoundTree}
 use Rattle.sheets.proofs.Tables.{length-table}
 use Rattle.sheets.proofs.Sound.{library-limits, tree-limits}
-use Rattle.covers.specs.Cover.{Point, Cover}
+use Rattle.covers.specs.Cover.{Cover}
 use Rattle.covers.specs.Tradeoff.{nodes, overfull, overfullNode, tradeoffs}
 use Rattle.covers.specs.Choice.{choice}
 use Rattle.covers.specs.Curve.{pointOf}
@@ -56,7 +56,7 @@ use Rattle.operations.specs.declared.Task.the-variants as Task
 use Rattle.operations.specs.declared.Reply.{Reply}
 use Rattle.operations.specs.declared.Reply.the-variants as Reply
 use Rattle.operations.specs.Public.{ofReply, Operated}
-use Rattle.operations.specs.Inside.{leastOutput, taskAnswer, Replied, LibraryHeld, SheetsHeld}
+use Rattle.operations.specs.Inside.{taskAnswer, Replied, LibraryHeld, SheetsHeld}
 
 -- ---- what the core is given
 

@@ -1,7 +1,7 @@
 -- The outcome of map as text: what its reply says, and what is put after it.
 use Prim.Native.Nat.{ℕ, _^_, _≤_, _<_}
 use mathlib.Core.Path.{_≡_, refl, sym, ap, subst, _∙_}
-use mathlib.Core.List.{List, _++_}
+use mathlib.Core.List.{List}
 use native.Mathlib.Omega.{arith}
 use lib.ListN.{length, take, drop, length-append}
 use lib.Seq.{take-at}
@@ -21,7 +21,7 @@ use Rattle.covers.specs.Capacity.{capacity, workWords}
 use Rattle.covers.specs.Cover.{Cover}
 use Rattle.covers.specs.CoverSheet.{coverSheet}
 use Rattle.covers.specs.Promise.{RootCover}
-use Rattle.covers.specs.Answer.{overfullNumber, noCoverNumber, mapped, mapAnswer}
+use Rattle.covers.specs.Answer.{overfullNumber, noCoverNumber, mapAnswer}
 use Rattle.covers.specs.Outcome.{told, outputAfter, withTree, withLibrary, lent, operation, mapBytes, mapOutcome}
 use Rattle.covers.proofs.ReadBack.{cover-reads}
 use Rattle.covers.proofs.FromSheets.{cover-fits}

@@ -19,7 +19,7 @@ use Rattle.sheets.specs.declared.library.DrawingsRead.{DrawingsRead}
 use Rattle.sheets.specs.declared.library.Bins.{Bins}
 use Rattle.sheets.specs.declared.library.NumberedCell.{NumberedCell}
 use Rattle.sheets.specs.Model.{Pin, binLoadOf, Cell, Pattern, drawn, patternsFrom}
-use Rattle.sheets.specs.LibrarySheet.{head, pin, pattern, countVerdict, drawings, cell}
+use Rattle.sheets.specs.LibrarySheet.{head, pin, countVerdict, drawings, cell}
 use Rattle.sheets.specs.Layout.{padded, pinsMost, cellLaid, rowWords, row, tableFrom, patternRow, patternRows}
 use Rattle.sheets.specs.Inside.{HeadIs, PinsAre, rowOf, patternOf, RowsAre, CountIs, DrawingsAre, CellIs, cellAfter}
 use Rattle.sheets.proofs.Laws.{table-append}

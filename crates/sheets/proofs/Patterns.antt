@@ -12,7 +12,7 @@ use Rattle.fields.proofs.Lists.{at-mem, at-map}
 use Rattle.shapes.specs.Shape.{Shape, size, symbols}
 use Rattle.sheets.specs.Model.{Pin, binLoadOf, Cell, Library, Pattern, drawn, patternsFrom, patterns}
 use Rattle.sheets.specs.Sound.{SoundDrawing, SoundCell, SoundLibrary}
-use Rattle.sheets.specs.Layout.{padded, pinsMost, cellLaid, pinWords, figuresAt, sizeAt, symbolsAt, rowWords, tableWords, pinFigures, row, tableFrom, patternRow, patternRows, libraryLaid, patternTable}
+use Rattle.sheets.specs.Layout.{padded, pinsMost, cellLaid, pinWords, figuresAt, sizeAt, symbolsAt, rowWords, tableWords, pinFigures, tableFrom, patternRow, patternRows, libraryLaid, patternTable}
 use Rattle.sheets.proofs.Rows.{length-row, row-cell, row-held, row-area, row-highest, row-pins, row-figure, row-size, row-symbol}
 use Rattle.sheets.proofs.Tables.{length-table, row-at}
 use Rattle.sheets.proofs.Laws.{in-padded}

@@ -1,7 +1,6 @@
 use borrow.Author.Needs.{needs}
-use mathlib.Core.Path.{sym, subst}
+use mathlib.Core.Path.{subst}
 use Rattle.filling.specs.Promises.{FillingIs}
-use Rattle.mapper.specs.Promises.{ListedIs}
 use Rattle.mapper.proofs.Core.{core-curved, list-overfull}
 use Rattle.mapper.proofs.list_tree.Statement.{statement}
 use Rattle.mapper.proofs.list_tree.Tie as tie

@@ -1,14 +1,13 @@
 use borrow.Author.Needs.{needs}
 use native.Mathlib.Omega.{arith}
-use Prim.Native.Nat.{ℕ, _≤_, _-_}
+use Prim.Native.Nat.{_≤_, _-_}
 use mathlib.Core.Path.{_≡_, refl, subst}
 use mathlib.Core.List.{List}
 use lib.ListN.{length, take}
 use Rattle.covers.specs.Cover.{Placed}
 use Rattle.results.specs.Public.{placedOf}
 use Rattle.lines.specs.Text.{Appended}
-use Rattle.lines.proofs.Laws.{appended-none}
-use Rattle.printing.specs.Rows.{rowLine, rowLines}
+use Rattle.printing.specs.Rows.{rowLines}
 use Rattle.printing.proofs.Laws.{no-lines, match-row, match-fits, match-turn, matches-done}
 use Rattle.printing.proofs.put_matches.Statement.{statement}
 use Rattle.printing.proofs.put_matches.Tie as tie
