@@ -2,13 +2,15 @@
 use Prim.Native.Nat.{ℕ, _+_, _%_, _≤_, _<_}
 use mathlib.Core.Path.{_≡_}
 use mathlib.Core.List.{List, map}
-use lib.ListN.{length, take}
+use lib.ListN.{length, take, drop}
 use lib.Seq.{sets}
 use mathlib.Core.Option.{Option, none, some}
 use Rattle.covers.specs.Cover.{Point}
-use Rattle.covers.specs.Curve.{base, byDeadline, pointOf, wordOf}
-use Rattle.curves.specs.Words.{absent, areaLimit, slot, Small}
+use Rattle.covers.specs.Curve.{base, byDeadline, lookup, pointOf, wordOf}
+use Rattle.curves.specs.Words.{absent, areaLimit, pointLimit, stored, slot, Small}
 use Rattle.curves.specs.Best.{rowsBest}
+use Rattle.curves.specs.declared.Probe.{Probe}
+use Rattle.curves.specs.declared.Probe.the-variants.{Found, Beyond}
 
 -- A word below the limit for a point that arrives before an instant, or what stands for no point.
 pub record Worth (limit end r : ℕ) (o : Option Point) : Type 0 where
@@ -16,6 +18,11 @@ pub record Worth (limit end r : ℕ) (o : Option Point) : Type 0 where
   pub point : (r ≡ absent → ⊥) → o ≡ some (pointOf r)
   pub small : (r ≡ absent → ⊥) → r < limit
   pub intime : (r ≡ absent → ⊥) → r % base < end
+
+-- Of n words of a curve from place k on: the first point before an instant, or that they have none.
+abbrev pub Probed : List ℕ → ℕ → ℕ → ℕ → Probe → Type 0
+Probed curve end k n (Found w) = Worth pointLimit end w (lookup end (stored (drop k curve)))
+Probed curve end k n Beyond = lookup end (stored (drop k curve)) ≡ lookup end (stored (drop (k + n) curve))
 
 -- A point fits a word of the work area, which is then not 0.
 pub record Fit (p : Point) : Type 0 where

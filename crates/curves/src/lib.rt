@@ -3,11 +3,12 @@ use matching::Row;
 use sheets::Limits;
 ghost use mathlib.Core.Path.{_≡_};
 ghost use Prim.Native.Nat.{_+_, _-_, _*_, _<_, _≤_, min, max};
+ghost use lib.ListN.{length};
 ghost use Rattle.covers.specs.Cover.{leafArrival};
 ghost use Rattle.covers.specs.Curve.{base, lookup};
 ghost use Rattle.curves.specs.Words.{pointLimit, matchLimit, stored, curveAt, Small, WorkArea};
 ghost use Rattle.curves.specs.Best.{symbolLimit, rowOf, inputBest, inputLate, rowBest, legalBest, rowsBest, Sources, Tables, InputSafe, Matches, Above};
-ghost use Rattle.curves.specs.Promises.{Worth, PointsFit, CurveStored};
+ghost use Rattle.curves.specs.Promises.{Probed, Worth, PointsFit, CurveStored};
 
 // The word for no point, and how many curves a node has: one for each load bin.
 pub struct Words {}
@@ -16,9 +17,37 @@ impl Words {
     pub const ABSENT: u64 = 9223372036854775808;
 
     pub const BINS: usize = 4;
+
+    pub const LINE: usize = 32;
 }
 
-// The first point of a curve that arrives before `end`. No word is tested for 0, which ends the curve, unless it passes the other test.
+// What a look at some words of a curve tells: the first point that they have before an instant, or that they have none.
+pub enum Probe {
+    Found(u64),
+    Beyond,
+}
+
+// So many words from `first` on. None is tested for 0, which ends the curve, unless it passes the other test.
+fn probe_words(curve: &[u64], first: usize, count: usize, end: u64) -> Probe
+    requires { ⌜ Small (now curve) × (first + count ≤ length (now curve)) × (0 < end) ⌝ }
+    ensures { λ r. ⌜ Probed (now (curve .entry)) end first count r ⌝ }
+{
+    let mut k = 0;
+    while k < count {
+        let w = curve[first + k];
+        if w % Limits::TIMES < end {
+            if w == 0 {
+                return Probe::Found(Words::ABSENT);
+            }
+            return Probe::Found(w);
+        }
+        k += 1;
+    }
+    Probe::Beyond
+}
+
+// The first point of a curve that arrives before `end`. A fixed count of words at a time becomes straight-line tests, so that each place of
+// a curve has a branch of its own.
 pub fn find(curve: &[u64], end: u64) -> u64
     requires { ⌜ Small (now curve) ⌝ }
     ensures { λ r. ⌜ Worth pointLimit end r (lookup end (stored (now (curve .entry)))) ⌝ }
@@ -27,17 +56,16 @@ pub fn find(curve: &[u64], end: u64) -> u64
         return Words::ABSENT;
     }
     let mut k = 0;
-    while k < curve.len() {
-        let w = curve[k];
-        if w % Limits::TIMES < end {
-            if w == 0 {
-                return Words::ABSENT;
-            }
-            return w;
+    while Words::LINE <= curve.len() - k {
+        match probe_words(curve, k, Words::LINE, end) {
+            Probe::Found(w) => return w,
+            Probe::Beyond => k += Words::LINE,
         }
-        k += 1;
     }
-    Words::ABSENT
+    match probe_words(curve, k, curve.len() - k, end) {
+        Probe::Found(w) => w,
+        Probe::Beyond => Words::ABSENT,
+    }
 }
 
 // The first point before `end` of the curve with a number: that of node n under bin b has the number 4 * n + b.
