@@ -65,21 +65,21 @@ least-zero cs = go (least-is 0 cs)
     go (found f) = absurd (omega (arith, f .intime))
 
 -- The point of a cover that may be there.
-abbrev pub pointOf : Option Cover → Option Point
-pointOf = Option·map (λ c. c .point)
+abbrev pub costOf : Option Cover → Option Point
+costOf = Option·map (λ c. c .point)
 
-point-both : (a b : Option Cover) → pointOf (bothChosen a b) ≡ both (pointOf a) (pointOf b)
+point-both : (a b : Option Cover) → costOf (bothChosen a b) ≡ both (costOf a) (costOf b)
 unfolding bothChosen both together
 point-both none b = refl
 point-both (some c) none = refl
 point-both (some c) (some d) = refl
 
-point-delayed : (d : ℕ) (a : Option Cover) → pointOf (Option·map (delayed d) a) ≡ Option·map (late d) (pointOf a)
+point-delayed : (d : ℕ) (a : Option Cover) → costOf (Option·map (delayed d) a) ≡ Option·map (late d) (costOf a)
 unfolding delayed
 point-delayed d none = refl
 point-delayed d (some c) = refl
 
-point-topped : (n : ℕ) (m : Match) (a : Option Cover) → pointOf (Option·map (topped n m) a) ≡ Option·map (raised (m .pattern .cell .area)) (pointOf a)
+point-topped : (n : ℕ) (m : Match) (a : Option Cover) → costOf (Option·map (topped n m) a) ≡ Option·map (raised (m .pattern .cell .area)) (costOf a)
 unfolding topped
 point-topped n m none = refl
 point-topped n m (some c) = refl
@@ -90,9 +90,9 @@ module _ (l : Library) where
 
   -- What is claimed of a shape: the chosen cover has the least point.
   abbrev Chosen : Shape → Type 0
-  Chosen s = (load n time : ℕ) → pointOf (choice l load n s time) ≡ least (suc time) (covers l load n s)
+  Chosen s = (load n time : ℕ) → costOf (choice l load n s time) ≡ least (suc time) (covers l load n s)
 
-  inputs-point : (cell : Cell) (load t : ℕ) (is : List Input) {q : Point} → ((i : Input) → List·Memᴰ i is → Chosen (i .shape)) → bestInputs (leastInput (allBelow l)) cell load (suc t) is ≡ some q → pointOf (chosenInputs chosenBelow cell load t is) ≡ some q
+  inputs-point : (cell : Cell) (load t : ℕ) (is : List Input) {q : Point} → ((i : Input) → List·Memᴰ i is → Chosen (i .shape)) → bestInputs (leastInput (allBelow l)) cell load (suc t) is ≡ some q → costOf (chosenInputs chosenBelow cell load t is) ≡ some q
   unfolding chosenInputs bestInputs under nothing
   inputs-point cell load t [] {q} h e = sym (before-yes (suc t) (record { area = 0; arrival = 0 }) (omega arith)) ∙ e
   inputs-point cell load t (i ∷ is) {q} h e =
@@ -118,11 +118,11 @@ module _ (l : Library) where
     pub pattern-reaches : {end : ℕ} {p : Point} {m : Match} → IsLeast end (In (covers l load n s)) p → List·Memᴰ m (matches l load n s) → (reaches p (matchCovers (allBelow l) load n m) ≡ true) ↔ (bestMatch (leastInput (allBelow l)) load (suc (p .arrival)) m ≡ some p)
     pattern-reaches {p} {m} f h = rw (← (deadline-match (allBelow l) load n (suc (p .arrival)) m)) (reaches-when-best (covers l load n s) (matchCovers (allBelow l) load n m) f (match-covers-in h))
 
-    gate-point : ((t : Shape) → size t < size s → Chosen t) → 0 < gates s → (time : ℕ) → pointOf (choice l load n s time) ≡ least (suc time) (covers l load n s)
+    gate-point : ((t : Shape) → size t < size s → Chosen t) → 0 < gates s → (time : ℕ) → costOf (choice l load n s time) ≡ least (suc time) (covers l load n s)
     unfolding gateChoice gateCovers firstReaching withInputs
-    gate-point below g time = ap pointOf (gate-choice l load n s time g) ∙ go (least-is (suc time) (covers l load n s))
+    gate-point below g time = ap costOf (gate-choice l load n s time g) ∙ go (least-is (suc time) (covers l load n s))
       where
-        at-match : {p : Point} → IsLeast (suc time) (In (covers l load n s)) p → {o : Option Match} → FirstOf (λ m. reaches p (matchCovers (allBelow l) load n m)) (matches l load n s) o → pointOf (withInputs chosenBelow load n (p .arrival) o) ≡ some p
+        at-match : {p : Point} → IsLeast (suc time) (In (covers l load n s)) p → {o : Option Match} → FirstOf (λ m. reaches p (matchCovers (allBelow l) load n m)) (matches l load n s) o → costOf (withInputs chosenBelow load n (p .arrival) o) ≡ some p
         at-match {p} f (nowhere a) = let r = of-flatMap (matchCovers (allBelow l) load n) (matches l load n s) (rw (gate-covers l load n s g) at (f .among)) in absurd (false≢true (sym (a (r .0) (r .1)) ∙ true-reaches p (matchCovers (allBelow l) load n (r .0)) (r .2) (f .point)))
         at-match {p} f (somewhere {x = m} k r) = unfold bestMatch in
             let a = m .pattern .cell .area in
@@ -130,23 +130,23 @@ module _ (l : Library) where
             let q = map-eq-some-iff (raised a) (bestInputs (leastInput (allBelow l)) (m .pattern .cell) load (suc (p .arrival)) (m .inputs)) .0 (pattern-reaches f k .0 r) in
             point-topped n m chosen ∙ ap (Option·map (raised a)) (inputs-point (m .pattern .cell) load (p .arrival) (m .inputs) (λ i j. below (i .shape) (input-smaller (matches-are l load n s k) j)) (q .1)) ∙ ap {B = Option Point} some (q .2)
 
-        go : {o : Option Point} → LeastOf (suc time) (In (covers l load n s)) o → pointOf (gateChoice l (choice l) load n s o) ≡ o
+        go : {o : Option Point} → LeastOf (suc time) (In (covers l load n s)) o → costOf (gateChoice l (choice l) load n s o) ≡ o
         go (absent a) = refl
         go (found {p = p} f) = at-match f (first-of (λ m. reaches p (matchCovers (allBelow l) load n m)) (matches l load n s))
 
-  leaf-point : (load n x time : ℕ) → pointOf (choice l load n (leaf x) time) ≡ least (suc time) (covers l load n (leaf x))
+  leaf-point : (load n x time : ℕ) → costOf (choice l load n (leaf x) time) ≡ least (suc time) (covers l load n (leaf x))
   unfolding choiceStep coversStep least lesser
-  leaf-point load n x time = ap (λ f. pointOf (f time)) (choice-unroll l load n (leaf x)) ∙ go (lt-or-le a (suc time)) ∙ ap (least (suc time)) (sym (covers-unroll l load n (leaf x)))
+  leaf-point load n x time = ap (λ f. costOf (f time)) (choice-unroll l load n (leaf x)) ∙ go (lt-or-le a (suc time)) ∙ ap (least (suc time)) (sym (covers-unroll l load n (leaf x)))
     where
       a : ℕ
       a = leafArrival x load
 
-      go : (a < suc time) ⊎ (suc time ≤ a) → pointOf (cond (leb a time) (some (leafCover x load)) none) ≡ lesser (before (suc time) (leafCover x load .point)) none
+      go : (a < suc time) ⊎ (suc time ≤ a) → costOf (cond (leb a time) (some (leafCover x load)) none) ≡ lesser (before (suc time) (leafCover x load .point)) none
       go (inl h) = rw (le-leb a time (omega arith), before-yes (suc time) (leafCover x load .point) h)
       go (inr h) = rw (lt-leb a time h, before-no (suc time) (leafCover x load .point) h)
 
   -- The choice rule hands over the least point: the least area with arrival at most the time, and the least arrival with that area.
-  pub choice-point : (load n : ℕ) (s : Shape) (time : ℕ) → pointOf (choice l load n s time) ≡ least (suc time) (covers l load n s)
+  pub choice-point : (load n : ℕ) (s : Shape) (time : ℕ) → costOf (choice l load n s time) ≡ least (suc time) (covers l load n s)
   choice-point load n s time = by-size Chosen step s load n time
     where
       step : (s : Shape) → ((t : Shape) → size t < size s → Chosen t) → Chosen s
@@ -201,7 +201,7 @@ module _ (l : Library) where
   gate-lowest : (load n : ℕ) (s : Shape) (time : ℕ) → 0 < gates s → {c : Cover} → choice l load n s time ≡ some c → (d : Cover) → IsCover l load n s d → d .point ≡ c .point → rootPattern c ≤ rootPattern d
   unfolding gateChoice gateCovers matchCovers firstReaching withInputs topped rootPattern
   gate-lowest load n s time g {c} e d k h =
-      let q : least (suc time) (covers l load n s) ≡ some (c .point) = sym (choice-point load n s time) ∙ ap pointOf e in
+      let q : least (suc time) (covers l load n s) ≡ some (c .point) = sym (choice-point load n s time) ∙ ap costOf e in
       let r = of-flatMap (matchCovers (allBelow l) load n) (matches l load n s) (rw (gate-covers l load n s g) at (covers-all l k)) in
       let t = Memᴰ·of-map (topped n (r .0)) (inputCovers (allBelow l) (r .0 .pattern .cell) load (r .0 .inputs)) (r .2) in
       rw (← (t .2)) (go (firstReaching l load n s (c .point)) refl (sym (ap (gateChoice l (choice l) load n s) q) ∙ sym (gate-choice l load n s time g) ∙ e) (r .1) (true-reaches (c .point) (matchCovers (allBelow l) load n (r .0)) (r .2) h))
@@ -220,7 +220,7 @@ module _ (l : Library) where
     -- What is handed over is a legal cover that meets the time, of least area among all legal covers that meet it, and earliest among those of that area.
     pub choice-handed : {c : Cover} → choice l load n s time ≡ some c → Handed l load n s time c
     choice-handed {c} e =
-        let h = least-some (least-is (suc time) (covers l load n s)) (sym (choice-point load n s time) ∙ ap pointOf e) in
+        let h = least-some (least-is (suc time) (covers l load n s)) (sym (choice-point load n s time) ∙ ap costOf e) in
         record { legal = choice-legal load n s time e; intime = by-then (h .intime); smallest = λ d k t. leq-area (h .first d (covers-all l k) (before-next t)); earliest = λ d k a. go a (lt-or-le (d .point .arrival) (suc time)) (h .first d (covers-all l k)) (h .intime); lowest = choice-lowest load n s time e }
       where
         same-area : {p q : Point} → Leq p q → q .area ≡ p .area → p .arrival ≤ q .arrival
@@ -233,4 +233,4 @@ module _ (l : Library) where
 
     -- None is handed over only if no legal cover meets the time.
     pub choice-none : choice l load n s time ≡ none → (d : Cover) → IsCover l load n s d → time < d .point .arrival
-    choice-none e d k = least-none (least-is (suc time) (covers l load n s)) (sym (choice-point load n s time) ∙ ap pointOf e) d (covers-all l k)
+    choice-none e d k = least-none (least-is (suc time) (covers l load n s)) (sym (choice-point load n s time) ∙ ap costOf e) d (covers-all l k)

@@ -9,7 +9,7 @@ use lib.ListN.{getElem?, length, length-append}
 use Rattle.sheets.specs.Model.{Shape, size, Cell, Library, patterns}
 use Rattle.covers.specs.Match.{Input}
 use Rattle.covers.specs.Cover.{Placed, Cover, IsCover, bare, matching, AreCovers, done, more, leafPoint, leafCover, nothing, beside, late, raised, together, delayed, topped}
-use Rattle.covers.specs.Promise.{areaAt, listedArea}
+use Rattle.covers.specs.Promise.{cellArea, listedArea}
 use Rattle.covers.proofs.Basics.{each, at-below}
 use Rattle.covers.proofs.Ascending.{Ascending, end, then, lowered, ascending-append}
 use Rattle.covers.specs.Curve.{gates}
@@ -58,10 +58,10 @@ module _ (l : Library) where
   listed-append : (xs ys : List Placed) → listedArea l (xs ++ ys) ≡ listedArea l xs + listedArea l ys
   unfolding listedArea
   listed-append [] ys = sym (zero-add (listedArea l ys))
-  listed-append (x ∷ xs) ys = ap (λ r. areaAt (getElem? (patterns l) (x .pattern)) + r) (listed-append xs ys) ∙ sym (add-assoc (areaAt (getElem? (patterns l) (x .pattern))) (listedArea l xs) (listedArea l ys))
+  listed-append (x ∷ xs) ys = ap (λ r. cellArea (getElem? (patterns l) (x .pattern)) + r) (listed-append xs ys) ∙ sym (add-assoc (cellArea (getElem? (patterns l) (x .pattern))) (listedArea l xs) (listedArea l ys))
 
   mutual
-    unfolding leafCover leafPoint nothing together beside late raised delayed topped listedArea areaAt
+    unfolding leafCover leafPoint nothing together beside late raised delayed topped listedArea cellArea
 
     pub area-listed : {load n : ℕ} {s : Shape} {c : Cover} → IsCover l load n s c → c .point .area ≡ listedArea l (c .placed)
     area-listed (bare e) = rw e

@@ -47,15 +47,15 @@ abbrev pub InTime : Library → Tree → Cover → Type 0
 InTime l t c = RootCover l t c × (c .point .arrival ≤ t .required)
 
 -- The area of a pattern's cell.
-unfoldable pub areaAt : Option Pattern → ℕ
-areaAt none = 0
-areaAt (some p) = p .cell .area
+unfoldable pub cellArea : Option Pattern → ℕ
+cellArea none = 0
+cellArea (some p) = p .cell .area
 
 -- The areas of the cells of the listed patterns, added up.
 unfoldable pub listedArea : Library → List Placed → ℕ
-unfolding areaAt patterns
+unfolding cellArea patterns
 listedArea l [] = 0
-listedArea l (x ∷ xs) = areaAt (getElem? (patterns l) (x .pattern)) + listedArea l xs
+listedArea l (x ∷ xs) = cellArea (getElem? (patterns l) (x .pattern)) + listedArea l xs
 
 -- The cover that map hands over, and that the listed matches make it up: its area is that of their cells, and no other legal cover lists the same, so they fix its arrival too.
 pub record BestCover (l : Library) (t : Tree) (c : Cover) : Type 0 where

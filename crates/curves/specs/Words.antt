@@ -1,20 +1,21 @@
 -- Points as words, and curves as words in the work area.
-use Prim.Native.Nat.{ℕ, _+_, _*_, _≤_, _<_}
+use Prim.Native.Nat.{ℕ, _+_, _*_, _^_, _≤_, _<_}
 use mathlib.Core.Path.{_≡_}
 use mathlib.Core.Bool.{cond}
 use mathlib.Core.List.{List, [], _∷_}
 use lib.ListN.{length, getD, take, drop}
 use lib.Dec.{eqb}
+use Rattle.covers.specs.Capacity.{workWords}
 use Rattle.covers.specs.Cover.{Point}
 use Rattle.covers.specs.Curve.{base, pointOf}
 
 -- What stands for no point: 2^63, above every word of a point.
 abbrev pub absent : ℕ
-absent = 9223372036854775808
+absent = 2 ^ 63
 
 -- The words of the work area: 22 bits hold the area of a cover of a whole tree.
 abbrev pub areaLimit : ℕ
-areaLimit = 4194304
+areaLimit = 2 ^ 22
 
 abbrev pub pointLimit : ℕ
 pointLimit = areaLimit * base
@@ -59,5 +60,5 @@ module _ (most : ℕ) where
 -- A work area with room for the curves of 64 nodes under 4 bins. How many points a curve has is told in a byte.
 pub record WorkArea (most : ℕ) (work : List ℕ) : Type 0 where
   pub bounded : most ≤ 254
-  pub room : 256 * (most + 1) ≤ length work
+  pub room : workWords most ≤ length work
   pub small : Small work

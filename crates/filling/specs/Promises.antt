@@ -9,6 +9,7 @@ use Rattle.sheets.specs.declared.library.Bins.{Bins}
 use Rattle.sheets.specs.declared.tree.TreeRecord.{TreeRecord}
 use Rattle.sheets.specs.Model.{Shape, Library, Tree}
 use Rattle.sheets.specs.Layout.{libraryLaid, treeLaid}
+use Rattle.covers.specs.Capacity.{workWords}
 use Rattle.covers.specs.Cover.{Point}
 use Rattle.covers.specs.Enumeration.{covers}
 use Rattle.covers.specs.Tradeoff.{overfullNode}
@@ -98,7 +99,7 @@ pub record FillStart (l : Library) (t : Tree) (rows : List ℕ) (bins : Bins) (t
   pub bins-are : bins ≡ libraryLaid l .bins
   pub tree-is : tree ≡ treeLaid t
   pub room : length found ≡ matchTable
-  pub work-length : length work ≡ 256 * (most + 1)
+  pub work-length : length work ≡ workWords most
   pub zero : (k : ℕ) → getD work k 0 ≡ 0
   pub some-most : 1 ≤ most
   pub bounded : most ≤ 254

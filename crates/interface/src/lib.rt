@@ -11,12 +11,19 @@ ghost use Rattle.covers.specs.Outcome.{mapBytes, listBytes, told, observed, map
 ghost use Rattle.covers.specs.Demands.{MapDemands, ListDemands, WhereSound};
 ghost use Rattle.operations.specs.Public.{ofReply, Leaves};
 
+// A word has the number above the places.
+struct Word {}
+
+impl Word {
+    const PLACES: u64 = 4294967296;
+}
+
 // A refusal in one word.
 fn refusal(number: u32, place: usize) -> u64
     requires { ⌜ (number ≤ 255) × (place < places) ⌝ }
     ensures { λ r. ⌜ r ≡ number * places + place ⌝ }
 {
-    number as u64 * 4294967296 + place as u64
+    number as u64 * Word::PLACES + place as u64
 }
 
 // Judges a library: cells × 256 + patterns, or the refusal.

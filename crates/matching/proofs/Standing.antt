@@ -88,7 +88,3 @@ module _ {l : Library} {t : Tree} {rows ss zs : List ℕ} (d : Decoded l t rows 
     stands = stands-everywhere x m;
     ends = omega (arith, node-ends 0 (t .shape) m, d .tree .size);
   }
-
-  -- What `find_matches` is lent there.
-  pub ready-everywhere : {room : ℕ} → room ≡ matchTable → (x : Node) → List·Memᴰ x (nodes 0 (t .shape)) → Ready l t rows ss zs (x .number) room (x .shape)
-  ready-everywhere e x m = record { decoded = d; here = m; room-is = e }

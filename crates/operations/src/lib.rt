@@ -165,10 +165,10 @@ fn operate(task: Task, library: &[u8], tree: &[u8], output: &mut [u8], work: &mu
     let scan = read.scan;
     match scan {
         Scan::At(_) => with_library(task, read.library, tree, output, work),
-        Scan::Refused(fault, place) => Reply::Refused(
-            sheets::library::library_number(fault),
-            place,
-        ),
+        Scan::Refused(fault, place) => {
+            let number = sheets::library::library_number(fault);
+            Reply::Refused(number, place)
+        }
     }
 }
 

@@ -110,8 +110,8 @@ fn put_sheet(text: &mut [u8], sheet: &[u8], library: &[u8]) -> usize
     let read = sheets::library::read_library(library);
     let decoded = read.library;
     let rows = decoded.rows;
-    let found = results::read_cover(sheet);
-    put_cover(text, found.cover, &rows)
+    let read = results::read_cover(sheet);
+    put_cover(text, read.cover, &rows)
 }
 
 // Whether the input is under 2 bytes, over 4,096, or too short for the library's length.

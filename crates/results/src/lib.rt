@@ -153,7 +153,7 @@ pub fn write_list(output: &mut [u8], points: &[u64], count: usize) -> usize
 
 // One match.
 fn read_match(scan: Scan, s: &[u8]) -> MatchRead
-    requires { ⌜ place scan < 2 ^ 20 ⌝ }
+    requires { ⌜ place scan ≤ coverBits 63 ⌝ }
     ensures { λ r. ⌜ MatchIs (now (s .entry)) scan r ⌝ }
 {
     let node = fields::raw(scan, s, Sheet::NODE);
@@ -169,7 +169,7 @@ fn read_match(scan: Scan, s: &[u8]) -> MatchRead
 
 // The matches.
 fn read_matches(scan: Scan, s: &[u8], count: u32) -> MatchesRead
-    requires { ⌜ (count < 2 ^ matchCountWidth) × (place scan < 2 ^ 16) ⌝ }
+    requires { ⌜ (count < 2 ^ matchCountWidth) × (place scan ≤ coverBits 0) ⌝ }
     ensures { λ r. ⌜ MatchesAre (now (s .entry)) count scan r ⌝ }
 {
     let mut nodes = [0u8; 64];

@@ -21,7 +21,7 @@ use Rattle.sheets.specs.declared.library.NumberedCell.{NumberedCell}
 use Rattle.sheets.specs.Model.{Pin, binLoadOf, Cell, Pattern, drawn, patternsFrom}
 use Rattle.sheets.specs.LibrarySheet.{head, pin, countVerdict, drawings, cell}
 use Rattle.sheets.specs.Layout.{padded, pinsMost, cellLaid, rowWords, row, tableFrom, patternRow, patternRows}
-use Rattle.sheets.specs.Inside.{HeadIs, PinsAre, rowOf, patternOf, RowsAre, CountIs, DrawingsAre, CellIs, cellAfter}
+use Rattle.sheets.specs.Inside.{HeadIs, PinsAre, rowUnder, patternOf, RowsAre, CountIs, DrawingsAre, CellIs, cellAfter}
 use Rattle.sheets.proofs.Laws.{table-append}
 
 pub drawings-are : (s : List ℕ) (numbered : NumberedCell) (total : ℕ) (scan : Scan) (l l′ : List ℕ) (got : Got) (r : Scan) →
@@ -35,7 +35,7 @@ drawings-are s numbered total scan l l′ got r h w =
     record {
       scan-is = w .scan-is ∙ ap (λ (x : List Shape × Scan). x .1) same;
       count-is = sym (length-times (got .value) p (got .scan)) ∙ ap (λ (x : List Shape × Scan). length (x .0)) same;
-      laid = λ q. w .laid q ∙ ap (λ (x : List Shape × Scan). tableFrom rowWords l total (map (rowOf numbered) (x .0))) same;
+      laid = λ q. w .laid q ∙ ap (λ (x : List Shape × Scan). tableFrom rowWords l total (map (rowUnder numbered) (x .0))) same;
       fits = h .fits;
       near = omega (arith, h .reads .near, h .reads .small, w .near);
     }

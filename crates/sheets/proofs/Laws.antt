@@ -27,7 +27,7 @@ use Rattle.fields.specs.Promises.{Live}
 use Rattle.shapes.specs.Promises.{Laid, NodeRead}
 use Rattle.sheets.specs.LibrarySheet.{last, binLoad, complete, hasAll, pattern, patternRules, countVerdict}
 use Rattle.sheets.specs.Layout.{padded, sizeAt, symbolsAt, rowWords, cellWords, tableFrom}
-use Rattle.sheets.specs.Inside.{PatternIs, rowOf, patternOf, RowIs}
+use Rattle.sheets.specs.Inside.{PatternIs, rowUnder, patternOf, RowIs}
 use Rattle.sheets.specs.declared.library.NumberedCell.{NumberedCell}
 use Rattle.sheets.specs.declared.library.PatternRead.{PatternRead}
 use Rattle.sheets.specs.Reach.{patternBits}
@@ -199,10 +199,10 @@ table-append stride l i (x ∷ rs) qs =
 module _ (s : List ℕ) (numbered : NumberedCell) (total : ℕ) (scan : Scan) (l : List ℕ) where
   pub rows-turn : (k : ℕ) (l₁ ys : List ℕ) (at r : Scan) → (m : ℕ) → m ≡ rowWords → rowWords * (total + k) + rowWords ≤ length l₁ →
       at ≡ times k (patternOf s numbered) scan .1 →
-      (Live at → l₁ ≡ tableFrom rowWords l total (map (rowOf numbered) (times k (patternOf s numbered) scan .0))) →
+      (Live at → l₁ ≡ tableFrom rowWords l total (map (rowUnder numbered) (times k (patternOf s numbered) scan .0))) →
       RowIs s numbered at (take m (drop (rowWords * (total + k)) l₁)) ys r →
       (r ≡ times (k + 1) (patternOf s numbered) scan .1)
-      × (Live r → putMid (rowWords * (total + k)) m l₁ ys ≡ tableFrom rowWords l total (map (rowOf numbered) (times (k + 1) (patternOf s numbered) scan .0)))
+      × (Live r → putMid (rowWords * (total + k)) m l₁ ys ≡ tableFrom rowWords l total (map (rowUnder numbered) (times (k + 1) (patternOf s numbered) scan .0)))
   unfolding pattern tableFrom
   rows-turn k l₁ ys at r m em h ea el w =
       let p = patternOf s numbered in
@@ -214,11 +214,11 @@ module _ (s : List ℕ) (numbered : NumberedCell) (total : ℕ) (scan : Scan) (l
         λ q.
             let was : Live at = pattern-live s (numbered .cell .pins) [] at (subst Live (w .scan-is) q) in
             ap (putMid first m l₁) (w .laid q)
-            ∙ mid-sets l₁ first m (rowOf numbered y) (omega arith) (omega (arith, w .few q))
-            ∙ ap₂ (λ (l′ : List ℕ) (z : Shape). sets l′ first (rowOf numbered z)) (el was) (ap (λ (c : Scan). p [] c .0) ea)
-            ∙ ap (λ (i : ℕ). sets (tableFrom rowWords l total (map (rowOf numbered) (x .0))) (rowWords * (total + i)) (rowOf numbered (p [] (x .1) .0))) (sym (length-map (x .0) (rowOf numbered) ∙ length-times k p scan))
-            ∙ sym (table-append rowWords l total (map (rowOf numbered) (x .0)) (rowOf numbered (p [] (x .1) .0) ∷ []))
-            ∙ ap (tableFrom rowWords l total) (sym (ap (map (rowOf numbered)) (times-value k p scan) ∙ map-append (rowOf numbered) (x .0) _)),
+            ∙ mid-sets l₁ first m (rowUnder numbered y) (omega arith) (omega (arith, w .few q))
+            ∙ ap₂ (λ (l′ : List ℕ) (z : Shape). sets l′ first (rowUnder numbered z)) (el was) (ap (λ (c : Scan). p [] c .0) ea)
+            ∙ ap (λ (i : ℕ). sets (tableFrom rowWords l total (map (rowUnder numbered) (x .0))) (rowWords * (total + i)) (rowUnder numbered (p [] (x .1) .0))) (sym (length-map (x .0) (rowUnder numbered) ∙ length-times k p scan))
+            ∙ sym (table-append rowWords l total (map (rowUnder numbered) (x .0)) (rowUnder numbered (p [] (x .1) .0) ∷ []))
+            ∙ ap (tableFrom rowWords l total) (sym (ap (map (rowUnder numbered)) (times-value k p scan) ∙ map-append (rowUnder numbered) (x .0) _)),
       )
 
 -- ---- a cell's patterns

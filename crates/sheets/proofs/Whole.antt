@@ -28,7 +28,7 @@ use Rattle.sheets.specs.declared.library.CellsRead.{CellsRead}
 use Rattle.sheets.specs.Model.{Pin, binLoadOf, Cell, Pattern, patterns, patternsFrom}
 use Rattle.sheets.specs.LibrarySheet.{binLoad, bins, cells, library}
 use Rattle.sheets.specs.TreeSheet.{tree, treeRules}
-use Rattle.sheets.specs.Report.{libraryNumber, treeNumber, LibraryCounts, libraryWord, libraryRead, treeRead, libraryReport, treeReport}
+use Rattle.sheets.specs.Report.{LibraryLimits, TreeLimits, libraryNumber, treeNumber, LibraryCounts, libraryWord, libraryRead, treeRead, libraryReport, treeReport}
 use Rattle.sheets.specs.declared.library.LibraryRead.{LibraryRead}
 use Rattle.sheets.specs.declared.library.LibraryRecord.{LibraryRecord}
 use Rattle.sheets.specs.declared.tree.TreeRead.{TreeRead}
@@ -149,32 +149,32 @@ number-bounds Size = omega arith
 module _ (s : List ℕ) (r : LibraryRead) (h : LibraryIs s r) where
   pub library-sound : (c : Cursor) → r .scan ≡ At c →
       let n : LibraryCounts = record { cells = r .library .count; patterns = r .library .total } in
-      (success n ≡ libraryReport s) × Bounded (success (libraryWord n))
-  unfolding libraryReport libraryRead libraryLaid libraryWord Bounded
+      (success n ≡ libraryReport s) × (Bounded (success (libraryWord n)) × LibraryLimits (success n))
+  unfolding libraryReport libraryRead libraryLaid libraryWord Bounded LibraryLimits
   library-sound c e =
       let same = h .laid (subst Live (sym e) tt) in (
         ap (λ (k : LibraryRecord). success (record { cells = k .count; patterns = k .total })) same
             ∙ ap (λ (q : Scan). libraryRead (library s start .0, q)) (sym e ∙ h .scan-is),
-        omega (arith, h .cells-few, h .patterns-few),
+        (omega (arith, h .cells-few, h .patterns-few), (h .cells-few, h .patterns-few)),
       )
 
-  pub library-refused : (f : Fault) (n p : ℕ) → r .scan ≡ Refused f p → n ≡ libraryNumber f → (refused n p ≡ libraryReport s) × Bounded (refused n p)
-  unfolding libraryReport libraryRead Bounded
+  pub library-refused : (f : Fault) (n p : ℕ) → r .scan ≡ Refused f p → n ≡ libraryNumber f → (refused n p ≡ libraryReport s) × (Bounded (refused n p) × LibraryLimits (refused n p))
+  unfolding libraryReport libraryRead Bounded LibraryLimits
   library-refused f n p e en = (
     ap (λ (k : ℕ). refused k p) en ∙ ap (λ (q : Scan). libraryRead (library s start .0, q)) (sym e ∙ h .scan-is),
-    omega (arith, h .near, ap place e, number-bounds f),
+    (omega (arith, h .near, ap place e, number-bounds f), omega (arith, h .near, ap place e)),
   )
 
 module _ (s : List ℕ) (r : TreeRead) (h : TreeIs s r) where
-  pub tree-sound : (c : Cursor) → r .scan ≡ At c → (success (r .tree .count) ≡ treeReport s) × Bounded (success (r .tree .count))
-  unfolding treeReport treeRead treeLaid Bounded
+  pub tree-sound : (c : Cursor) → r .scan ≡ At c → (success (r .tree .count) ≡ treeReport s) × (Bounded (success (r .tree .count)) × TreeLimits (success (r .tree .count)))
+  unfolding treeReport treeRead treeLaid Bounded TreeLimits
   tree-sound c e =
       let same = h .laid (subst Live (sym e) tt) in
-      (ap (λ (k : TreeRecord). success (k .count)) same ∙ ap (λ (q : Scan). treeRead (tree s start .0, q)) (sym e ∙ h .scan-is), omega (arith, h .nodes-few))
+      (ap (λ (k : TreeRecord). success (k .count)) same ∙ ap (λ (q : Scan). treeRead (tree s start .0, q)) (sym e ∙ h .scan-is), (omega (arith, h .nodes-few), h .nodes-few))
 
-  pub tree-refused : (f : Fault) (n p : ℕ) → r .scan ≡ Refused f p → n ≡ treeNumber f → (refused n p ≡ treeReport s) × Bounded (refused n p)
-  unfolding treeReport treeRead treeNumber Bounded
+  pub tree-refused : (f : Fault) (n p : ℕ) → r .scan ≡ Refused f p → n ≡ treeNumber f → (refused n p ≡ treeReport s) × (Bounded (refused n p) × TreeLimits (refused n p))
+  unfolding treeReport treeRead treeNumber Bounded TreeLimits
   tree-refused f n p e en = (
     ap (λ (k : ℕ). refused k p) en ∙ ap (λ (q : Scan). treeRead (tree s start .0, q)) (sym e ∙ h .scan-is),
-    omega (arith, h .near, ap place e, number-bounds f),
+    (omega (arith, h .near, ap place e, number-bounds f), omega (arith, h .near, ap place e)),
   )

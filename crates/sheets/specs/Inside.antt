@@ -24,8 +24,8 @@ use Rattle.sheets.specs.Reach.{binBits, headBits, pinBits, patternBits, 
 use Rattle.sheets.specs.Layout.{padded, pinsMost, cellLaid, rowWords, row, tableFrom, patternRows}
 
 -- The row of a pattern of a cell.
-abbrev pub rowOf : NumberedCell → Shape → List ℕ
-rowOf numbered = row (numbered .number) (numbered .cell)
+abbrev pub rowUnder : NumberedCell → Shape → List ℕ
+rowUnder numbered = row (numbered .number) (numbered .cell)
 
 module _ (s : List ℕ) where
   pub record BinsAre (count : ℕ) (scan : Scan) (r : BinsRead) : Type 0 where
@@ -72,14 +72,14 @@ module _ (s : List ℕ) where
 
   pub record RowIs (numbered : NumberedCell) (scan : Scan) (l l′ : List ℕ) (r : Scan) : Type 0 where
     pub scan-is : r ≡ patternOf numbered [] scan .1
-    pub laid : Live r → l′ ≡ sets l 0 (rowOf numbered (patternOf numbered [] scan .0))
-    pub few : Live r → length (rowOf numbered (patternOf numbered [] scan .0)) ≤ rowWords
+    pub laid : Live r → l′ ≡ sets l 0 (rowUnder numbered (patternOf numbered [] scan .0))
+    pub few : Live r → length (rowUnder numbered (patternOf numbered [] scan .0)) ≤ rowWords
     pub near : place r ≤ place scan + patternBits
 
   -- So many patterns of a cell, their rows laid out in l from row `total` on.
   pub record RowsAre (numbered : NumberedCell) (total count : ℕ) (scan : Scan) (l l′ : List ℕ) (r : Scan) : Type 0 where
     pub scan-is : r ≡ times count (patternOf numbered) scan .1
-    pub laid : Live r → l′ ≡ tableFrom rowWords l total (map (rowOf numbered) (times count (patternOf numbered) scan .0))
+    pub laid : Live r → l′ ≡ tableFrom rowWords l total (map (rowUnder numbered) (times count (patternOf numbered) scan .0))
     pub near : place r ≤ place scan + patternBits * count
 
   -- A pattern count.
@@ -90,7 +90,7 @@ module _ (s : List ℕ) where
   pub record DrawingsAre (numbered : NumberedCell) (total : ℕ) (scan : Scan) (l l′ : List ℕ) (r : DrawingsRead) : Type 0 where
     pub scan-is : r .scan ≡ drawings s (numbered .cell .pins) total scan .1
     pub count-is : r .count ≡ length (drawings s (numbered .cell .pins) total scan .0)
-    pub laid : Live (r .scan) → l′ ≡ tableFrom rowWords l total (map (rowOf numbered) (drawings s (numbered .cell .pins) total scan .0))
+    pub laid : Live (r .scan) → l′ ≡ tableFrom rowWords l total (map (rowUnder numbered) (drawings s (numbered .cell .pins) total scan .0))
     pub fits : total + r .count ≤ 128
     pub near : place (r .scan) ≤ place scan + drawingsBits
 

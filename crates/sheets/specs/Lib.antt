@@ -2,9 +2,9 @@
 pub mod Model
 pub mod LibrarySheet
 pub mod TreeSheet
-pub mod Report
 pub mod Layout
 pub mod Reach
+pub mod Report
 pub mod Public
 pub mod Inside
 pub mod Sound

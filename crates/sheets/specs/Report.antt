@@ -1,5 +1,5 @@
 -- What the two judges answer: document 01's number and place of a refusal, or the counts.
-use Prim.Native.Nat.{ℕ, _+_, _*_}
+use Prim.Native.Nat.{ℕ, _+_, _*_, _≤_}
 use mathlib.Core.List.{List}
 use lib.ListN.{length}
 use Rattle.fields.specs.Answer.{Answer, refused, success}
@@ -13,6 +13,7 @@ use Rattle.sheets.specs.declared.tree.TreeJudged as TreeJudged
 use Rattle.sheets.specs.Model.{Library, Tree, patterns, size}
 use Rattle.sheets.specs.LibrarySheet.{library}
 use Rattle.sheets.specs.TreeSheet.{tree}
+use Rattle.sheets.specs.Reach.{libraryBits, treeBits}
 
 -- Document 01's numbers: torn 2, loose tail 3, off the scale 4, misdrawn 5, overgrown 6; in a tree 12, 13, 14 and 16.
 unfoldable pub libraryNumber : Fault → ℕ
@@ -47,6 +48,15 @@ libraryReport s = libraryRead (library s start)
 
 unfoldable pub treeReport : List ℕ → Answer ℕ
 treeReport s = treeRead (tree s start)
+
+-- The limits that the answers keep: no place is beyond the farthest that a sheet can come to, and the counts are document 01's.
+unfoldable pub LibraryLimits : Answer LibraryCounts → Type 0
+LibraryLimits (refused number place) = place ≤ libraryBits
+LibraryLimits (success n) = (n .cells ≤ 64) × (n .patterns ≤ 128)
+
+unfoldable pub TreeLimits : Answer ℕ → Type 0
+TreeLimits (refused number place) = place ≤ treeBits
+TreeLimits (success nodes) = nodes ≤ 64
 
 -- What each case of the judges' enums says.
 unfoldable pub ofLibraryJudged : LibraryJudged.LibraryJudged → Answer LibraryCounts

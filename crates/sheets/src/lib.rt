@@ -41,7 +41,8 @@ impl Limits {
 
     pub const OUTPUT_LIST: usize = 179;
 
-    pub const WORK: usize = 8192;
+    // 64 nodes under 4 loads, a word more than the points each.
+    pub const WORK: usize = 256 * (Limits::POINTS + 1);
 
     pub const INPUT: usize = 4096;
 }

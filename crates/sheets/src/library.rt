@@ -16,7 +16,7 @@ ghost use Rattle.sheets.specs.Layout.{rowWords, tableWords, figuresAt, p
 ghost use Rattle.sheets.specs.Reach.{InReach, binBits, headBits, pinBits, patternBits, countBits, drawingsBits, cellBits};
 ghost use Rattle.sheets.specs.Inside.{BinsAre, HeadIs, PinIs, PinsAre, PatternIs, RowIs, RowsAre, DrawingsAre, CountIs, CellIs, CellsAre};
 ghost use Rattle.sheets.specs.Public.{LibraryIs};
-ghost use Rattle.sheets.specs.Report.{ofLibraryJudged, libraryWord, libraryReport, libraryNumber};
+ghost use Rattle.sheets.specs.Report.{ofLibraryJudged, LibraryLimits, libraryWord, libraryReport, libraryNumber};
 
 // A pattern's row: the number of its cell and all that is known of the cell, its size and its symbols. Where its words stand, how many there
 // are, and how many a table of 128 rows has.
@@ -517,7 +517,7 @@ pub fn read_library(s: &[u8]) -> LibraryRead
 // Judges a library: its cell count and its pattern count, or what is wrong with it and where.
 pub fn judge_library(s: &[u8]) -> LibraryJudged
     ensures { λ r. ⌜ ofLibraryJudged r ≡ libraryReport (now (s .entry)) ⌝ }
-    ensures { λ r. ⌜ Bounded (onSuccess libraryWord (ofLibraryJudged r)) ⌝ }
+    ensures { λ r. ⌜ Bounded (onSuccess libraryWord (ofLibraryJudged r)) × LibraryLimits (ofLibraryJudged r) ⌝ }
 {
     let read = read_library(s);
     let scan = read.scan;

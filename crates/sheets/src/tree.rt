@@ -7,7 +7,7 @@ ghost use mathlib.Core.Path.{_≡_};
 ghost use Prim.Native.Nat.{_≤_};
 ghost use Rattle.fields.specs.Answer.{Bounded};
 ghost use Rattle.sheets.specs.Public.{TreeIs};
-ghost use Rattle.sheets.specs.Report.{ofTreeJudged, treeReport, treeNumber};
+ghost use Rattle.sheets.specs.Report.{ofTreeJudged, TreeLimits, treeReport, treeNumber};
 
 // A tree as decoded: its nodes' symbols in preorder, and how many nodes stand under each.
 pub struct TreeRecord {
@@ -64,7 +64,7 @@ pub fn read_tree(s: &[u8]) -> TreeRead
 // Judges a tree: its node count, or what is wrong with it and where.
 pub fn judge_tree(s: &[u8]) -> TreeJudged
     ensures { λ r. ⌜ ofTreeJudged r ≡ treeReport (now (s .entry)) ⌝ }
-    ensures { λ r. ⌜ Bounded (ofTreeJudged r) ⌝ }
+    ensures { λ r. ⌜ Bounded (ofTreeJudged r) × TreeLimits (ofTreeJudged r) ⌝ }
 {
     let read = read_tree(s);
     let scan = read.scan;

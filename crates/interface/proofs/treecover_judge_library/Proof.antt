@@ -19,18 +19,18 @@ enum-known-judged c = search needs
 
 mul-result : tie.Need-mul-result
 unfolding ofLibraryJudged libraryWord onSuccess Bounded
-mul-result c = omega (arith, subst Kept (c .before .judged .given .1) (c .before .before .before .judge-library .ensures .1))
+mul-result c = omega (arith, subst Kept (c .before .judged .given .1) (c .before .before .before .judge-library .ensures .1 .0))
 
 add-result : tie.Need-add-result
 unfolding ofLibraryJudged libraryWord onSuccess Bounded
-add-result c = omega (arith, subst Kept (c .before .judged .given .1) (c .before .before .before .judge-library .ensures .1))
+add-result c = omega (arith, subst Kept (c .before .judged .given .1) (c .before .before .before .judge-library .ensures .1 .0))
 
 enum-known-judged-2 : tie.Need-enum-known-judged-2
 enum-known-judged-2 c = search needs
 
 refusal-requires : tie.Need-refusal-requires
 unfolding ofLibraryJudged onSuccess Bounded
-refusal-requires c κs = let h = subst Kept (c .before .judged2 .given .1) (c .before .before .before .judge-library .ensures .1) in (h .1, h .2)
+refusal-requires c κs = let h = subst Kept (c .before .judged2 .given .1) (c .before .before .before .judge-library .ensures .1 .0) in (h .1, h .2)
 
 returns : tie.Need-returns
 unfolding ofLibraryJudged libraryWord onSuccess word

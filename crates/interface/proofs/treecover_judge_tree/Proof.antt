@@ -17,7 +17,7 @@ enum-known-judged-2 c = search needs
 
 refusal-requires : tie.Need-refusal-requires
 unfolding ofTreeJudged Bounded
-refusal-requires c κs = let h = subst (λ (q : TreeJudged). Bounded (ofTreeJudged q)) (c .before .judged2 .given .1) (c .before .before .before .judge-tree .ensures .1) in (h .1, h .2)
+refusal-requires c κs = let h = subst (λ (q : TreeJudged). Bounded (ofTreeJudged q)) (c .before .judged2 .given .1) (c .before .before .before .judge-tree .ensures .1 .0) in (h .1, h .2)
 
 returns : tie.Need-returns
 unfolding ofTreeJudged word

@@ -10,7 +10,7 @@ use Rattle.shapes.specs.Shape.{Shape}
 use Rattle.fields.specs.Reading.{place, times}
 use Rattle.fields.specs.Promises.{Live}
 use Rattle.sheets.specs.Layout.{rowWords, tableFrom}
-use Rattle.sheets.specs.Inside.{rowOf, patternOf}
+use Rattle.sheets.specs.Inside.{rowUnder, patternOf}
 use Rattle.sheets.specs.Reach.{patternBits}
 use Rattle.sheets.proofs.Laws.{rows-turn}
 use Rattle.sheets.proofs.library.read_rows.Statement.{statement}
@@ -22,7 +22,7 @@ Inv-loop s numbered total count rows₀ at₀ k₀ rows at k =
     (k ≤ count)
     × (length rows ≡ length rows₀)
     × (at ≡ x .1)
-    × (Live at → rows ≡ tableFrom rowWords rows₀ total (map (rowOf numbered) (x .0)))
+    × (Live at → rows ≡ tableFrom rowWords rows₀ total (map (rowUnder numbered) (x .0)))
     × (place at ≤ place at₀ + patternBits * k)
 
 abbrev μ-loop : tie.MeasureT-loop
@@ -95,7 +95,7 @@ returns c =
     let x : ℕ → List Shape × Scan = λ k. times k (patternOf (a .s .now) (a .numbered)) (a .scan) in
     record {
       scan-is = i .inv .2 ∙ ap (λ (k : ℕ). x k .1) done;
-      laid = λ q. i .inv .3 q ∙ ap (λ (k : ℕ). tableFrom rowWords (a .rows .now) (a .total) (map (rowOf (a .numbered)) (x k .0))) done;
+      laid = λ q. i .inv .3 q ∙ ap (λ (k : ℕ). tableFrom rowWords (a .rows .now) (a .total) (map (rowUnder (a .numbered)) (x k .0))) done;
       near = omega (arith, i .inv .4);
     }
 
