@@ -84,6 +84,12 @@ module _ (curve : List ℕ) (k : ℕ) where
       go (inl h) = unfold stored in rw (drop-cons curve k 0 h, add-one, ne-eqb (getD curve k 0) 0 n)
       go (inr h) = absurd (n (List·getD-eq-default curve 0 {n = k} h))
 
+-- No point is before the instant 0.
+pub found-never : (ps : List Point) (end : ℕ) → end ≡ 0 → lookup end ps ≡ none
+unfolding lookup
+found-never [] end e = refl
+found-never (p ∷ ps) end e = rw (le-ltb (p .arrival) end (omega arith)) (found-never ps end e)
+
 -- That word is before the instant, or is not.
 module _ (curve : List ℕ) (end k : ℕ) where
   pub found-end : getD curve k 0 ≡ 0 → lookup end (stored (drop k curve)) ≡ none
@@ -94,14 +100,12 @@ module _ (curve : List ℕ) (end k : ℕ) where
   unfolding lookup pointOf
   found-here n t = ap (lookup end) (stored-more curve k n) ∙ rw (lt-ltb (getD curve k 0 % base) end t)
 
-  pub found-later : 0 < end → end ≤ getD curve k 0 % base → lookup end (stored (drop k curve)) ≡ lookup end (stored (drop (k + 1) curve))
-  unfolding lookup pointOf
-  found-later z t = ap (lookup end) (stored-more curve k (λ e. absurd (omega arith))) ∙ rw (le-ltb (getD curve k 0 % base) end t)
-
-pub found-never : (ps : List Point) (end : ℕ) → end ≡ 0 → lookup end ps ≡ none
-unfolding lookup
-found-never [] end e = refl
-found-never (p ∷ ps) end e = rw (le-ltb (p .arrival) end (omega arith)) (found-never ps end e)
+  pub found-later : end ≤ getD curve k 0 % base → lookup end (stored (drop k curve)) ≡ lookup end (stored (drop (k + 1) curve))
+  found-later t = go (lt-or-le 0 end)
+    where
+      go : (0 < end) ⊎ (end ≤ 0) → lookup end (stored (drop k curve)) ≡ lookup end (stored (drop (k + 1) curve))
+      go (inl z) = ap (lookup end) (stored-more curve k (λ e. absurd (omega arith))) ∙ unfold lookup pointOf in rw (le-ltb (getD curve k 0 % base) end t)
+      go (inr z) = found-never (stored (drop k curve)) end (omega arith) ∙ sym (found-never (stored (drop (k + 1) curve)) end (omega arith))
 
 pub one-less : (n k : ℕ) → k < n → n - k ≡ suc (n - (k + 1))
 one-less n k h = omega arith

@@ -3,7 +3,7 @@ use matching::Row;
 use sheets::Limits;
 ghost use mathlib.Core.Path.{_≡_};
 ghost use Prim.Native.Nat.{_+_, _-_, _*_, _<_, _≤_, min, max};
-ghost use lib.ListN.{length};
+ghost use lib.ListN.{length, drop};
 ghost use Rattle.covers.specs.Cover.{leafArrival};
 ghost use Rattle.covers.specs.Curve.{base, lookup};
 ghost use Rattle.curves.specs.Words.{pointLimit, matchLimit, stored, curveAt, Small, WorkArea};
@@ -29,7 +29,7 @@ pub enum Probe {
 
 // So many words from `first` on. None is tested for 0, which ends the curve, unless it passes the other test.
 fn probe_words(curve: &[u64], first: usize, count: usize, end: u64) -> Probe
-    requires { ⌜ Small (now curve) × (first + count ≤ length (now curve)) × (0 < end) ⌝ }
+    requires { ⌜ Small (now curve) × (first + count ≤ length (now curve)) ⌝ }
     ensures { λ r. ⌜ Probed (now (curve .entry)) end first count r ⌝ }
 {
     let mut k = 0;
@@ -46,25 +46,29 @@ fn probe_words(curve: &[u64], first: usize, count: usize, end: u64) -> Probe
     Probe::Beyond
 }
 
-// The first point of a curve that arrives before `end`. A fixed count of words at a time becomes straight-line tests, so that each place of
-// a curve has a branch of its own.
+// All the words from `first` on.
+fn find_from(curve: &[u64], first: usize, end: u64) -> u64
+    requires { ⌜ Small (now curve) × (first ≤ length (now curve)) ⌝ }
+    ensures { λ r. ⌜ Worth pointLimit end r (lookup end (stored (drop first (now (curve .entry))))) ⌝ }
+{
+    match probe_words(curve, first, curve.len() - first, end) {
+        Probe::Found(w) => w,
+        Probe::Beyond => Words::ABSENT,
+    }
+}
+
+// The first point of a curve that arrives before `end`. The first words, a fixed count of them, become straight-line tests, so that each place
+// has a branch of its own.
 pub fn find(curve: &[u64], end: u64) -> u64
     requires { ⌜ Small (now curve) ⌝ }
     ensures { λ r. ⌜ Worth pointLimit end r (lookup end (stored (now (curve .entry)))) ⌝ }
 {
-    if end == 0 {
-        return Words::ABSENT;
+    if curve.len() < Words::LINE {
+        return find_from(curve, 0, end);
     }
-    let mut k = 0;
-    while Words::LINE <= curve.len() - k {
-        match probe_words(curve, k, Words::LINE, end) {
-            Probe::Found(w) => return w,
-            Probe::Beyond => k += Words::LINE,
-        }
-    }
-    match probe_words(curve, k, curve.len() - k, end) {
+    match probe_words(curve, 0, Words::LINE, end) {
         Probe::Found(w) => w,
-        Probe::Beyond => Words::ABSENT,
+        Probe::Beyond => find_from(curve, Words::LINE, end),
     }
 }
 
@@ -105,6 +109,9 @@ fn input_best(
         if arrival < end {
             return arrival;
         }
+        return Words::ABSENT;
+    }
+    if end == 0 {
         return Words::ABSENT;
     }
     look_up(work, most, Words::BINS * node + bin, end)

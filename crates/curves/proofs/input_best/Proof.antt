@@ -1,9 +1,9 @@
 use borrow.Author.Needs.{needs}
 use native.Mathlib.Omega.{arith}
-use mathlib.Core.Path.{subst}
-use Rattle.curves.specs.Words.{pointLimit}
+use mathlib.Core.Path.{sym, subst, _∙_}
+use Rattle.curves.specs.Words.{pointLimit, tableOf}
 use Rattle.curves.specs.Promises.{Worth}
-use Rattle.curves.proofs.Laws.{leaf-timely, leaf-late, gate-best, worth-none}
+use Rattle.curves.proofs.Laws.{leaf-timely, leaf-late, gate-best, worth-none, found-never}
 use Rattle.curves.proofs.input_best.Statement.{statement}
 use Rattle.curves.proofs.input_best.Tie as tie
 
@@ -23,12 +23,19 @@ returns-2 c =
     (leaf-late (a .most) (a .symbols .now) (a .work .now) (a .node) (a .bin) (a .load) (a .end) (c .before .leaf-arrival .result) (c .before .before .if1 .taken) (c .before .leaf-arrival .ensures .0) (c .if2 .left))
 
 look-up-requires : tie.Need-look-up-requires
-look-up-requires c κs = (c .before .before .before .before .pre .0 .curves, omega arith)
+look-up-requires c κs = (c .before .before .before .before .before .pre .0 .curves, omega arith)
 
 returns-3 : tie.Need-returns-3
 returns-3 c =
     let a = c .before .before .before .before .before .args in
-    subst (Worth pointLimit (a .end) (c .look-up .result)) (gate-best (a .most) (a .symbols .now) (a .work .now) (a .node) (a .bin) (a .load) (a .end) (omega (arith, c .before .if1 .left))) (c .look-up .ensures)
+    worth-none pointLimit (a .end) _
+    (sym (gate-best (a .most) (a .symbols .now) (a .work .now) (a .node) (a .bin) (a .load) (a .end) (omega (arith, c .before .if1 .left)))
+    ∙ found-never (tableOf (a .most) (a .work .now) (a .node) (a .bin)) (a .end) (c .if3 .taken))
+
+returns-4 : tie.Need-returns-4
+returns-4 c =
+    let a = c .before .before .before .before .before .before .args in
+    subst (Worth pointLimit (a .end) (c .look-up .result)) (gate-best (a .most) (a .symbols .now) (a .work .now) (a .node) (a .bin) (a .load) (a .end) (omega (arith, c .before .before .if1 .left))) (c .look-up .ensures)
 
 mul-symbol : tie.Need-mul-symbol
 mul-symbol c = search needs
@@ -51,7 +58,8 @@ input-best-spec =
     leaf-arrival-requires
     returns
     returns-2
+    returns-3
     mul-look-up
     add-look-up
     look-up-requires
-    returns-3)
+    returns-4)

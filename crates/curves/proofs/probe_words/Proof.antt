@@ -51,7 +51,7 @@ loop-again : tie.Need-loop-again Inv-loop μ-loop
 loop-again c =
     let a = c .before .before .before .before .args in
     let i = c .before .before .before .loop in
-    (omega arith, i .inv .1 ∙ found-later (a .curve .now) (a .end) (a .first + i .k) (c .before .before .before .before .pre .2) (c .if1 .left) ∙ rw add-assoc)
+    (omega arith, i .inv .1 ∙ found-later (a .curve .now) (a .end) (a .first + i .k) (c .if1 .left) ∙ rw add-assoc)
 
 returns-3 : tie.Need-returns-3 Inv-loop μ-loop
 returns-3 c =
