@@ -2,18 +2,16 @@
 use mathlib.Core.Path.{_≡_, refl, sym, ap, _∙_}
 use mathlib.Core.List.{List}
 use mathlib.Core.Logic.{⊎-elim, _⊎_, inl, inr, _≢_}
-use mathlib.Core.Bool.{true}
-use borrow.Author.Tests.{eq-eqb}
 use native.Mathlib.Decide.{decLt, ℕ-discrete}
 use Prim.Native.Nat.{ℕ, zero, suc, _+_, _-_, _*_, _/_, _%_, _^_, _≤_, _<_}
-use native.Mathlib.Nat.{pow-suc, pow-succ', add-mul, mul-assoc, add-assoc, mod-lt, div-lt-iff-lt-mul, mul-left-comm, lt-of-lt-of-le, zero-mod}
+use native.Mathlib.Nat.{pow-suc, pow-succ', add-mul, mul-assoc, add-assoc, mod-lt, div-lt-iff-lt-mul, mul-left-comm, lt-of-lt-of-le}
 use native.Mathlib.Omega.{arith}
 use native.Mathlib.Numerals.{add-one}
 use lib.Pow.{pow-pos, pow-mono, pow-add, shr-shr, low, field, mod-mod-pow, mod-pow-add}
 use lib.Arith.{digits-lt, digits-div, digits-mod}
 use lib.ListN.{length, getD, set, length-set}
 use lib.Seq.{getD-set-same, getD-set-other, set-out}
-use Rattle.bits.specs.Bits.{placeOf, cursorAt, after, bitAt, valueAt, withDigit, withBit, withField, endsAt, bytesTo, restOf}
+use Rattle.bits.specs.Bits.{placeOf, cursorAt, after, bitAt, valueAt, withDigit, withBit, withField}
 
 -- The cursor at a place stands there.
 pub place-at : (i : ℕ) → placeOf (cursorAt i) ≡ i

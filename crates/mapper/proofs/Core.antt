@@ -15,25 +15,22 @@ use Rattle.filling.specs.declared.Filling.the-variants.{Whole, Overfull}
 use Rattle.filling.specs.Promises.{FillStart, FillingIs}
 use Rattle.mapper.specs.declared.Finding.the-variants.{Refused}
 use Rattle.mapper.specs.Found.{ofFinding, ofMapped, ofListed, bareCover, refusedWith}
-use Rattle.mapper.specs.Promises.{Curved, Asked, MappedIs, ListedIs}
+use Rattle.mapper.specs.Promises.{Curved, MappedIs, ListedIs}
 
-module _ {l : Library} {t : Tree} {rows : List ℕ} {bins : Bins} {tree : TreeRecord} {most : ℕ} {found work : List ℕ} (s : FillStart l t rows bins tree most found work) (work′ : List ℕ) where
-  pub core-curved : length work′ ≡ length work → FillingIs most l t work′ Whole → Curved most l t tree work′
-  core-curved e w = record {
-    rows = rows;
+-- What the curves were filled from, and the curves.
+pub core-curved : {l : Library} {t : Tree} {rows : List ℕ} {bins : Bins} {tree : TreeRecord} {most : ℕ} {found work : List ℕ} → FillStart l t rows bins tree most found work →
+    (work′ found′ : List ℕ) → length found′ ≡ length found → length work′ ≡ length work → FillingIs most l t work′ Whole → Curved most l t rows tree (length found′) work′
+core-curved s work′ found′ f e w = record {
+  prepared = record {
     decoded = s .decoded;
-    tree-is = s .tree-is;
+    room-is = f ∙ s .room;
     area = record { bounded = s .bounded; room = omega (arith, e, s .work-length); small = w .1 .small };
     curves = w .1;
-    some-most = s .some-most;
-    not-overfull = w .0;
-  }
-
-  pub core-asked : (found′ : List ℕ) → length found′ ≡ length found → length work′ ≡ length work → FillingIs most l t work′ Whole → Asked most l t rows tree (length found′) work′
-  core-asked found′ f e w = let c = core-curved e w in record {
-    curved = c;
-    prepared = record { decoded = s .decoded; room-is = f ∙ s .room; area = c .area; curves = c .curves };
-  }
+  };
+  tree-is = s .tree-is;
+  some-most = s .some-most;
+  not-overfull = w .0;
+}
 
 module _ (most : ℕ) (l : Library) (t : Tree) (work : List ℕ) (n : ℕ) (e : FillingIs most l t work (Overfull n)) where
   pub map-overfull : MappedIs most l t (refusedWith 7 n)

@@ -75,7 +75,7 @@ first-set (w ∷ ws) a h = refl
 
 -- ---- the root
 
-module _ {most : ℕ} {l : Library} {t : Tree} {tree : TreeRecord} {work : List ℕ} (given : Curved most l t tree work) where
+module _ {most : ℕ} {l : Library} {t : Tree} {rows : List ℕ} {tree : TreeRecord} {room : ℕ} {work : List ℕ} (given : Curved most l t rows tree room work) where
   abbrev all : List Point
   all = tradeoffs l (t .load) 0 (t .shape)
 
@@ -97,7 +97,7 @@ module _ {most : ℕ} {l : Library} {t : Tree} {tree : TreeRecord} {work : List 
   pub leaf-listed : 2 ≤ getD (tree .symbols) 0 0 → (a : ℕ) → a ≡ leafArrival (getD (tree .symbols) 0 0 - 2) (tree .load) → a < base → ListedIs most l t (set work 0 a) (record { finding = Found; count = 1 })
   unfolding ofListed ofFinding answered nonempty pointsOf leafPoint
   leaf-listed h a e small =
-      let there : 0 < length work = omega (arith, given .area .room) in
+      let there : 0 < length work = omega (arith, given .prepared .area .room) in
       let one : all ≡ record { area = 0; arrival = a } ∷ [] =
       ap (tradeoffs l (t .load) 0) (leaf-root given h) ∙ leaf-tradeoffs l (t .load) (getD (tree .symbols) 0 0 - 2)
       ∙ ap (λ (b : ℕ). record { area = 0; arrival = b } ∷ []) (ap (leafArrival (getD (tree .symbols) 0 0 - 2)) (sym (load-is given)) ∙ sym e) in
@@ -111,24 +111,24 @@ module _ {most : ℕ} {l : Library} {t : Tree} {tree : TreeRecord} {work : List 
       }
     where
       one-word : (k : ℕ) → k < 1 → getD (set work 0 a) k 0 < pointLimit
-      one-word zero k = rw (getD-set-same work 0 a 0 (omega (arith, given .area .room))) (omega arith)
+      one-word zero k = rw (getD-set-same work 0 a 0 (omega (arith, given .prepared .area .room))) (omega arith)
       one-word (suc k) h = absurd (omega arith)
 
   module _ (gate : getD (tree .symbols) 0 0 < 2) (count : ℕ) (within : count ≤ length (take (most + 1) work)) (counted : stored (take (most + 1) work) ≡ map pointOf (take count (take (most + 1) work))) where
-    room : length (take (most + 1) work) ≡ most + 1
-    room = length-take-le (most + 1) work (omega (arith, given .area .room))
+    first-words : length (take (most + 1) work) ≡ most + 1
+    first-words = length-take-le (most + 1) work (omega (arith, given .prepared .area .room))
 
     front : take count (take (most + 1) work) ≡ take count work
-    front = take-take count (most + 1) work (omega (arith, within, room))
+    front = take-take count (most + 1) work (omega (arith, within, first-words))
 
     words-are : map pointOf (take count work) ≡ reverse all
     unfolding curve tradeoffs
     words-are =
         ap (map pointOf) (sym front) ∙ sym counted ∙ ap (λ (i : ℕ). stored (take (most + 1) (drop i work))) (sym (mul-zero (most + 1)))
-        ∙ given .curves .root (gate-root given gate)
+        ∙ given .prepared .curves .root (gate-root given gate)
 
     many : count ≡ length all
-    many = sym (length-take-le count work (omega (arith, within, room, given .area .room))) ∙ sym (length-map (take count work) pointOf) ∙ ap length words-are ∙ length-reverse all
+    many = sym (length-take-le count work (omega (arith, within, first-words, given .prepared .area .room))) ∙ sym (length-map (take count work) pointOf) ∙ ap length words-are ∙ length-reverse all
 
     pub gate-empty : count ≡ 0 → ListedIs most l t work (record { finding = Refused 8 0; count = count })
     unfolding ofListed ofFinding answered nonempty
@@ -143,7 +143,7 @@ module _ {most : ℕ} {l : Library} {t : Tree} {tree : TreeRecord} {work : List 
     gate-listed there = record {
       answer-is = ap success (ap reverse words-are ∙ reverse-reverse all) ∙ listed-is (some all) (go all (positive count many there));
       few = omega (arith, many, few);
-      small = λ k h. given .area .small k;
+      small = λ k h. given .prepared .area .small k;
     }
       where
         positive : (k : ℕ) → k ≡ length all → (k ≡ 0 → ⊥) → 0 < length all

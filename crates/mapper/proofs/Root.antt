@@ -37,7 +37,7 @@ use Rattle.results.specs.Public.{placedOf, coverOf}
 use Rattle.mapper.specs.declared.Finding.the-variants.{Found}
 use Rattle.mapper.specs.declared.Mapped.{Mapped}
 use Rattle.mapper.specs.Found.{ofFinding, ofMapped, bareCover, refusedWith}
-use Rattle.mapper.specs.Promises.{Curved, Asked, MappedIs}
+use Rattle.mapper.specs.Promises.{Curved, MappedIs}
 
 -- ---- a leaf
 
@@ -58,7 +58,7 @@ module _ (l : Library) (load x time : ℕ) where
 
 -- ---- the root
 
-module _ {most : ℕ} {l : Library} {t : Tree} {tree : TreeRecord} {work : List ℕ} (given : Curved most l t tree work) where
+module _ {most : ℕ} {l : Library} {t : Tree} {rows : List ℕ} {tree : TreeRecord} {room : ℕ} {work : List ℕ} (given : Curved most l t rows tree room work) where
   abbrev first : ℕ
   first = getD (tree .symbols) 0 0
 
@@ -74,10 +74,10 @@ module _ {most : ℕ} {l : Library} {t : Tree} {tree : TreeRecord} {work : List 
   Root = Stands (tree .symbols) (tree .sizes) 0
 
   root-stands : Root (t .shape)
-  root-stands = stands-everywhere (given .decoded) (record { number = 0; shape = t .shape }) (root-in 0 (t .shape))
+  root-stands = stands-everywhere (given .prepared .decoded) (record { number = 0; shape = t .shape }) (root-in 0 (t .shape))
 
   pub sizes-long : length (tree .sizes) ≡ 64
-  sizes-long = subject-everywhere (given .decoded) (record { number = 0; shape = t .shape }) (root-in 0 (t .shape)) .sizes-long
+  sizes-long = subject-everywhere (given .prepared .decoded) (record { number = 0; shape = t .shape }) (root-in 0 (t .shape)) .sizes-long
 
   pub gate-root : first < 2 → 0 < gates (t .shape)
   gate-root = go (t .shape) root-stands
@@ -96,7 +96,7 @@ module _ {most : ℕ} {l : Library} {t : Tree} {tree : TreeRecord} {work : List 
       go (nand a b) h g = absurd (omega (arith, h .0))
 
   pub leaf-small : 2 ≤ first → first ≤ symbolLimit
-  leaf-small h = omega (arith, at-leaf (t .shape) (leaf-root h) (given .decoded .tree .leaves))
+  leaf-small h = omega (arith, at-leaf (t .shape) (leaf-root h) (given .prepared .decoded .tree .leaves))
     where
       at-leaf : (s : Shape) → s ≡ leaf (first - 2) → ((x : ℕ) → List·Memᴰ x (leaves s) → x ≤ 1000000) → first - 2 ≤ 1000000
       at-leaf s e h = subst (λ (q : Shape). ((x : ℕ) → List·Memᴰ x (leaves q) → x ≤ 1000000) → first - 2 ≤ 1000000) (sym e) (λ k. k (first - 2) (unfold leaves in List·Memᴰ·head refl)) h
@@ -114,7 +114,7 @@ module _ {most : ℕ} {l : Library} {t : Tree} {tree : TreeRecord} {work : List 
   module _ (gate : first < 2) (w : ℕ) (worth : Worth pointLimit (tree .required + 1) w (lookup (tree .required + 1) (stored (curveAt most work 0)))) where
     looked : lookup (tree .required + 1) (stored (curveAt most work 0)) ≡ least (suc (tree .required)) (covers l (tree .load) 0 (t .shape))
     looked =
-        ap (lookup (tree .required + 1)) (given .curves .root (gate-root gate)) ∙ lookup-is-least (tree .required + 1) (curve-is (covers l (t .load) 0 (t .shape)))
+        ap (lookup (tree .required + 1)) (given .prepared .curves .root (gate-root gate)) ∙ lookup-is-least (tree .required + 1) (curve-is (covers l (t .load) 0 (t .shape)))
         ∙ ap₂ (λ (k a : ℕ). least k (covers l a 0 (t .shape))) (add-one (tree .required)) (sym load-is)
 
     pub gate-none : w ≡ absent → MappedIs most l t (refusedWith 8 0)
@@ -139,7 +139,7 @@ module _ {most : ℕ} {l : Library} {t : Tree} {tree : TreeRecord} {work : List 
       chosen = chosen-there l (tree .load) 0 (t .shape) (tree .required) least-here
 
       few-placed : length (chosen .0 .placed) ≤ 63
-      few-placed = omega (arith, few-matches (choice-handed l (tree .load) 0 (t .shape) (tree .required) (chosen .1) .legal), gates-lt-size (t .shape), given .decoded .tree .size)
+      few-placed = omega (arith, few-matches (choice-handed l (tree .load) 0 (t .shape) (tree .required) (chosen .1) .legal), gates-lt-size (t .shape), given .prepared .decoded .tree .size)
 
       pub gate-found : (cover : CoverRecord) → ((c : Cover) → choice l (tree .load) 0 (t .shape) (tree .required) ≡ some c → cover ≡ appended (bareCover (w / base) (w % base)) (c .placed)) → MappedIs most l t (record { finding = Found; cover = cover })
       unfolding ofMapped ofFinding answered bareCover pointOf
@@ -151,15 +151,15 @@ module _ {most : ℕ} {l : Library} {t : Tree} {tree : TreeRecord} {work : List 
           record { answer-is = ap success whole ∙ chosen-is (some c) (chosen .1); few = omega (arith, ap (λ (r : CoverRecord). r .count) is, few-placed) }
 
       -- What the choice is lent.
-      pub gate-chooses : {rows : List ℕ} {room : ℕ} → Asked most l t rows tree room work → Chooses most l t rows (tree .symbols) (tree .sizes) room work (record { node = 0; load = tree .load; bin = 0; time = tree .required }) (bareCover (w / base) (w % base)) (t .shape)
+      pub gate-chooses : Chooses most l t rows (tree .symbols) (tree .sizes) room work (record { node = 0; load = tree .load; bin = 0; time = tree .required }) (bareCover (w / base) (w % base)) (t .shape)
       unfolding bareCover
-      gate-chooses asked = record {
-        prepared = asked .prepared;
+      gate-chooses = record {
+        prepared = given .prepared;
         driven = record {
           node = root-in 0 (t .shape);
           drives = at-root refl load-is refl;
-          time-small = omega (arith, time-is, given .decoded .tree .required);
+          time-small = omega (arith, time-is, given .prepared .decoded .tree .required);
           some-cover = (pointOf w, least-here);
         };
-        fits = omega (arith, gates-lt-size (t .shape), given .decoded .tree .size);
+        fits = omega (arith, gates-lt-size (t .shape), given .prepared .decoded .tree .size);
       }

@@ -9,28 +9,18 @@ use Rattle.sheets.specs.Model.{Library, Tree}
 use Rattle.sheets.specs.Layout.{treeLaid}
 use Rattle.covers.specs.Tradeoff.{overfullNode}
 use Rattle.covers.specs.Answer.{mapped, listed}
-use Rattle.matching.specs.Promises.{Decoded}
-use Rattle.curves.specs.Words.{pointLimit, WorkArea}
-use Rattle.curves.specs.Stored.{Stored}
+use Rattle.curves.specs.Words.{pointLimit}
 use Rattle.choosing.specs.Promises.{Prepared}
 use Rattle.mapper.specs.declared.Mapped.{Mapped}
 use Rattle.mapper.specs.declared.Listed.{Listed}
 use Rattle.mapper.specs.Found.{ofMapped, ofListed}
 
 -- The library and the tree as decoded, with the curves of all nodes, none of which is overfull.
-pub record Curved (most : ℕ) (l : Library) (t : Tree) (tree : TreeRecord) (work : List ℕ) : Type 0 where
-  pub rows : List ℕ
-  pub decoded : Decoded l t rows (tree .symbols) (tree .sizes)
+pub record Curved (most : ℕ) (l : Library) (t : Tree) (rows : List ℕ) (tree : TreeRecord) (room : ℕ) (work : List ℕ) : Type 0 where
+  pub prepared : Prepared most l t rows (tree .symbols) (tree .sizes) room work
   pub tree-is : tree ≡ treeLaid t
-  pub area : WorkArea most work
-  pub curves : Stored most l t work
   pub some-most : 1 ≤ most
   pub not-overfull : overfullNode most l t ≡ none
-
--- The same, and what the choice of a cover is lent.
-pub record Asked (most : ℕ) (l : Library) (t : Tree) (rows : List ℕ) (tree : TreeRecord) (room : ℕ) (work : List ℕ) : Type 0 where
-  pub curved : Curved most l t tree work
-  pub prepared : Prepared most l t rows (tree .symbols) (tree .sizes) room work
 
 -- The cover that map hands over; a cover sheet has room for it.
 pub record MappedIs (most : ℕ) (l : Library) (t : Tree) (r : Mapped) : Type 0 where

@@ -9,9 +9,9 @@ use sheets::Limits;
 use sheets::library::Bins;
 use sheets::tree::TreeRecord;
 ghost use mathlib.Core.Path.{_≡_};
-ghost use mathlib.Core.List.{map};
+ghost use mathlib.Core.List.{List, map};
 ghost use mathlib.Core.Option.{none};
-ghost use Prim.Native.Nat.{_-_, _<_, _≤_};
+ghost use Prim.Native.Nat.{ℕ, _-_, _<_, _≤_};
 ghost use lib.ListN.{length, take, replicate};
 ghost use Rattle.sheets.specs.Model.{leaf, Library, Tree};
 ghost use Rattle.covers.specs.Answer.{answered};
@@ -22,7 +22,7 @@ ghost use Rattle.curves.specs.Words.{stored};
 ghost use Rattle.curves.specs.Best.{symbolLimit};
 ghost use Rattle.filling.specs.Promises.{FillStart};
 ghost use Rattle.mapper.specs.Found.{bareCover, refusedWith, ofMapped};
-ghost use Rattle.mapper.specs.Promises.{Curved, Asked, MappedIs, ListedIs};
+ghost use Rattle.mapper.specs.Promises.{Curved, MappedIs, ListedIs};
 
 // A refusal's number and place, or that what was asked for is found.
 pub enum Finding {
@@ -96,8 +96,8 @@ fn map_leaf(symbol: u32, load: u32, time: u32) -> Mapped
 
 // The root's cover under its required time, from the curves.
 fn map_root(rows: &[u32], tree: TreeRecord, most: usize, found: &mut [u32], work: &[u64]) -> Mapped
-    requires { ⌜ ((l : Library) × ((t : Tree) × Asked most l t (now rows) tree (length (now found)) (now work))) ⌝ }
-    ensures { λ r. ⌜ ((l : Library) (t : Tree) → Asked most l t (now (rows .entry)) tree (length (now (found .entry))) (now (work .entry)) → MappedIs most l t r) ⌝ }
+    requires { ⌜ ((l : Library) × ((t : Tree) × Curved most l t (now rows) tree (length (now found)) (now work))) ⌝ }
+    ensures { λ r. ⌜ ((l : Library) (t : Tree) → Curved most l t (now (rows .entry)) tree (length (now (found .entry))) (now (work .entry)) → MappedIs most l t r) ⌝ }
 {
     let symbols = tree.symbols;
     let sizes = tree.sizes;
@@ -154,8 +154,8 @@ fn count_points(curve: &[u64]) -> usize
 
 // The root's trade-offs, from its curve. A leaf has one, of no area, which is put in the curve's place.
 fn list_root(tree: TreeRecord, most: usize, work: &mut [u64]) -> Listed
-    requires { ⌜ ((l : Library) × ((t : Tree) × Curved most l t tree (now work))) ⌝ }
-    ensures { λ r. ⌜ ((l : Library) (t : Tree) → Curved most l t tree (now (work .entry)) → ListedIs most l t (now (work .exit)) r) ⌝ }
+    requires { ⌜ ((l : Library) × ((t : Tree) × ((rows : List ℕ) × ((room : ℕ) × Curved most l t rows tree room (now work))))) ⌝ }
+    ensures { λ r. ⌜ ((l : Library) (t : Tree) (rows : List ℕ) (room : ℕ) → Curved most l t rows tree room (now (work .entry)) → ListedIs most l t (now (work .exit)) r) ⌝ }
 {
     let symbols = tree.symbols;
     let symbol = symbols[0];

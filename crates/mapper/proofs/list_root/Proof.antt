@@ -22,7 +22,7 @@ leaf-arrival-requires : tie.Need-leaf-arrival-requires
 leaf-arrival-requires c κs =
     let p = c .before .before .before .before .pre in
     let e = c .before .if1 in
-    (omega (arith, e), leaf-small (p .1 .1) (omega (arith, e)), search needs)
+    (omega (arith, e), leaf-small (p .1 .1 .1 .1) (omega (arith, e)), search needs)
 
 slice-write-work : tie.Need-slice-write-work
 slice-write-work c = search needs
@@ -31,7 +31,7 @@ same-length : tie.Need-same-length
 same-length c = search needs
 
 returns : tie.Need-returns
-returns c l t given =
+returns c l t rows room given =
     let e = c .before .before .if1 in
     leaf-listed given (omega (arith, e)) (c .leaf-arrival .result) (c .leaf-arrival .ensures .0) (c .leaf-arrival .ensures .1)
 
@@ -44,7 +44,7 @@ slice-reshare-prefix-count-points c = search needs
 slice-aggregate-count-points : tie.Need-slice-aggregate-count-points
 slice-aggregate-count-points c =
     let first = c .before .before .before .before in
-    sym (length-take-le (first .args .most + 1) (first .args .work .now) (omega (arith, first .pre .1 .1 .area .room)))
+    sym (length-take-le (first .args .most + 1) (first .args .work .now) (omega (arith, first .pre .1 .1 .1 .1 .prepared .area .room)))
 
 count-points-requires : tie.Need-count-points-requires
 count-points-requires c κs = search needs
@@ -53,7 +53,7 @@ same-length-2 : tie.Need-same-length-2
 same-length-2 c = search needs
 
 returns-2 : tie.Need-returns-2
-returns-2 c l t given =
+returns-2 c l t rows room given =
     let e = c .before .before .before .if1 in
     let k = c .before .count-points in
     let z = c .if2 in
@@ -63,7 +63,7 @@ same-length-3 : tie.Need-same-length-3
 same-length-3 c = search needs
 
 returns-3 : tie.Need-returns-3
-returns-3 c l t given =
+returns-3 c l t rows room given =
     let e = c .before .before .before .if1 in
     let k = c .before .count-points in
     let z = c .if2 in

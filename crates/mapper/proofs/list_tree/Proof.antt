@@ -27,7 +27,7 @@ list-root-requires c κs =
     let p = first .pre in
     let f = c .before .before .before .before .before .before .fill in
     let whole = subst (FillingIs (first .args .most) (p .0) (p .1 .0) (f .last .1 .1 .1 .1 .1 .0)) (c .before .enum-told .given .1) (f .ensures (p .0) (p .1 .0) (p .1 .1)) in
-    (p .0, (p .1 .0, core-curved (p .1 .1) (f .last .1 .1 .1 .1 .1 .0) (f .kept .1 .1 .1 .1 .1 .0) whole))
+    (p .0, (p .1 .0, (first .args .rows .now, (_, core-curved (p .1 .1) (f .last .1 .1 .1 .1 .1 .0) (f .last .1 .1 .1 .1 .0) (f .kept .1 .1 .1 .1 .0) (f .kept .1 .1 .1 .1 .1 .0) whole))))
 
 same-length : tie.Need-same-length
 same-length c = search needs
@@ -47,7 +47,7 @@ returns-2 c l t start =
     let first = c .before .before .before .before .before .before .before .before .before .before .before .before .before .before in
     let f = c .before .before .before .before .before .before .before .before .before .fill in
     let whole = subst (FillingIs (first .args .most) l t (f .last .1 .1 .1 .1 .1 .0)) (c .before .before .before .before .enum-told .given .1) (f .ensures l t start) in
-    c .before .before .list-root .ensures l t (core-curved start (f .last .1 .1 .1 .1 .1 .0) (f .kept .1 .1 .1 .1 .1 .0) whole)
+    c .before .before .list-root .ensures l t (first .args .rows .now) _ (core-curved start (f .last .1 .1 .1 .1 .1 .0) (f .last .1 .1 .1 .1 .0) (f .kept .1 .1 .1 .1 .0) (f .kept .1 .1 .1 .1 .1 .0) whole)
 
 pub list-tree-spec : {M : Type 1} → statement M
 list-tree-spec =

@@ -21,12 +21,12 @@ map-leaf-requires : tie.Need-map-leaf-requires
 map-leaf-requires c κs =
     let p = c .before .before .before .before .before .before .before .pre in
     let e = c .if1 in
-    (omega (arith, e), leaf-small (p .1 .1 .curved) (omega (arith, e)), search needs)
+    (omega (arith, e), leaf-small (p .1 .1) (omega (arith, e)), search needs)
 
 returns : tie.Need-returns
 returns c l t asked =
     let e = c .before .if1 in
-    record { answer-is = leaf-mapped (asked .curved) (omega (arith, e)) (c .map-leaf .result) (c .map-leaf .ensures .0 l); few = omega (arith, c .map-leaf .ensures .1) }
+    record { answer-is = leaf-mapped asked (omega (arith, e)) (c .map-leaf .result) (c .map-leaf .ensures .0 l); few = omega (arith, c .map-leaf .ensures .1) }
 
 cast-look-up : tie.Need-cast-look-up
 cast-look-up c = search needs
@@ -45,7 +45,7 @@ returns-2 c l t asked =
     let e = c .before .before .before .if1 in
     let f = c .before .before .look-up in
     let z = c .before .if2 in
-    subst (MappedIs (c .before .before .before .before .before .before .before .before .before .before .args .most) l t) (sym (c .refuse .ensures)) (gate-none (asked .curved) (omega (arith, e)) (f .result) (f .ensures) (omega (arith, z)))
+    subst (MappedIs (c .before .before .before .before .before .before .before .before .before .before .args .most) l t) (sym (c .refuse .ensures)) (gate-none asked (omega (arith, e)) (f .result) (f .ensures) (omega (arith, z)))
 
 cast-bare : tie.Need-cast-bare
 cast-bare c =
@@ -53,7 +53,7 @@ cast-bare c =
     let e = c .before .before .if1 in
     let f = c .before .look-up in
     let z = c .if2 in
-    omega (arith, gate-small (p .1 .1 .curved) (omega (arith, e)) (f .result) (f .ensures) (λ y. omega (arith, z, y)))
+    omega (arith, gate-small (p .1 .1) (omega (arith, e)) (f .result) (f .ensures) (λ y. omega (arith, z, y)))
 
 cast-bare-2 : tie.Need-cast-bare-2
 cast-bare-2 c = search needs
@@ -65,7 +65,7 @@ slice-aggregate-choose : tie.Need-slice-aggregate-choose
 slice-aggregate-choose c = search needs
 
 slice-aggregate-choose-2 : tie.Need-slice-aggregate-choose-2
-slice-aggregate-choose-2 c = sym (sizes-long (c .before .before .before .before .before .before .before .before .before .before .before .before .pre .1 .1 .curved))
+slice-aggregate-choose-2 c = sym (sizes-long (c .before .before .before .before .before .before .before .before .before .before .before .before .pre .1 .1))
 
 choose-requires : tie.Need-choose-requires
 choose-requires c κs =
@@ -81,7 +81,7 @@ choose-requires c κs =
         (
           p .1 .0 .shape,
           subst (λ (k : CoverRecord). Chooses (first .args .most) (p .0) (p .1 .0) (first .args .rows .now) (first .args .tree .symbols) (first .args .tree .sizes) (length (first .args .found .now)) (first .args .work .now) (record { node = 0; load = first .args .tree .load; bin = 0; time = first .args .tree .required }) k (p .1 .0 .shape))
-              (sym (c .before .before .before .bare .ensures)) (gate-chooses (asked .curved) (omega (arith, e)) (f .result) (f .ensures) (λ y. omega (arith, z, y)) asked),
+              (sym (c .before .before .before .bare .ensures)) (gate-chooses asked (omega (arith, e)) (f .result) (f .ensures) (λ y. omega (arith, z, y))),
         ),
       ),
     )
@@ -99,8 +99,8 @@ returns-3 c l t asked =
     let there : f .result ≡ absent → ⊥ = λ y. omega (arith, z, y) in
     let gate : getD (first .args .tree .symbols) 0 0 < 2 = omega (arith, e) in
     let lent : CoverRecord → Type 0 = λ (k : CoverRecord). Chooses (first .args .most) l t (first .args .rows .now) (first .args .tree .symbols) (first .args .tree .sizes) (length (first .args .found .now)) (first .args .work .now) (record { node = 0; load = first .args .tree .load; bin = 0; time = first .args .tree .required }) k (t .shape) in
-    gate-found (asked .curved) gate (f .result) (f .ensures) there (c .before .before .choose .result)
-    (λ d h. c .before .before .choose .ensures l t (t .shape) (subst lent (sym (none .ensures)) (gate-chooses (asked .curved) gate (f .result) (f .ensures) there asked)) d h
+    gate-found asked gate (f .result) (f .ensures) there (c .before .before .choose .result)
+    (λ d h. c .before .before .choose .ensures l t (t .shape) (subst lent (sym (none .ensures)) (gate-chooses asked gate (f .result) (f .ensures) there)) d h
     ∙ ap (λ (k : CoverRecord). appended k (d .placed)) (none .ensures))
 
 pub map-root-spec : {M : Type 1} → statement M

@@ -2,7 +2,7 @@ use borrow.Author.Needs.{needs}
 use mathlib.Core.Path.{sym, subst}
 use Rattle.filling.specs.Promises.{FillingIs}
 use Rattle.mapper.specs.Promises.{MappedIs}
-use Rattle.mapper.proofs.Core.{core-asked, map-overfull}
+use Rattle.mapper.proofs.Core.{core-curved, map-overfull}
 use Rattle.mapper.proofs.map_tree.Statement.{statement}
 use Rattle.mapper.proofs.map_tree.Tie as tie
 
@@ -30,7 +30,7 @@ map-root-requires c κs =
     let p = first .pre in
     let f = c .before .before .before .before .before .before .before .fill in
     let whole = subst (FillingIs (first .args .most) (p .0) (p .1 .0) (f .last .1 .1 .1 .1 .1 .0)) (c .before .before .enum-told .given .1) (f .ensures (p .0) (p .1 .0) (p .1 .1)) in
-    (p .0, (p .1 .0, core-asked (p .1 .1) (f .last .1 .1 .1 .1 .1 .0) (f .last .1 .1 .1 .1 .0) (f .kept .1 .1 .1 .1 .0) (f .kept .1 .1 .1 .1 .1 .0) whole))
+    (p .0, (p .1 .0, core-curved (p .1 .1) (f .last .1 .1 .1 .1 .1 .0) (f .last .1 .1 .1 .1 .0) (f .kept .1 .1 .1 .1 .0) (f .kept .1 .1 .1 .1 .1 .0) whole))
 
 same-length : tie.Need-same-length
 same-length c = search needs
@@ -50,7 +50,7 @@ returns-2 c l t start =
     let first = c .before .before .before .before .before .before .before .before .before .before .before .before .before .before in
     let f = c .before .before .before .before .before .before .before .before .before .fill in
     let whole = subst (FillingIs (first .args .most) l t (f .last .1 .1 .1 .1 .1 .0)) (c .before .before .before .before .enum-told .given .1) (f .ensures l t start) in
-    c .before .map-root .ensures l t (core-asked start (f .last .1 .1 .1 .1 .1 .0) (f .last .1 .1 .1 .1 .0) (f .kept .1 .1 .1 .1 .0) (f .kept .1 .1 .1 .1 .1 .0) whole)
+    c .before .map-root .ensures l t (core-curved start (f .last .1 .1 .1 .1 .1 .0) (f .last .1 .1 .1 .1 .0) (f .kept .1 .1 .1 .1 .0) (f .kept .1 .1 .1 .1 .1 .0) whole)
 
 pub map-tree-spec : {M : Type 1} → statement M
 map-tree-spec =
