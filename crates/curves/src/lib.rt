@@ -10,7 +10,7 @@ ghost use Rattle.curves.specs.Words.{pointLimit, matchLimit, stored, cur
 ghost use Rattle.curves.specs.Best.{symbolLimit, rowOf, inputBest, inputLate, rowBest, legalBest, rowsBest, Sources, Tables, InputSafe, Matches, Above};
 ghost use Rattle.curves.specs.Promises.{Probed, Worth, PointsFit, CurveStored};
 
-// The word for no point, and how many curves a node has: one for each load bin.
+// The word for no point; how many curves a node has: one for each load bin; and how many words of a curve are tested in a straight line.
 pub struct Words {}
 
 impl Words {
@@ -57,8 +57,8 @@ fn find_from(curve: &[u64], first: usize, end: u64) -> u64
     }
 }
 
-// The first point of a curve that arrives before `end`. The first words, a fixed count of them, become straight-line tests, so that each place
-// has a branch of its own.
+// The first point of a curve that arrives before `end`. A fixed count of words comes first: a straight line of tests, so that each place of a
+// curve has a branch of its own.
 pub fn find(curve: &[u64], end: u64) -> u64
     requires { ⌜ Small (now curve) ⌝ }
     ensures { λ r. ⌜ Worth pointLimit end r (lookup end (stored (now (curve .entry)))) ⌝ }
