@@ -2,4 +2,5 @@
 pub mod Lists
 pub mod Laws
 pub mod Written
+pub mod Packed
 pub mod Answer

@@ -1,0 +1,160 @@
+-- Bytes in which fields stand one after another to the end are those fields packed, and no others.
+-- And a reader made of fields, then, n times and the end finds its fields so, unless it is refused.
+use Prim.Native.Nat.{ℕ, zero, suc, _+_, _-_, _*_, _/_, _^_, _≤_, _<_}
+use mathlib.Core.Path.{_≡_, refl, sym, ap, subst, _∙_}
+use mathlib.Core.Bool.{Bool, true, false, cond}
+use mathlib.Core.List.{List, [], _∷_, _++_, append-assoc, append-nil}
+use native.Mathlib.Decide.{decLt}
+use native.Mathlib.Nat.{add-zero, add-assoc, mod-eq-of-lt}
+use native.Mathlib.Omega.{arith}
+use lib.ListN.{replicate}
+use Rattle.bits.specs.Bits.{placeOf, cursorAt, bytesTo, restOf, bitAt, valueAt, fieldAt, endsAt, withField}
+use Rattle.bits.specs.declared.Cursor.{Cursor}
+use Rattle.bits.specs.declared.FieldRead as FieldRead
+use Rattle.bits.proofs.Laws.{value-lt, place-at}
+use Rattle.bits.proofs.Whole.{Bytes, at-place, bits-whole, value-bits, ends-says, bytes-field}
+use Rattle.fields.specs.declared.Scan.{Scan}
+use Rattle.fields.specs.declared.Scan.the-variants.{At, Refused}
+use Rattle.fields.specs.declared.Fault.the-variants.{Tail}
+use Rattle.fields.specs.declared.Verdict.{Verdict}
+use Rattle.fields.specs.declared.Verdict.the-variants.{Sound, Faulty}
+use Rattle.fields.specs.Reading.{Reader, times, start, place, field, taken, settled, ended}
+use Rattle.fields.specs.Promises.{Live}
+use Rattle.fields.specs.Written.{Field, widths, written, packed}
+use Rattle.fields.proofs.Lists.{zeros-at}
+use Rattle.fields.proofs.Laws.{Read, ends, reads, read}
+use Rattle.fields.proofs.Written.{packed-reads, packed-ends, widths-append}
+
+bytes-written : (fs : List Field) (i : ℕ) (s : List ℕ) → Bytes s → Bytes (written fs i s)
+unfolding written
+bytes-written [] i s h = h
+bytes-written (f ∷ fs) i s h = bytes-written fs (i + f .width) (withField s i (f .width) (f .value)) (bytes-field s i (f .width) (f .value) h)
+
+pub bytes-packed : (fs : List Field) → Bytes (packed fs)
+unfolding packed bytesTo
+bytes-packed fs = let n = (widths fs + 7) / 8 in bytes-written fs 0 (replicate n 0) (λ k. rw (zeros-at n k) (omega arith))
+
+-- ---- the bytes in which fields stand
+
+-- The fields fs stand in the bytes s from place i on, each with its value.
+abbrev pub Laid : List ℕ → ℕ → List Field → Type 0
+Laid s i [] = Unit {0}
+Laid s i (f ∷ fs) = (valueAt s i (f .width) ≡ f .value) × Laid s (i + f .width) fs
+
+-- Bytes in which fs stand after others have there the bits of the packed sheet.
+laid-bits : (s : List ℕ) (before fs : List Field) (i : ℕ) → i ≡ widths before → Laid s i fs → (j : ℕ) → i ≤ j → j < i + widths fs → bitAt s j ≡ bitAt (packed (before ++ fs)) j
+unfolding widths
+laid-bits s before [] i e h j a b = absurd (omega arith)
+laid-bits s before (f ∷ fs) i e h j a b =
+    let value : valueAt (packed (before ++ f ∷ fs)) i (f .width) ≡ f .value =
+    rw e (packed-reads before f fs ∙ mod-eq-of-lt (subst (λ (v : ℕ). v < 2 ^ f .width) (h .0) (value-lt s i (f .width)))) in
+    elim (decLt j (i + f .width)) [
+      | yes l ↦ value-bits s (packed (before ++ f ∷ fs)) i (f .width) (h .0 ∙ sym value) j a l
+      | no l ↦
+          laid-bits s (before ++ (f ∷ [])) fs (i + f .width) (omega (arith, widths-append before (f ∷ []))) (h .1) j (omega arith) (omega arith)
+          ∙ ap (λ (gs : List Field). bitAt (packed gs) j) (append-assoc before (f ∷ []) fs)
+    ]
+
+-- Bytes that end after fields that stand in them are those fields packed.
+pub packed-only : (fs : List Field) (s : List ℕ) → Bytes s → Laid s 0 fs → endsAt s (widths fs) ≡ true → s ≡ packed fs
+unfolding restOf widths
+packed-only fs s hs h e =
+    let w = widths fs in
+    let of-s = ends-says s w e in
+    let of-p = ends-says (packed fs) w (packed-ends fs refl) in
+    bits-whole s (packed fs) hs (bytes-packed fs) (of-s .0 ∙ sym (of-p .0)) (λ j l. elim (decLt j w) [
+      | yes a ↦ laid-bits s [] fs 0 refl h j (omega arith) (omega arith)
+      | no a ↦ value-bits s (packed fs) w (8 * bytesTo w - w) (of-s .1 ∙ sym (of-p .1)) j (omega arith) (omega (arith, of-s .0))
+    ])
+
+pub laid-append : (s : List ℕ) (i : ℕ) (fs gs : List Field) → Laid s i fs → Laid s (i + widths fs) gs → Laid s i (fs ++ gs)
+unfolding widths
+laid-append s i [] gs h g = rw add-zero at g
+laid-append s i (f ∷ fs) gs h g = (h .0, laid-append s (i + f .width) fs gs (h .1) (rw (← (add-assoc i (f .width) (widths fs))) at g))
+
+-- ---- what a reader finds
+
+-- A scan went from c to c′ over the fields fs.
+pub record Found (s : List ℕ) (fs : List Field) (c c′ : Scan) : Type 0 where
+  pub at : ℕ
+  pub before : c ≡ At (cursorAt at)
+  pub stand : Laid s at fs
+  pub after : c′ ≡ At (cursorAt (at + widths fs))
+
+pub found-live : {s : List ℕ} {fs : List Field} {c c′ : Scan} → Found s fs c c′ → Live c
+found-live h = subst Live (sym (h .before)) tt
+
+pub found-none : (s : List ℕ) (c : Scan) → Live c → Found s [] c c
+unfolding widths
+found-none s (Refused f p) h = absurd h
+found-none s (At c) h = record { at = placeOf c; before = ap At (at-place c); stand = tt; after = ap At (at-place c) ∙ ap (λ (j : ℕ). At (cursorAt j)) (sym (add-zero (placeOf c))) }
+
+-- A field that was not refused stands there with the value that was read.
+pub found-field : (s : List ℕ) (w : ℕ) (verdict : ℕ → Verdict) (c : Scan) → Live (field s w verdict c .1) →
+    Found s (record { value = field s w verdict c .0; width = w } ∷ []) c (field s w verdict c .1)
+unfolding widths
+found-field s w verdict (Refused f p) h = absurd h
+found-field s w verdict (At c) h = go (fieldAt s (placeOf c) w) (read s (placeOf c) w) h
+  where
+    Out : ℕ × Scan → Type 0
+    Out x = Live (x .1) → Found s (record { value = x .0; width = w } ∷ []) (At c) (x .1)
+
+    judged : (v : Verdict) → Out (settled (placeOf c) v (valueAt s (placeOf c) w) (At (cursorAt (placeOf c + w))))
+    judged Sound h = record { at = placeOf c; before = ap At (at-place c); stand = (refl, tt); after = ap (λ (j : ℕ). At (cursorAt (placeOf c + j))) (sym (add-zero w)) }
+    judged (Faulty f) h = absurd h
+
+    go : (f : FieldRead.FieldRead) → Read s (placeOf c) w f → Out (taken (placeOf c) verdict f)
+    go f ends h = absurd h
+    go f (reads l) h = judged (verdict (valueAt s (placeOf c) w)) h
+
+-- One run of fields, and then another.
+pub found-then : {s : List ℕ} {fs gs : List Field} {a b c : Scan} → Found s fs a b → Found s gs b c → Found s (fs ++ gs) a c
+found-then {s} {fs} {gs} h g =
+    let next : g .at ≡ h .at + widths fs = sym (place-at (g .at)) ∙ ap place (sym (g .before) ∙ h .after) ∙ place-at (h .at + widths fs) in
+    record {
+      at = h .at;
+      before = h .before;
+      stand = laid-append s (h .at) fs gs (h .stand) (subst (λ (i : ℕ). Laid s i gs) next (g .stand));
+      after = g .after ∙ ap (λ (i : ℕ). At (cursorAt i)) (omega (arith, next, widths-append fs gs));
+    }
+
+-- The entries that were read, as often as there are.
+module _ {A : Type 0} (s : List ℕ) (entry : A → List Field) (laid : List A → List Field) (none : laid [] ≡ []) (one : (x : A) (xs : List A) → laid (x ∷ xs) ≡ entry x ++ laid xs)
+    (r : List A → Reader A) where
+  laid-more : (xs : List A) (x : A) → laid (xs ++ (x ∷ [])) ≡ laid xs ++ entry x
+  laid-more [] x = one x [] ∙ ap (λ (fs : List Field). entry x ++ fs) none ∙ append-nil (entry x) ∙ ap (λ (fs : List Field). fs ++ entry x) (sym none)
+  laid-more (y ∷ xs) x =
+      one y (xs ++ (x ∷ []))
+      ∙ ap (λ (fs : List Field). entry y ++ fs) (laid-more xs x)
+      ∙ sym (append-assoc (entry y) (laid xs) (entry x))
+      ∙ ap (λ (fs : List Field). fs ++ entry x) (sym (one y xs))
+
+  pub found-times : ((xs : List A) (c : Scan) → Live (r xs c .1) → Found s (entry (r xs c .0)) c (r xs c .1)) → (n : ℕ) (c : Scan) → Live (times n r c .1) →
+      Found s (laid (times n r c .0)) c (times n r c .1)
+  unfolding times
+  found-times turn zero c h = rw none (found-none s c h)
+  found-times turn (suc n) c h =
+      let xs = times n r c in
+      let last = turn (xs .0) (xs .1) h in
+      rw (laid-more (xs .0) (r (xs .0) (xs .1) .0)) (found-then (found-times turn n c (found-live last)) last)
+
+-- The end was looked for at a scan that was not refused.
+pub ended-live : (s : List ℕ) (c : Scan) → Live (ended s c) → Live c
+ended-live s (At c) h = tt
+ended-live s (Refused f p) h = h
+
+ended-there : (s : List ℕ) (c : Cursor) → Live (ended s (At c)) → (endsAt s (placeOf c) ≡ true) × (ended s (At c) ≡ At c)
+ended-there s c h = go (endsAt s (placeOf c)) refl h
+  where
+    go : (b : Bool) → endsAt s (placeOf c) ≡ b → Live (cond b (At c) (Refused Tail (placeOf c))) → (endsAt s (placeOf c) ≡ true) × (cond b (At c) (Refused Tail (placeOf c)) ≡ At c)
+    go true e h = (e, refl)
+    go false e h = absurd h
+
+-- The whole sheet, from its first bit on: its fields stand in it, it ends after them, and there the scan stands.
+pub found-all : {s : List ℕ} {fs : List Field} {c : Scan} → Found s fs start c → Live (ended s c) →
+    Laid s 0 fs × (endsAt s (widths fs) ≡ true) × (ended s c ≡ At (cursorAt (widths fs)))
+found-all {s} {fs} {c} h l =
+    let first : h .at ≡ 0 = sym (place-at (h .at)) ∙ ap place (sym (h .before)) ∙ place-at 0 in
+    let stop : c ≡ At (cursorAt (widths fs)) = h .after ∙ ap (λ (i : ℕ). At (cursorAt i)) (omega arith) in
+    let end = ended-there s (cursorAt (widths fs)) (subst (λ (q : Scan). Live (ended s q)) stop l) in
+    (subst (λ (i : ℕ). Laid s i fs) first (h .stand), rw place-at at (end .0), ap (ended s) stop ∙ end .1)

@@ -1,0 +1,172 @@
+-- What is still to be covered stands in order: so the lowest is the first, and one step of a walk is known.
+use Prim.Native.Nat.{ℕ, suc, _+_, _≤_, _<_}
+use mathlib.Core.Path.{_≡_, refl, sym, ap, subst, _∙_}
+use mathlib.Core.Logic.{_⊎_, inl, inr, ⊎-elim, _≢_}
+use mathlib.Core.Bool.{Bool, true, false, _&&_, _||_, not, cond, false≢true, true≢false}
+use mathlib.Core.List.{List, [], _∷_, List·Memᴰ, List·Memᴰ·head, List·Memᴰ·tail, List·Memᴰ·not-nil}
+use mathlib.Core.Option.{Option, none, some, Option·map, Option·none-ne-some, Option·some-injective}
+use native.Mathlib.Nat.{le-refl}
+use native.Mathlib.Omega.{arith}
+use lib.ListN.{getElem?, length}
+use lib.Dec.{eqb, ltb}
+use borrow.Author.Tests.{eq-eqb, ne-eqb, eqb-true, eqb-false, le-ltb, lt-ltb}
+use Rattle.sheets.specs.Model.{Shape, leaf, inv, nand, size, Cell, Library, Pattern, patterns}
+use Rattle.covers.specs.Lists.{any, keepIf, select, firstSuch}
+use Rattle.covers.specs.Match.{Input, Match, matched, legal, pinLoad, IsMatch}
+use Rattle.covers.specs.Cover.{Point, Placed, raised, beside, late, leafPoint, feeds, inputDelay}
+use Rattle.covers.specs.Curve.{gates}
+use Rattle.covers.proofs.Basics.{each, FirstOf, nowhere, somewhere, first-of, lt-or-le}
+use Rattle.covers.proofs.Matching.{Spread, gates-lt-size, size-pos}
+use Rattle.covers.proofs.Matching as matching
+use Rattle.judgement.specs.Walk.{Uncovered, Walk, comeTo, comeToInputs, lowestAt, others, matchAt, taken, placedAt, step}
+
+-- In order from node `low` on, each an inverter or NAND whose subtree ends before the next, the last by `high`.
+pub data Apart : ℕ → ℕ → List Uncovered → Type 0 where
+  last : {low high : ℕ} → low ≤ high → Apart low high []
+  next : {low high : ℕ} {o : Uncovered} {os : List Uncovered} → low ≤ o .node → 0 < gates (o .shape) → Apart (o .node + size (o .shape)) high os → Apart low high (o ∷ os)
+
+pub apart-from : {low low′ high : ℕ} {os : List Uncovered} → low′ ≤ low → Apart low high os → Apart low′ high os
+apart-from {low′} {high} h (last k) = last {low = low′} {high = high} (omega arith)
+apart-from {low′} h (next {o = o} a g r) = next {low = low′} {o = o} (omega arith) g r
+
+pub apart-above : {low high : ℕ} {os : List Uncovered} {q : Uncovered} → Apart low high os → List·Memᴰ q os → low ≤ q .node
+apart-above (next a g r) (List·Memᴰ·head e) = rw e a
+apart-above (next {o = o} a g r) (List·Memᴰ·tail m) = omega (arith, apart-above r m, size-pos (o .shape))
+
+-- There are no more of them than nodes.
+pub apart-few : {low high : ℕ} {os : List Uncovered} → Apart low high os → low + length os ≤ high
+apart-few (last h) = omega arith
+apart-few (next {o = o} a g r) = omega (arith, apart-few r, size-pos (o .shape))
+
+-- Coming to a node before them all.
+pub come-apart : (load delay n : ℕ) (s : Shape) (w : Walk) {low high : ℕ} → low ≤ n → Apart (n + size s) high (w .left) → Apart low high (comeTo load delay n s w .left)
+unfolding comeTo size gates
+come-apart load delay n (leaf x) w h r = apart-from (omega arith) r
+come-apart load delay n (inv s) w h r = next {o = record { node = n; shape = inv s; load = load; delay = delay }} h (omega arith) r
+come-apart load delay n (nand s t) w h r = next {o = record { node = n; shape = nand s t; load = load; delay = delay }} h (omega arith) r
+
+pub inputs-apart : (l : Library) (c : Cell) (load delay : ℕ) (is : List Input) (w : Walk) {low mid high g : ℕ} → Spread low mid g is → Apart mid high (w .left) → Apart low high (comeToInputs l c load delay is w .left)
+unfolding comeToInputs
+inputs-apart l c load delay [] w (matching.last h) r = apart-from h r
+inputs-apart l c load delay (i ∷ is) w (matching.next a b s) r = come-apart (pinLoad l (feeds c i)) (inputDelay c load i + delay) (i .node) (i .shape) (comeToInputs l c load delay is w) a (inputs-apart l c load delay is w s r)
+
+module _ {A : Type 0} (test : A → Bool) where
+  first-none : (xs : List A) → ((x : A) → List·Memᴰ x xs → test x ≡ false) → firstSuch test xs ≡ none
+  first-none xs h = go (first-of test xs)
+    where
+      go : {o : Option A} → FirstOf test xs o → o ≡ none
+      go (nowhere a) = refl
+      go (somewhere {x = x} m e) = absurd (false≢true (sym (h x m) ∙ e))
+
+  select-all : (xs : List A) → ((x : A) → List·Memᴰ x xs → test x ≡ true) → select test xs ≡ xs
+  unfolding select keepIf
+  select-all [] h = refl
+  select-all (x ∷ xs) h = rw (h x (List·Memᴰ·head refl)) (ap (λ r. x ∷ r) (select-all xs (λ y m. h y (List·Memᴰ·tail m))))
+
+  any-none : (xs : List A) → ((x : A) → List·Memᴰ x xs → test x ≡ false) → any test xs ≡ false
+  unfolding any
+  any-none [] h = refl
+  any-none (x ∷ xs) h = rw (h x (List·Memᴰ·head refl)) (any-none xs (λ y m. h y (List·Memᴰ·tail m)))
+
+module _ {low high : ℕ} {o : Uncovered} {os : List Uncovered} (r : Apart low high (o ∷ os)) where
+  -- All others are higher than the first.
+  higher : (q : Uncovered) → List·Memᴰ q os → o .node < q .node
+  higher q m = go r
+    where
+      go : Apart low high (o ∷ os) → o .node < q .node
+      go (next a g s) = omega (arith, apart-above s m, size-pos (o .shape))
+
+  none-lower : any (λ q. ltb (q .node) (o .node)) (o ∷ os) ≡ false
+  none-lower = any-none (λ q. ltb (q .node) (o .node)) (o ∷ os) (each {P = λ q. ltb (q .node) (o .node) ≡ false} (le-ltb (o .node) (o .node) (le-refl (o .node))) (λ q m. le-ltb (q .node) (o .node) (let h = higher q m in omega arith)))
+
+  pub lowest-first : lowestAt (o .node) (o ∷ os) ≡ some o
+  unfolding lowestAt firstSuch
+  lowest-first = rw (none-lower, eq-eqb (o .node) (o .node) refl)
+
+  pub others-first : others (o .node) (o ∷ os) ≡ os
+  unfolding others select keepIf
+  others-first = rw (eq-eqb (o .node) (o .node) refl) (select-all (λ q. not (eqb (q .node) (o .node))) os (λ q m. ap not (ne-eqb (q .node) (o .node) (λ e. let h = higher q m in omega arith))))
+
+  pub lowest-other : {n : ℕ} → n ≢ o .node → lowestAt n (o ∷ os) ≡ none
+  unfolding lowestAt
+  lowest-other {n} d = first-none _ (o ∷ os) (each {P = λ q. eqb (q .node) n && not (any (λ q. ltb (q .node) n) (o ∷ os)) ≡ false} (rw (ne-eqb (o .node) n (λ e. d (sym e)))) later)
+    where
+      later : (q : Uncovered) → List·Memᴰ q os → eqb (q .node) n && not (any (λ q. ltb (q .node) n) (o ∷ os)) ≡ false
+      later q m = ⊎-elim low-one high-one (lt-or-le (o .node) n)
+        where
+          and-false : (b : Bool) → b && false ≡ false
+          and-false true = refl
+          and-false false = refl
+
+          low-one : o .node < n → eqb (q .node) n && not (any (λ q. ltb (q .node) n) (o ∷ os)) ≡ false
+          low-one h = unfold any in rw (lt-ltb (o .node) n h) (and-false (eqb (q .node) n))
+
+          high-one : n ≤ o .node → eqb (q .node) n && not (any (λ q. ltb (q .node) n) (o ∷ os)) ≡ false
+          high-one h = rw (ne-eqb (q .node) n (λ e. let k = higher q m in omega arith))
+
+-- ---- one match
+
+-- The legal match with a number.
+pub matched-is : (l : Library) (k : ℕ) (o : Uncovered) {m : Match} → matchAt k o (getElem? (patterns l) k) ≡ some m → IsMatch l (o .load) (o .node) (o .shape) m × (m .number ≡ k)
+unfolding matchAt
+matched-is l k o {m} e = go (getElem? (patterns l) k) refl e
+  where
+    fit : (p : Pattern) → getElem? (patterns l) k ≡ some p → (b : Bool) → legal (p .cell) (o .load) ≡ b → (r : Option (List Input)) → matched (p .drawing) (o .node) (o .shape) ≡ r → cond b (Option·map (λ is. record { number = k; pattern = p; inputs = is }) r) none ≡ some m → IsMatch l (o .load) (o .node) (o .shape) m × (m .number ≡ k)
+    fit p f true g none h e = absurd (Option·none-ne-some m e)
+    fit p f true g (some is) h e = let same = Option·some-injective (record { number = k; pattern = p; inputs = is }) m e in subst (λ q. IsMatch l (o .load) (o .node) (o .shape) q × (q .number ≡ k)) same (record { numbered = f; allowed = g; fits = h }, refl)
+    fit p f false g r h e = absurd (Option·none-ne-some m e)
+
+    go : (q : Option Pattern) → getElem? (patterns l) k ≡ q → matchAt k o q ≡ some m → IsMatch l (o .load) (o .node) (o .shape) m × (m .number ≡ k)
+    go none f e = unfold matchAt in absurd (Option·none-ne-some m e)
+    go (some p) f e = unfold matchAt in fit p f (legal (p .cell) (o .load)) refl (matched (p .drawing) (o .node) (o .shape)) refl e
+
+pub match-found : (l : Library) (o : Uncovered) {m : Match} → IsMatch l (o .load) (o .node) (o .shape) m → matchAt (m .number) o (getElem? (patterns l) (m .number)) ≡ some m
+unfolding matchAt
+match-found l o {m} h = rw (h .numbered, h .allowed, h .fits)
+
+-- ---- one step
+
+-- The walk after a match at the first of what is to be covered.
+unfoldable pub after : Library → Uncovered → List Uncovered → Point → Match → Walk
+after l o os p m = comeToInputs l (m .pattern .cell) (o .load) (o .delay) (m .inputs) (record { left = os; point = raised (m .pattern .cell .area) p })
+
+module _ (l : Library) {low high : ℕ} {o : Uncovered} {os : List Uncovered} (r : Apart low high (o ∷ os)) (p : Point) where
+  abbrev here : Walk
+  here = record { left = o ∷ os; point = p }
+
+  -- At another node it stands wrongly.
+  pub step-elsewhere : (x : Placed) → x .node ≢ o .node → step l here x ≡ none
+  unfolding step placedAt
+  step-elsewhere x d = rw (lowest-other r d)
+
+  abbrev pub there : Placed → Option Match
+  there x = matchAt (x .pattern) o (getElem? (patterns l) (x .pattern))
+
+  pub step-none : (x : Placed) → x .node ≡ o .node → there x ≡ none → step l here x ≡ none
+  unfolding step placedAt taken
+  step-none x e f = rw (e, lowest-first r, f)
+
+  pub step-some : (x : Placed) {m : Match} → x .node ≡ o .node → there x ≡ some m → step l here x ≡ some (after l o os p m)
+  unfolding step placedAt taken after
+  step-some x e f = rw (e, lowest-first r, f, others-first r)
+
+-- What a step is: a listed match stands wrongly, or it is a legal match at the first of what is to be covered.
+pub data StepIs (l : Library) (o : Uncovered) (os : List Uncovered) (p : Point) (x : Placed) : Option Walk → Type 0 where
+  wrong : StepIs l o os p x none
+  right : (m : Match) → IsMatch l (o .load) (o .node) (o .shape) m → x .node ≡ o .node → m .number ≡ x .pattern → StepIs l o os p x (some (after l o os p m))
+
+pub step-is : (l : Library) {low high : ℕ} {o : Uncovered} {os : List Uncovered} → Apart low high (o ∷ os) → (p : Point) (x : Placed) → StepIs l o os p x (step l (record { left = o ∷ os; point = p }) x)
+step-is l {o = o} {os} r p x = node (eqb (x .node) (o .node)) refl
+  where
+    pattern : (q : Option Match) → there l r p x ≡ q → x .node ≡ o .node → StepIs l o os p x (step l (record { left = o ∷ os; point = p }) x)
+    pattern none f e = subst (StepIs l o os p x) (sym (step-none l r p x e f)) wrong
+    pattern (some m) f e = let h = matched-is l (x .pattern) o f in subst (StepIs l o os p x) (sym (step-some l r p x e f)) (right m (h .0) e (h .1))
+
+    node : (b : Bool) → eqb (x .node) (o .node) ≡ b → StepIs l o os p x (step l (record { left = o ∷ os; point = p }) x)
+    node true e = pattern (there l r p x) refl (eqb-true (x .node) (o .node) e)
+    node false e = subst (StepIs l o os p x) (sym (step-elsewhere l r p x (eqb-false (x .node) (o .node) e))) wrong
+
+-- With nothing left to cover every match stands wrongly.
+pub step-past : (l : Library) (p : Point) (x : Placed) → step l (record { left = []; point = p }) x ≡ none
+unfolding step placedAt lowestAt firstSuch
+step-past l p x = refl

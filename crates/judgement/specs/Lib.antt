@@ -1,0 +1,4 @@
+-- The judge of covers, in reading order.
+pub mod Walk
+pub mod Judgement
+pub mod Demands
