@@ -18,12 +18,8 @@ use Rattle.covers.specs.Curve.{gates}
 use Rattle.covers.proofs.Basics.{each, FirstOf, nowhere, somewhere, first-of, lt-or-le}
 use Rattle.covers.proofs.Matching.{Spread, gates-lt-size, size-pos}
 use Rattle.covers.proofs.Matching as matching
+use Rattle.judgement.specs.Order.{Apart, last, next}
 use Rattle.judgement.specs.Walk.{Uncovered, Walk, comeTo, comeToInputs, lowestAt, others, matchAt, taken, placedAt, step}
-
--- In order from node `low` on, each an inverter or NAND whose subtree ends before the next, the last by `high`.
-pub data Apart : ℕ → ℕ → List Uncovered → Type 0 where
-  last : {low high : ℕ} → low ≤ high → Apart low high []
-  next : {low high : ℕ} {o : Uncovered} {os : List Uncovered} → low ≤ o .node → 0 < gates (o .shape) → Apart (o .node + size (o .shape)) high os → Apart low high (o ∷ os)
 
 pub apart-from : {low low′ high : ℕ} {os : List Uncovered} → low′ ≤ low → Apart low high os → Apart low′ high os
 apart-from {low′} {high} h (last k) = last {low = low′} {high = high} (omega arith)

@@ -18,8 +18,9 @@ use Rattle.covers.specs.Curve.{gates}
 use Rattle.covers.specs.Promise.{RootCover}
 use Rattle.covers.proofs.Points.{point-path}
 use Rattle.covers.proofs.Matching.{Whenever, never, holds, whenever, implied, match-inside}
+use Rattle.judgement.specs.Order.{Apart, last, next}
 use Rattle.judgement.specs.Walk.{Uncovered, Walk, comeTo, comeToInputs, started, matchAt, step, matchNumber, ended, onward, walk}
-use Rattle.judgement.proofs.Order.{Apart, last, next, come-apart, inputs-apart, matched-is, match-found, after, there, step-some, StepIs, wrong, right, step-is, step-past}
+use Rattle.judgement.proofs.Order.{come-apart, inputs-apart, matched-is, match-found, after, there, step-some, StepIs, wrong, right, step-is, step-past}
 
 -- ---- covers of several nodes
 
