@@ -30,10 +30,10 @@ use Rattle.covers.proofs.Overfull.{nodes-ascend}
 use Rattle.covers.proofs.Curve.{curve-is, lookup-is-least}
 use Rattle.covers.proofs.Filling.{fromTable, reaches-from-table}
 use Rattle.covers.proofs.FromSheets.{binned}
+use Rattle.overlay.proofs.Walking.{stands-size}
 use Rattle.matching.specs.Found.{matchWords, matchRow}
 use Rattle.matching.specs.Promises.{Ready}
 use Rattle.matching.proofs.Patterns.{fitting-sound}
-use Rattle.matching.proofs.Walking.{stands-size}
 use Rattle.curves.specs.Words.{absent, pointLimit, tableOf}
 use Rattle.curves.specs.Best.{rowOf, legalBest, RowSafe}
 use Rattle.curves.specs.Promises.{Worth}

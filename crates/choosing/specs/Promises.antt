@@ -12,8 +12,8 @@ use Rattle.covers.specs.Enumeration.{covers}
 use Rattle.covers.specs.Tradeoff.{nodes}
 use Rattle.covers.specs.Choice.{least}
 use Rattle.covers.specs.Curve.{base, gates, pointOf}
+use Rattle.overlay.specs.Held.{Decoded}
 use Rattle.matching.specs.Found.{matchTable, matchRow}
-use Rattle.matching.specs.Promises.{Decoded}
 use Rattle.curves.specs.Words.{WorkArea}
 use Rattle.curves.specs.Best.{rowOf, legalBest}
 use Rattle.curves.specs.Stored.{Stored}

@@ -9,6 +9,7 @@ use lib.Dec.{leb, ltb}
 use Rattle.covers.specs.Cover.{late, raised, leafPoint, Point}
 use Rattle.covers.specs.Choice.{lesser, before}
 use Rattle.covers.specs.Curve.{both, lookup}
+use Rattle.overlay.specs.Held.{symbolLimit}
 use Rattle.matching.specs.Found.{matchWords, inputSize, inputPlace}
 use Rattle.curves.specs.Words.{tableOf, WorkArea}
 
@@ -97,10 +98,6 @@ pub record RowSafe (row : List ℕ) : Type 0 where
   pub area : rowArea row ≤ 65535
   pub few : rowCount row ≤ 16
   pub inputs : (k : ℕ) → k < rowCount row → InputSafe row (inputPlace k)
-
--- The greatest symbol: 2 more than the latest arrival of a leaf.
-abbrev pub symbolLimit : ℕ
-symbolLimit = 1000002
 
 -- What the inputs' points are read from: the tree's symbols and the curves of later nodes.
 pub record Sources (most : ℕ) (symbols work : List ℕ) : Type 0 where

@@ -4,10 +4,9 @@ use sheets::Limits;
 ghost use mathlib.Core.Path.{_≡_};
 ghost use Prim.Native.Nat.{_+_, _-_, _*_, _<_, _≤_, min, max};
 ghost use lib.ListN.{length, drop};
-ghost use Rattle.covers.specs.Cover.{leafArrival};
 ghost use Rattle.covers.specs.Curve.{base, lookup};
 ghost use Rattle.curves.specs.Words.{pointLimit, matchLimit, stored, curveAt, Small, WorkArea};
-ghost use Rattle.curves.specs.Best.{symbolLimit, rowOf, inputBest, inputLate, rowBest, legalBest, rowsBest, Sources, Tables, InputSafe, Matches, Above};
+ghost use Rattle.curves.specs.Best.{rowOf, inputBest, inputLate, rowBest, legalBest, rowsBest, Sources, Tables, InputSafe, Matches, Above};
 ghost use Rattle.curves.specs.Promises.{Probed, Worth, PointsFit, CurveStored};
 
 // The word for no point; how many curves a node has: one for each load bin; and how many words of a curve are tested in a straight line.
@@ -81,14 +80,6 @@ pub fn look_up(work: &[u64], most: usize, at: usize, end: u64) -> u64
     find(&work[first..first + (most + 1)], end)
 }
 
-// When a leaf arrives under the load that it drives: the one place that knows.
-pub fn leaf_arrival(symbol: u32, load: u32) -> u64
-    requires { ⌜ (2 ≤ symbol) × (symbol ≤ symbolLimit) × (load ≤ 255) ⌝ }
-    ensures { λ r. ⌜ (r ≡ leafArrival (symbol - 2) load) × (r < base) ⌝ }
-{
-    (symbol - 2) as u64
-}
-
 // The least point before `end` of an input at a pin with a load.
 fn input_best(
     symbols: &[u32],
@@ -105,7 +96,7 @@ fn input_best(
 {
     let symbol = symbols[node];
     if 2 <= symbol {
-        let arrival = leaf_arrival(symbol, load);
+        let arrival = overlay::leaf_arrival(symbol, load);
         if arrival < end {
             return arrival;
         }

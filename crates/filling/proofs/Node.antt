@@ -29,15 +29,16 @@ use Rattle.covers.proofs.Curve.{curve-found}
 use Rattle.covers.proofs.Filling.{best-from-table}
 use Rattle.covers.proofs.FromSheets.{limited, binned}
 use Rattle.fields.proofs.Lists.{at-mem, zeros-at}
+use Rattle.overlay.specs.Standing.{Stands, Subject}
+use Rattle.overlay.specs.Held.{symbolLimit}
+use Rattle.overlay.proofs.Standing.{stands-everywhere, subject-everywhere}
 use Rattle.matching.specs.Found.{matchWords, inputSize, inputPlace, inputWords, matchRow}
 use Rattle.matching.specs.Promises.{Ready}
-use Rattle.matching.specs.Standing.{Stands, Subject}
 use Rattle.matching.proofs.Written.{length-row, row-input}
 use Rattle.matching.proofs.Patterns.{SoundMatch, fitting-sound, fitting-few, match-row-at}
-use Rattle.matching.proofs.Standing.{stands-everywhere, subject-everywhere}
 use Rattle.sheets.proofs.Tables.{length-table}
 use Rattle.curves.specs.Words.{tableOf, WorkArea}
-use Rattle.curves.specs.Best.{symbolLimit, rowOf, rowCount, RowSafe, Sources, Matches, Above, rowsBest}
+use Rattle.curves.specs.Best.{rowOf, rowCount, RowSafe, Sources, Matches, Above, rowsBest}
 use Rattle.curves.specs.Promises.{bestBefore, nodePoints, PointsFit, Fit}
 use Rattle.curves.proofs.Laws.{part-word}
 use Rattle.filling.proofs.Rows.{Heads, Headed, Holds, rows-are-best}

@@ -14,8 +14,9 @@ use Rattle.covers.specs.Cover.{Point}
 use Rattle.covers.specs.Enumeration.{covers}
 use Rattle.covers.specs.Tradeoff.{overfullNode}
 use Rattle.covers.specs.Curve.{Filled, curve, gates}
+use Rattle.overlay.specs.Held.{Decoded}
 use Rattle.matching.specs.Found.{matchTable}
-use Rattle.matching.specs.Promises.{Ready, Decoded}
+use Rattle.matching.specs.Promises.{Ready}
 use Rattle.curves.specs.Words.{tableOf, AgreeFrom, ZeroBelow, WorkArea, Small}
 use Rattle.curves.specs.Best.{Matches, Above}
 use Rattle.curves.specs.Promises.{PointsFit, nodePoints}

@@ -24,10 +24,10 @@ use Rattle.covers.proofs.Listing.{few-matches}
 use Rattle.covers.proofs.Matching.{gates-lt-size}
 use Rattle.covers.proofs.Nodes.{root-in}
 use Rattle.covers.proofs.Unroll.{choice-unroll}
-use Rattle.matching.specs.Standing.{Stands}
-use Rattle.matching.proofs.Standing.{stands-everywhere, subject-everywhere}
+use Rattle.overlay.specs.Standing.{Stands}
+use Rattle.overlay.specs.Held.{symbolLimit}
+use Rattle.overlay.proofs.Standing.{stands-everywhere, subject-everywhere}
 use Rattle.curves.specs.Words.{absent, pointLimit, stored, curveAt}
-use Rattle.curves.specs.Best.{symbolLimit}
 use Rattle.curves.specs.Promises.{Worth}
 use Rattle.choosing.specs.Promises.{at-root, Chooses, appended}
 use Rattle.choosing.proofs.Gate.{chosen-there}

@@ -17,9 +17,9 @@ ghost use Rattle.sheets.specs.Model.{leaf, Library, Tree};
 ghost use Rattle.covers.specs.Answer.{answered};
 ghost use Rattle.covers.specs.Choice.{choice};
 ghost use Rattle.covers.specs.Curve.{pointOf};
+ghost use Rattle.overlay.specs.Held.{symbolLimit};
 ghost use Rattle.matching.specs.Found.{matchTable};
 ghost use Rattle.curves.specs.Words.{stored};
-ghost use Rattle.curves.specs.Best.{symbolLimit};
 ghost use Rattle.filling.specs.Promises.{FillStart};
 ghost use Rattle.mapper.specs.Found.{bareCover, refusedWith, ofMapped};
 ghost use Rattle.mapper.specs.Promises.{Curved, MappedIs, ListedIs};
@@ -83,7 +83,7 @@ fn map_leaf(symbol: u32, load: u32, time: u32) -> Mapped
     ensures { λ r. ⌜ ((l : Library) → ofMapped r ≡ answered none (choice l load 0 (leaf (symbol - 2)) time)) ⌝ }
     ensures { λ r. ⌜ r .cover .count ≡ 0 ⌝ }
 {
-    let arrival = curves::leaf_arrival(symbol, load) as u32;
+    let arrival = overlay::leaf_arrival(symbol, load) as u32;
     if time < arrival {
         return refuse(Numbers::NO_COVER, 0);
     }
@@ -160,7 +160,7 @@ fn list_root(tree: TreeRecord, most: usize, work: &mut [u64]) -> Listed
     let symbols = tree.symbols;
     let symbol = symbols[0];
     if 2 <= symbol {
-        work[0] = curves::leaf_arrival(symbol, tree.load as u32);
+        work[0] = overlay::leaf_arrival(symbol, tree.load as u32);
         return Listed {
             finding: Finding::Found,
             count: 1,

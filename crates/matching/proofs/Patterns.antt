@@ -1,9 +1,8 @@
 -- The patterns of a sound library, tried one after another at a node.
 use Prim.Native.Nat.{ℕ, suc, _+_, _*_, _≤_, _<_}
 use mathlib.Core.Path.{_≡_, refl, sym, ap, ap₂, subst, _∙_}
-use mathlib.Core.Logic.{⊎-elim}
 use mathlib.Core.Bool.{true, false, false≢true}
-use mathlib.Core.List.{List, [], _∷_, _++_, map, map-append, List·Memᴰ, List·Memᴰ·head, List·Memᴰ·tail, List·Memᴰ·not-nil, List·Memᴰ·append-cases, List·Memᴰ·eq-of-singleton, Memᴰ·append-left, Memᴰ·append-right, Memᴰ·of-map}
+use mathlib.Core.List.{List, [], _∷_, _++_, map, map-append, List·Memᴰ, List·Memᴰ·head, List·Memᴰ·tail, List·Memᴰ·not-nil, List·Memᴰ·eq-of-singleton, Memᴰ·of-map}
 use mathlib.Core.Option.{Option, none, some}
 use native.Mathlib.Nat.{zero-add, add-zero, add-suc, suc-add}
 use native.Mathlib.Numerals.{add-one}
@@ -11,58 +10,21 @@ use native.Mathlib.Omega.{arith}
 use lib.ListN.{length, getD, take, drop, length-append, length-map}
 use lib.Seq.{sets, take-suc, length-take-le}
 use borrow.Rule.Slice.PartMut.{putMid}
-use Rattle.fields.proofs.Lists.{mid-sets, at-mem, at-map}
-use Rattle.sheets.specs.Model.{Shape, leaf, inv, nand, size, leaves, Library, Pattern, Tree, patterns}
-use Rattle.sheets.specs.Layout.{tableFrom, pinsMost, pinWords, figuresAt, rowWords}
-use Rattle.covers.specs.Match.{Input, Match, joined, laid, matched, putFirst, fittingFrom, fitting, pinAt, pinLoad}
-use Rattle.covers.proofs.Matching.{Whenever, never, holds, whenever}
-use Rattle.matching.specs.declared.Walked.{Walked}
+use Rattle.fields.proofs.Lists.{mid-sets, at-map}
+use Rattle.sheets.specs.Model.{Shape, Library, Pattern, Tree, patterns}
+use Rattle.sheets.specs.Layout.{tableFrom, rowWords}
+use Rattle.covers.specs.Match.{Input, Match, laid, matched, putFirst, fittingFrom, fitting}
+use Rattle.covers.proofs.Matching.{whenever}
+use Rattle.overlay.specs.declared.Walked.{Walked}
+use Rattle.overlay.specs.Held.{WalkedIs}
+use Rattle.overlay.proofs.Patterns.{FromDrawing, laid-from, matched-laid, noPattern, patternAt, at-hand, row-held}
 use Rattle.matching.specs.Found.{matchWords, matchTable, matchRow}
-use Rattle.sheets.specs.Sound.{IsGate, SoundCell, SoundLibrary}
-use Rattle.matching.specs.Promises.{PatternHeld, Walkable, WalkedIs, Writable, Tried, Ready}
+use Rattle.sheets.specs.Sound.{SoundCell, SoundLibrary}
+use Rattle.matching.specs.Promises.{Writable, Tried, Ready}
 use Rattle.sheets.proofs.Laws.{table-append}
 use Rattle.sheets.proofs.Tables.{row-at}
-use Rattle.sheets.proofs.Patterns.{SoundPattern, sound-pattern, Told, row-told, table-long, pin-laid}
-use Rattle.matching.proofs.Standing.{subject-everywhere}
+use Rattle.sheets.proofs.Patterns.{SoundPattern, sound-pattern}
 use Rattle.matching.proofs.Written.{length-row}
-
--- ---- the inputs of one match
-
--- There are no more inputs than the drawing has nodes, and each pin stands at a leaf of the drawing.
-pub record FromDrawing (d : Shape) (is : List Input) : Type 0 where
-  pub few : length is ≤ size d
-  pub pins : (i : Input) → List·Memᴰ i is → List·Memᴰ (i .pin) (leaves d)
-
-laid-from : (d : Shape) (n : ℕ) (s : Shape) → Whenever (FromDrawing d) (laid d n s)
-unfolding laid size leaves
-laid-from (leaf x) n s = holds {is = record { pin = x; node = n; shape = s } ∷ []} (record {
-  few = omega arith;
-  pins = λ i m. List·Memᴰ·head (ap (λ (j : Input). j .pin) (List·Memᴰ·eq-of-singleton m));
-})
-laid-from (inv d) n (leaf x) = never
-laid-from (inv d) n (inv s) = go (laid-from d (suc n) s)
-  where
-    go : {o : Option (List Input)} → Whenever (FromDrawing d) o → Whenever (FromDrawing (inv d)) o
-    go never = never
-    go (holds {is} f) = holds {is = is} (record { few = omega (arith, f .few); pins = f .pins })
-laid-from (inv d) n (nand s t) = never
-laid-from (nand d e) n (leaf x) = never
-laid-from (nand d e) n (inv s) = never
-laid-from (nand d e) n (nand s t) = go (laid-from d (suc n) s) (laid-from e (suc n + size s) t)
-  where
-    go : {a b : Option (List Input)} → Whenever (FromDrawing d) a → Whenever (FromDrawing e) b → Whenever (FromDrawing (nand d e)) (joined a b)
-    go never g = unfold joined in never
-    go (holds f) never = unfold joined in never
-    go (holds {is} f) (holds {is = js} g) = unfold joined in holds {is = is ++ js} (record {
-      few = omega (arith, f .few, g .few, length-append is js);
-      pins = λ i m. ⊎-elim (λ k. Memᴰ·append-left (leaves e) (f .pins i k)) (λ k. Memᴰ·append-right (leaves d) (g .pins i k)) (List·Memᴰ·append-cases is m);
-    })
-
-pub matched-laid : (d : Shape) (n : ℕ) (s : Shape) → IsGate d → matched d n s ≡ laid d n s
-unfolding matched
-matched-laid (leaf x) n s h = absurd h
-matched-laid (inv d) n s h = refl
-matched-laid (nand d e) n s h = refl
 
 -- ---- one pattern that was walked
 
@@ -197,36 +159,6 @@ match-row-at l n s h t e d j c g k =
 
 -- ---- one turn of the loop over the patterns
 
-abbrev noPattern : Pattern
-noPattern = record { cellNumber = 0; cell = record { held = false; area = 0; highest = 0; pins = []; drawings = [] }; drawing = leaf 0 }
-
-abbrev pub patternAt : Library → ℕ → Pattern
-patternAt l j = getD (patterns l) j noPattern
-
--- A row that tells of a pattern holds it.
-holds-pattern : (l : Library) (p : Pattern) {r : List ℕ} → length (p .cell .pins) ≤ pinsMost → Told (l .bins) p r → PatternHeld l r p
-unfolding pinAt pinLoad
-holds-pattern l p {r} few t = record {
-  drawing = record { long = t .long; size-is = t .nodes; symbols-are = t .symbol };
-  cell = record {
-    long = t .long;
-    held-is = t .held;
-    area-is = t .area;
-    highest-is = t .highest;
-    pins-are = λ k h.
-        let at = figuresAt + pinWords * k in
-        let pin = pinAt (p .cell) k in
-        let word : (q : ℕ) → q < pinWords → getD r (at + q) 0 ≡ getD (pin .bin ∷ (pinLoad l pin ∷ (pin .intrinsic ∷ (pin .drive ∷ [])))) q 0 =
-        λ q g. t .figure k q (omega arith) g ∙ ap (λ (ws : List ℕ). getD ws q 0) (pin-laid (l .bins) (p .cell) (record { bin = 0; intrinsic = 0; drive = 0 }) k few h) in
-        record {
-          bin-is = ap (λ (i : ℕ). getD r i 0) (sym (add-zero at)) ∙ word 0 (omega arith);
-          load-is = word 1 (omega arith);
-          intrinsic-is = word 2 (omega arith);
-          drive-is = word 3 (omega arith);
-        };
-  };
-}
-
 -- The matches among the first k patterns.
 abbrev pub matchesBefore : Library → ℕ → Shape → ℕ → List Match
 matchesBefore l n s k = fittingFrom n s 0 (take k (patterns l))
@@ -251,61 +183,40 @@ lent-back t count m [] e h g f = mid-sets t (matchWords * count) m [] h (omega a
 lent-back t count m (r ∷ []) e h g f = mid-sets t (matchWords * count) m r h (omega (arith, f r (List·Memᴰ·head refl)))
 lent-back t count m (r ∷ (q ∷ rs)) e h g f = absurd (omega arith)
 
-module _ {l : Library} {t : Tree} {rows ss zs : List ℕ} {n room : ℕ} {s : Shape} (ready : Ready l t rows ss zs n room s) where
-  pub rows-long : length rows ≡ rowWords * length (patterns l)
-  rows-long = ap length (ready .decoded .rows-are) ∙ table-long l (ready .decoded .library)
+module _ {l : Library} {t : Tree} {rows ss zs : List ℕ} {n room : ℕ} {s : Shape} (ready : Ready l t rows ss zs n room s) (j : ℕ)
+    (h : j < length (patterns l)) where
+  sound-at : SoundPattern l (patternAt l j)
+  sound-at = at-hand (ready .decoded) j h
 
-  pub few-patterns : length (patterns l) ≤ 128
-  few-patterns = ready .decoded .library .few-patterns
+  pub tried : (m : ℕ) → m ≡ rowWords → (walked : Walked) → WalkedIs (laid (patternAt l j .drawing) n s) walked → Tried l walked (take m (drop (rowWords * j) rows)) (patternAt l j) n s
+  tried m e walked w = record { walked-is = w; cell = row-held (ready .decoded) j h m e .cell; sound = sound-at .cell; drawing = sound-at .drawing }
 
-  module _ (j : ℕ) (h : j < length (patterns l)) where
-    at-hand : SoundPattern l (patternAt l j)
-    at-hand = sound-pattern l (ready .decoded .library) (at-mem (patterns l) j noPattern h)
+  rows-small : (r : List ℕ) → List·Memᴰ r (map (matchRow l) (matchesOf l n s j)) → length r ≤ matchWords
+  rows-small r i =
+      let p = patternAt l j in
+      let m = Memᴰ·of-map (matchRow l) (matchesOf l n s j) i in
+      let o = found-of n s j p [] (matched (p .drawing) n s) refl (λ h. absurd (List·Memᴰ·not-nil h)) (m .1) in
+      let sound = subst (SoundPattern l) (sym (List·Memᴰ·eq-of-singleton (o .0))) sound-at in
+      omega (arith, match-sound n s l (m .0) sound (o .1) .row-few, ap length (m .2))
 
-    module _ (m : ℕ) (e : m ≡ rowWords) where
-      -- The row of pattern j.
-      pub row-held : PatternHeld l (take m (drop (rowWords * j) rows)) (patternAt l j)
-      row-held =
-          subst (λ (rs : List ℕ). PatternHeld l (take m (drop (rowWords * j) rs)) (patternAt l j)) (sym (ready .decoded .rows-are))
-          (holds-pattern l (patternAt l j) (at-hand .cell .few-pins) (row-told l (ready .decoded .library) noPattern j m h e))
+  -- What the loop has written so far, and one pattern more.
+  pub find-turn : (t₀ t part : List ℕ) (count r m : ℕ) → m ≡ matchWords → matchWords * count + m ≤ length t →
+      count ≡ length (matchesBefore l n s j) → t ≡ tableFrom matchWords t₀ 0 (map (matchRow l) (matchesBefore l n s j)) →
+      (r ≡ length (matchesOf l n s j)) × (part ≡ tableFrom matchWords (take m (drop (matchWords * count) t)) 0 (map (matchRow l) (matchesOf l n s j))) →
+      (count + r ≡ length (matchesBefore l n s (j + 1)))
+      × (putMid (matchWords * count) m t part ≡ tableFrom matchWords t₀ 0 (map (matchRow l) (matchesBefore l n s (j + 1))))
+  find-turn t₀ t part count r m e g ec et w =
+      let p = patternAt l j in
+      let fs = matchesBefore l n s j in
+      let ms = matchesOf l n s j in
+      let more = before-more l n s j h in (
+        omega (arith, ap length more, length-append fs ms, w .0),
+        ap (putMid (matchWords * count) m t) (w .1)
+            ∙ lent-back t count m (map (matchRow l) ms) e g (omega (arith, length-map ms (matchRow l), found-few n s j p (matched (p .drawing) n s) [])) rows-small
+            ∙ ap₂ (λ (t′ : List ℕ) (i : ℕ). tableFrom matchWords t′ i (map (matchRow l) ms)) et (ec ∙ sym (zero-add (length (map (matchRow l) fs)) ∙ length-map fs (matchRow l)))
+            ∙ sym (table-append matchWords t₀ 0 (map (matchRow l) fs) (map (matchRow l) ms))
+            ∙ ap (tableFrom matchWords t₀ 0) (sym (ap (map (matchRow l)) more ∙ map-append (matchRow l) fs ms)),
+      )
 
-      pub walkable : Walkable (take m (drop (rowWords * j) rows)) ss zs n (patternAt l j .drawing) s
-      walkable = record {
-        drawing = row-held .drawing;
-        small = at-hand .drawing .size;
-        pinned = λ x i. omega (arith, at-hand .drawing .leaves x i, at-hand .cell .few-pins);
-        subject = subject-everywhere (ready .decoded) (record { number = n; shape = s }) (ready .here);
-      }
-
-      pub tried : (walked : Walked) → WalkedIs (laid (patternAt l j .drawing) n s) walked → Tried l walked (take m (drop (rowWords * j) rows)) (patternAt l j) n s
-      tried walked w = record { walked-is = w; cell = row-held .cell; sound = at-hand .cell; drawing = at-hand .drawing }
-
-    rows-small : (r : List ℕ) → List·Memᴰ r (map (matchRow l) (matchesOf l n s j)) → length r ≤ matchWords
-    rows-small r i =
-        let p = patternAt l j in
-        let m = Memᴰ·of-map (matchRow l) (matchesOf l n s j) i in
-        let o = found-of n s j p [] (matched (p .drawing) n s) refl (λ h. absurd (List·Memᴰ·not-nil h)) (m .1) in
-        let sound = subst (SoundPattern l) (sym (List·Memᴰ·eq-of-singleton (o .0))) at-hand in
-        omega (arith, match-sound n s l (m .0) sound (o .1) .row-few, ap length (m .2))
-
-    -- What the loop has written so far, and one pattern more.
-    pub find-turn : (t₀ t part : List ℕ) (count r m : ℕ) → m ≡ matchWords → matchWords * count + m ≤ length t →
-        count ≡ length (matchesBefore l n s j) → t ≡ tableFrom matchWords t₀ 0 (map (matchRow l) (matchesBefore l n s j)) →
-        (r ≡ length (matchesOf l n s j)) × (part ≡ tableFrom matchWords (take m (drop (matchWords * count) t)) 0 (map (matchRow l) (matchesOf l n s j))) →
-        (count + r ≡ length (matchesBefore l n s (j + 1)))
-        × (putMid (matchWords * count) m t part ≡ tableFrom matchWords t₀ 0 (map (matchRow l) (matchesBefore l n s (j + 1))))
-    find-turn t₀ t part count r m e g ec et w =
-        let p = patternAt l j in
-        let fs = matchesBefore l n s j in
-        let ms = matchesOf l n s j in
-        let more = before-more l n s j h in (
-          omega (arith, ap length more, length-append fs ms, w .0),
-          ap (putMid (matchWords * count) m t) (w .1)
-              ∙ lent-back t count m (map (matchRow l) ms) e g (omega (arith, length-map ms (matchRow l), found-few n s j p (matched (p .drawing) n s) [])) rows-small
-              ∙ ap₂ (λ (t′ : List ℕ) (i : ℕ). tableFrom matchWords t′ i (map (matchRow l) ms)) et (ec ∙ sym (zero-add (length (map (matchRow l) fs)) ∙ length-map fs (matchRow l)))
-              ∙ sym (table-append matchWords t₀ 0 (map (matchRow l) fs) (map (matchRow l) ms))
-              ∙ ap (tableFrom matchWords t₀ 0) (sym (ap (map (matchRow l)) more ∙ map-append (matchRow l) fs ms)),
-        )
-
-    pub one-at-most : (r : ℕ) → r ≡ length (matchesOf l n s j) → r ≤ 1
-    one-at-most r e = omega (arith, found-few n s j (patternAt l j) (matched (patternAt l j .drawing) n s) [])
+  pub one-at-most : (r : ℕ) → r ≡ length (matchesOf l n s j) → r ≤ 1
+  one-at-most r e = omega (arith, found-few n s j (patternAt l j) (matched (patternAt l j .drawing) n s) [])

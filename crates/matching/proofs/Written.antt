@@ -1,32 +1,23 @@
 -- A match's row, written word by word.
-use Prim.Native.Nat.{ℕ, zero, suc, _+_, _*_, _≤_, _<_}
+use Prim.Native.Nat.{ℕ, zero, suc, _+_, _*_, _<_}
 use mathlib.Core.Path.{_≡_, refl, sym, ap, ap₂, subst, _∙_}
 use mathlib.Core.Bool.{Bool, cond, not}
-use mathlib.Core.List.{List, [], _∷_, _++_, map, append-nil}
+use mathlib.Core.List.{List, [], _∷_, _++_, append-nil}
 use native.Mathlib.Nat.{zero-add, add-zero}
 use native.Mathlib.Numerals.{add-one}
 use native.Mathlib.Omega.{arith}
-use lib.ListN.{length, getD, set, take, length-map, List·getD-append}
+use lib.ListN.{length, getD, set, take, List·getD-append}
 use lib.Seq.{sets, take-suc, length-take-le, getD-append-add}
-use Rattle.fields.proofs.Lists.{sets-append, at-mem, at-map}
-use Rattle.sheets.specs.Model.{leaf, Cell, Library}
-use Rattle.sheets.specs.Layout.{padded, figuresAt, pinWords, rowWords}
-use Rattle.sheets.proofs.Laws.{in-padded}
+use Rattle.fields.proofs.Lists.{sets-append, at-mem}
+use Rattle.sheets.specs.Model.{Cell, Library}
+use Rattle.sheets.specs.Layout.{figuresAt, pinWords, rowWords}
 use Rattle.covers.specs.Match.{Input, Match, pinAt, usable}
 use Rattle.covers.specs.Cover.{feeds}
-use Rattle.matching.specs.declared.Walked.{Walked}
+use Rattle.overlay.specs.declared.Walked.{Walked}
+use Rattle.overlay.specs.Held.{PinHeld, heldAt, areaAt, highestAt}
+use Rattle.overlay.proofs.Patterns.{noInput, noted}
 use Rattle.matching.specs.Found.{inputsAt, inputSize, inputPlace, inputWords, inputsWords, firstIllegal, matchRow}
-use Rattle.matching.specs.Promises.{PinHeld, Writable, heldAt, areaAt, highestAt}
-
-abbrev noInput : Input
-noInput = record { pin = 0; node = 0; shape = leaf 0 }
-
--- What a walk noted of the input k.
-noted : (f : Input → ℕ) (ws : List ℕ) (is : List Input) (k : ℕ) → ws ≡ padded 16 0 (map f is) → length is ≤ 16 → k < length is → getD ws k 0 ≡ f (getD is k noInput)
-noted f ws is k e h g =
-    ap (λ (l : List ℕ). getD l k 0) e
-    ∙ in-padded 16 0 0 (map f is) k (omega (arith, length-map is f)) (omega (arith, length-map is f))
-    ∙ at-map f is k noInput 0 g
+use Rattle.matching.specs.Promises.{Writable}
 
 four : {a b c d a′ b′ c′ d′ : ℕ} → a ≡ a′ → b ≡ b′ → c ≡ c′ → d ≡ d′ → _≡_ {A = List ℕ} (a ∷ (b ∷ (c ∷ (d ∷ [])))) (a′ ∷ (b′ ∷ (c′ ∷ (d′ ∷ []))))
 four p q r s = cc

@@ -1,4 +1,3 @@
 -- What the contracts of `matching` say, in reading order.
 pub mod Found
-pub mod Standing
 pub mod Promises

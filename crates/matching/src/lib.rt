@@ -1,4 +1,5 @@
 // Which patterns match at a node of the subject tree. They are found once for a node, and serve every load and every deadline.
+use overlay::Walked;
 use sheets::library::PatternRow;
 ghost use mathlib.Core.Path.{_≡_};
 ghost use mathlib.Core.Bool.{Bool, cond, not};
@@ -7,10 +8,10 @@ ghost use Prim.Native.Nat.{ℕ, suc, _+_, _<_, _≤_};
 ghost use lib.ListN.{length};
 ghost use lib.Seq.{sets};
 ghost use Rattle.sheets.specs.Model.{Shape, Library, Pattern, Tree};
-ghost use Rattle.covers.specs.Match.{Match, laid, matched, putFirst, fitting};
+ghost use Rattle.covers.specs.Match.{Match, matched, putFirst, fitting};
 ghost use Rattle.matching.specs.Found.{matchWords, inputsAt, inputsWords, matchRow};
 ghost use Rattle.sheets.specs.Layout.{tableFrom};
-ghost use Rattle.matching.specs.Promises.{Walkable, WalkedIs, Writable, Tried, Ready};
+ghost use Rattle.matching.specs.Promises.{Writable, Tried, Ready};
 
 // A match's row: its pattern, its cell's area, the first load that is not legal and how many inputs it has, then five words for each input:
 // its node, and the load bin, the load, the intrinsic delay and the drive of its pin.
@@ -41,54 +42,6 @@ impl Row {
     pub const WORDS: usize = 84;
 
     pub const TABLE: usize = 10752;
-}
-
-// What a walk over a pattern finds: whether it matches and, if so, how many inputs it has, with the pin and the node of each in drawn order.
-pub struct Walked {
-    pub matched: bool,
-    pub count: usize,
-    pub pins: [u8; 16],
-    pub nodes: [u8; 16],
-}
-
-// Walks a pattern's nodes and the tree's nodes from n on together. A pattern's leaf notes its pin and the tree's node, and skips all that
-// stands under the node; elsewhere the two symbols must be equal.
-fn walk<'a>(row: &'a [u32], symbols: &'a [u32], sizes: &'a [u8], n: usize) -> Walked
-    requires { ⌜ ((d : Shape) × ((s : Shape) × Walkable (now row) (now symbols) (now sizes) n d s)) ⌝ }
-    ensures { λ r. ⌜ ((d s : Shape) → Walkable (now (row .entry)) (now (symbols .entry)) (now (sizes .entry)) n d s → WalkedIs (laid d n s) r) ⌝ }
-{
-    let mut pins = [0u8; 16];
-    let mut nodes = [0u8; 16];
-    let mut count: usize = 0;
-    let mut at = n;
-    let size = row[PatternRow::SIZE] as usize;
-    let mut k: usize = 0;
-    while k < size {
-        let symbol = row[PatternRow::SYMBOLS + k];
-        if symbol < 2 {
-            if symbols[at] != symbol {
-                return Walked {
-                    matched: false,
-                    count,
-                    pins,
-                    nodes,
-                };
-            }
-            at += 1;
-        } else {
-            pins[count] = (symbol - 2) as u8;
-            nodes[count] = at as u8;
-            count += 1;
-            at += sizes[at] as usize;
-        }
-        k += 1;
-    }
-    Walked {
-        matched: true,
-        count,
-        pins,
-        nodes,
-    }
 }
 
 // The first load at which a match of a cell is not legal.
@@ -177,7 +130,7 @@ pub fn find_matches<'a>(
     while p < total {
         let first = PatternRow::WORDS * p;
         let row = &rows[first..first + PatternRow::WORDS];
-        let walked = walk(row, symbols, sizes, n);
+        let walked = overlay::walk(row, symbols, sizes, n);
         let at = Row::WORDS * count;
         count += write_match(&mut table[at..at + Row::WORDS], walked, row, p);
         p += 1;

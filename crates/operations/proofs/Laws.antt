@@ -3,7 +3,7 @@ use mathlib.Core.Path.{_≡_, refl, sym, ap, ap₂, subst, _∙_}
 use mathlib.Core.Bool.{false}
 use mathlib.Core.List.{List, [], _∷_, _++_, map, zipWith}
 use mathlib.Core.Option.{Option, none, some}
-use Prim.Native.Nat.{ℕ, _+_, _-_, _*_, _≤_, _<_}
+use Prim.Native.Nat.{ℕ, _-_, _*_, _≤_, _<_}
 use native.Mathlib.Omega.{arith}
 use lib.ListN.{length, getD, take, drop, replicate, length-replicate, length-take, length-map, length-reverse}
 use lib.Seq.{take-append-seam, drop-append-seam}
@@ -15,22 +15,19 @@ use Rattle.fields.specs.declared.Fault.the-variants.{Truncated, Tail, Range, Dr
 use Rattle.fields.specs.declared.Scan.{Scan}
 use Rattle.fields.specs.declared.Scan.the-variants.{At, Refused}
 use Rattle.fields.specs.Reading.{start, place}
-use Rattle.fields.specs.Promises.{Live}
 use Rattle.fields.specs.Answer.{Answer, refused, success, onSuccess, places, Bounded}
 use Rattle.fields.proofs.Lists.{zeros-at}
 use Rattle.sheets.specs.declared.library.LibraryRecord.{LibraryRecord}
 use Rattle.sheets.specs.declared.tree.TreeRecord.{TreeRecord}
 use Rattle.sheets.specs.declared.library.LibraryRead.{LibraryRead}
 use Rattle.sheets.specs.declared.tree.TreeRead.{TreeRead}
-use Rattle.sheets.specs.Model.{Library, Tree, patterns}
-use Rattle.sheets.specs.Layout.{rowWords, tableWords, patternRows, patternTable, libraryLaid, treeLaid}
+use Rattle.sheets.specs.Model.{Library, Tree}
+use Rattle.sheets.specs.Layout.{rowWords}
 use Rattle.sheets.specs.LibrarySheet.{library as libraryOf}
 use Rattle.sheets.specs.TreeSheet.{tree as treeOf}
 use Rattle.sheets.specs.Public.{LibraryIs, TreeIs}
 use Rattle.sheets.specs.Report.{libraryNumber, treeNumber}
 use Rattle.sheets.specs.Sound.{SoundTree}
-use Rattle.sheets.proofs.Tables.{length-table}
-use Rattle.sheets.proofs.Sound.{library-limits, tree-limits}
 use Rattle.covers.specs.Cover.{Cover}
 use Rattle.covers.specs.Tradeoff.{nodes, overfull, overfullNode, tradeoffs}
 use Rattle.covers.specs.Choice.{choice}
@@ -43,6 +40,8 @@ use Rattle.covers.proofs.Ascending.{ascending-range}
 use Rattle.covers.proofs.Overfull.{LastOf, at, nodes-ascend, overfull-named}
 use Rattle.covers.proofs.SheetLengths.{cover-sheet-fits, list-sheet-fits}
 use Rattle.covers.proofs.Demands.{observed-is}
+use Rattle.overlay.specs.Held.{SheetsHeld}
+use Rattle.overlay.proofs.Sheets.{decoded-of}
 use Rattle.matching.specs.Found.{matchTable}
 use Rattle.filling.specs.Promises.{FillStart}
 use Rattle.results.specs.Public.{placedOf, coverOf, pointsOf, Written}
@@ -56,7 +55,7 @@ use Rattle.operations.specs.declared.Task.the-variants as Task
 use Rattle.operations.specs.declared.Reply.{Reply}
 use Rattle.operations.specs.declared.Reply.the-variants as Reply
 use Rattle.operations.specs.Public.{ofReply, Operated}
-use Rattle.operations.specs.Inside.{taskAnswer, Replied, LibraryHeld, SheetsHeld}
+use Rattle.operations.specs.Inside.{taskAnswer, Replied}
 
 -- ---- what the core is given
 
@@ -66,17 +65,10 @@ zeros-first n rest work e = ap (take n) e ∙ subst (λ (k : ℕ). take k (repli
 
 pub start-of : {l : Library} {t : Tree} {library : LibraryRecord} {tree : TreeRecord} → SheetsHeld l t library tree → (work work′ : List ℕ) → work′ ≡ replicate (workWords capacity) 0 ++ drop (workWords capacity) work →
     FillStart l t (take (rowWords * library .total) (library .rows)) (library .bins) tree capacity (replicate matchTable 0) (take (workWords capacity) work′)
-unfolding libraryLaid treeLaid patternTable
 start-of {l} {t} {library} {tree} g work work′ e =
     let zeros = zeros-first (workWords capacity) (drop (workWords capacity) work) work′ e in
     record {
-      decoded = record {
-        library = g .read .sound;
-        tree = g .tree-sound;
-        rows-are = ap (λ (r : LibraryRecord). take (rowWords * r .total) (r .rows)) (g .read .library-is);
-        symbols-are = ap (λ (r : TreeRecord). r .symbols) (g .tree-is);
-        sizes-are = ap (λ (r : TreeRecord). r .sizes) (g .tree-is);
-      };
+      decoded = decoded-of g;
       bins-are = ap (λ (r : LibraryRecord). r .bins) (g .read .library-is);
       tree-is = g .tree-is;
       room = length-replicate {A = ℕ} matchTable 0;
@@ -85,15 +77,6 @@ start-of {l} {t} {library} {tree} g work work′ e =
       some-most = omega arith;
       bounded = omega arith;
     }
-
--- There are no more rows than the table has room for.
-pub rows-long : {l : Library} {t : Tree} {library : LibraryRecord} {tree : TreeRecord} → SheetsHeld l t library tree → length (library .rows) ≡ tableWords
-unfolding libraryLaid
-rows-long {l} g = ap (λ (r : LibraryRecord). length (r .rows)) (g .read .library-is) ∙ length-table rowWords (replicate tableWords 0) 0 (patternRows (l .bins) (patterns l)) ∙ length-replicate {A = ℕ} tableWords 0
-
-pub total-few : {l : Library} {t : Tree} {library : LibraryRecord} {tree : TreeRecord} → SheetsHeld l t library tree → library .total ≤ 128
-unfolding libraryLaid
-total-few g = omega (arith, ap (λ (r : LibraryRecord). r .total) (g .read .library-is), g .read .sound .few-patterns)
 
 -- Cleared a second time, after the words in front were lent: those beyond are as they were.
 pub cleared-again : (n : ℕ) (work before part after : List ℕ) → before ≡ replicate n 0 ++ drop n work → length part ≡ length (midOf 0 (n - 0) before) → n ≤ length before → after ≡ replicate n 0 ++ drop n (putMid 0 (n - 0) before part) → after ≡ cleared n work
@@ -205,9 +188,6 @@ untouched output work number place n k spared near =
 -- ---- a tree, sound or not
 
 module _ (ts : List ℕ) (read : TreeRead) (h : TreeIs ts read) where
-  pub tree-laid : {l : Library} {library : LibraryRecord} → LibraryHeld l library → (c : Cursor) → read .scan ≡ At c → SheetsHeld l (treeOf ts start .0) library (read .tree)
-  tree-laid g c e = record { read = g; tree-sound = tree-limits ts (subst Live (sym e ∙ h .scan-is) tt); tree-is = h .laid (subst Live (sym e) tt) }
-
   pub tree-answered : (task : Task) (l : Library) {output output′ work work′ : List ℕ} {r : Reply} (c : Cursor) → read .scan ≡ At c → Replied (taskAnswer task capacity l (treeOf ts start .0)) output output′ r → work′ ≡ cleared (workWords capacity) work → Operated (withTree (taskAnswer task capacity l) (treeOf ts start)) output output′ work work′ r
   unfolding withTree
   tree-answered task l {output} {output′} {work} {work′} {r} c e p w =
@@ -221,10 +201,6 @@ module _ (ts : List ℕ) (read : TreeRead) (h : TreeIs ts read) where
       (untouched output work (treeNumber f) p n k (tree-spared f) (omega (arith, h .near, ap place e)))
 
 -- ---- a library, sound or not
-
-module _ (ls : List ℕ) (read : LibraryRead) (h : LibraryIs ls read) where
-  pub library-laid : (c : Cursor) → read .scan ≡ At c → LibraryHeld (libraryOf ls start .0) (read .library)
-  library-laid c e = record { sound = library-limits ls (subst Live (sym e ∙ h .scan-is) tt); library-is = h .laid (subst Live (sym e) tt) }
 
 -- What is lent is enough, or it is not.
 module _ {A : Type 0} (least o w : ℕ) (r : Answer A) where

@@ -3,11 +3,7 @@ use mathlib.Core.Path.{_≡_}
 use mathlib.Core.List.{List}
 use Prim.Native.Nat.{ℕ}
 use Rattle.fields.specs.Answer.{Answer, Bounded}
-use Rattle.sheets.specs.declared.library.LibraryRecord.{LibraryRecord}
-use Rattle.sheets.specs.declared.tree.TreeRecord.{TreeRecord}
 use Rattle.sheets.specs.Model.{Library, Tree}
-use Rattle.sheets.specs.Layout.{libraryLaid, treeLaid}
-use Rattle.sheets.specs.Sound.{SoundLibrary, SoundTree}
 use Rattle.covers.specs.Answer.{mapAnswer, listAnswer}
 use Rattle.covers.specs.Outcome.{mapBytes, listBytes, told, outputAfter}
 use Rattle.operations.specs.declared.Task.{Task}
@@ -30,13 +26,3 @@ pub record Replied (o : Answer (List ℕ)) (entry exit : List ℕ) (r : Reply) :
   pub reply-is : ofReply r ≡ told o
   pub output-is : exit ≡ outputAfter o entry
   pub bounded : Bounded (ofReply r)
-
--- A sound library and a sound tree in the records that the readers hand over.
-pub record LibraryHeld (l : Library) (library : LibraryRecord) : Type 0 where
-  pub sound : SoundLibrary l
-  pub library-is : library ≡ libraryLaid l
-
-pub record SheetsHeld (l : Library) (t : Tree) (library : LibraryRecord) (tree : TreeRecord) : Type 0 where
-  pub read : LibraryHeld l library
-  pub tree-sound : SoundTree t
-  pub tree-is : tree ≡ treeLaid t

@@ -17,10 +17,11 @@ ghost use Rattle.covers.specs.Capacity.{capacity, workWords};
 ghost use Rattle.covers.specs.Answer.{mapAnswer, listAnswer};
 ghost use Rattle.covers.specs.Outcome.{mapBytes, listBytes, observed, cleared, withTree, operation, mapOutcome, listOutcome};
 ghost use Rattle.covers.specs.Demands.{MapDemands, ListDemands, WhereSound};
+ghost use Rattle.overlay.specs.Held.{LibraryHeld, SheetsHeld};
 ghost use Rattle.matching.specs.Found.{matchTable};
 ghost use Rattle.filling.specs.Promises.{FillStart};
 ghost use Rattle.operations.specs.Public.{ofReply, Operated};
-ghost use Rattle.operations.specs.Inside.{leastOutput, taskAnswer, Replied, SheetsHeld, LibraryHeld};
+ghost use Rattle.operations.specs.Inside.{leastOutput, taskAnswer, Replied};
 
 // A refusal's number and place, or a sheet of so many bytes in the output.
 pub enum Reply {

@@ -9,7 +9,7 @@ use Rattle.mapper.proofs.list_root.Statement.{statement}
 use Rattle.mapper.proofs.list_root.Tie as tie
 use Rattle.mapper.proofs.list_root.Reads as reads
 use Rattle.mapper.proofs.list_root.Lts as lts
-use Rattle.curves.proofs.leaf_arrival.Reads as leaf-arrival-reads
+use Rattle.overlay.proofs.leaf_arrival.Reads as leaf-arrival-reads
 use Rattle.mapper.proofs.count_points.Reads as count-points-reads
 
 array-read-symbol : tie.Need-array-read-symbol

@@ -11,12 +11,13 @@ use Rattle.covers.specs.Match.{Match, fittingFrom, fitting}
 use Rattle.sheets.specs.Layout.{tableFrom, rowWords}
 use Rattle.matching.specs.Found.{matchWords, matchTable, matchRow}
 use Rattle.matching.specs.Promises.{Tried, Ready}
-use Rattle.matching.proofs.Patterns.{patternAt, matchesBefore, rows-long, few-patterns, walkable, tried, find-turn, one-at-most}
+use Rattle.overlay.proofs.Patterns.{patternAt, rows-long, few-patterns, walkable}
+use Rattle.matching.proofs.Patterns.{matchesBefore, tried, find-turn, one-at-most}
 use Rattle.matching.proofs.find_matches.Statement.{statement}
 use Rattle.matching.proofs.find_matches.Tie as tie
 use Rattle.matching.proofs.find_matches.Reads as reads
 use Rattle.matching.proofs.find_matches.Lts as lts
-use Rattle.matching.proofs.walk.Reads as walk-reads
+use Rattle.overlay.proofs.walk.Reads as walk-reads
 use Rattle.matching.proofs.write_match.Reads as write-match-reads
 
 abbrev Inv-loop : tie.InvT-loop
@@ -32,7 +33,7 @@ abbrev μ-loop : tie.MeasureT-loop
 
 -- How many patterns the loop tries.
 rows-all : {l : Library} {t : Tree} {rows ss zs : List ℕ} {n room : ℕ} {s : Shape} → Ready l t rows ss zs n room s → length rows / rowWords ≡ length (patterns l)
-rows-all h = omega (arith, rows-long h)
+rows-all h = omega (arith, rows-long (h .decoded))
 
 -- How far the loop may read and write.
 record Bounds (rows table : List ℕ) (count p : ℕ) : Type 0 where
@@ -48,8 +49,8 @@ bounds c =
     record {
       inside = omega (arith, c .loop-test .taken);
       table-is = i .inv .2 ∙ ready .room-is;
-      p-small = omega (arith, rows-all ready, few-patterns ready, c .loop-test .taken);
-      count-small = omega (arith, rows-all ready, few-patterns ready, c .loop-test .taken, i .inv .1);
+      p-small = omega (arith, rows-all ready, few-patterns (ready .decoded), c .loop-test .taken);
+      count-small = omega (arith, rows-all ready, few-patterns (ready .decoded), c .loop-test .taken, i .inv .1);
     }
 
 -- The loop is at a pattern of the library.
@@ -69,7 +70,7 @@ tried-here c l t s h =
     let q = c .before .before in
     let p = q .before .loop .p in
     let m = rowWords * p + rowWords - rowWords * p in
-    tried h p (at-pattern q l t s h) m (omega arith) (c .walk .result) (c .walk .ensures (patternAt l p .drawing) s (walkable h p (at-pattern q l t s h) m (omega arith)))
+    tried h p (at-pattern q l t s h) m (omega arith) (c .walk .result) (c .walk .ensures (patternAt l p .drawing) s (walkable (h .decoded) p (at-pattern q l t s h) m (omega arith) (h .here)))
 
 loop-holds : tie.Need-loop-holds Inv-loop μ-loop
 unfolding fittingFrom tableFrom
@@ -99,7 +100,7 @@ walk-requires c κs =
     let w = q .before .before .before .before .before .before .pre in
     let p = q .before .loop .p in
     let h = w .1 .1 .1 in
-    (patternAt (w .0) p .drawing, (w .1 .1 .0, walkable h p (at-pattern q (w .0) (w .1 .0) (w .1 .1 .0) h) (rowWords * p + rowWords - rowWords * p) (omega arith)))
+    (patternAt (w .0) p .drawing, (w .1 .1 .0, walkable (h .decoded) p (at-pattern q (w .0) (w .1 .0) (w .1 .1 .0) h) (rowWords * p + rowWords - rowWords * p) (omega arith) (h .here)))
 
 mul-at : tie.Need-mul-at Inv-loop μ-loop
 mul-at c = let b = bounds (c .before .before) in omega arith

@@ -7,7 +7,8 @@ use Rattle.fields.specs.Reading.{start}
 use Rattle.covers.specs.Capacity.{capacity}
 use Rattle.covers.specs.Outcome.{withLibrary}
 use Rattle.operations.specs.Inside.{leastOutput, taskAnswer}
-use Rattle.operations.proofs.Laws.{library-laid, short-output, short-work, lent-short, library-answered, library-not-sound}
+use Rattle.overlay.proofs.Sheets.{library-laid}
+use Rattle.operations.proofs.Laws.{short-output, short-work, lent-short, library-answered, library-not-sound}
 use Rattle.operations.proofs.operate.Statement.{statement}
 use Rattle.operations.proofs.operate.Tie as tie
 

@@ -3,7 +3,8 @@ use Rattle.sheets.specs.TreeSheet.{tree as treeOf}
 use Rattle.fields.specs.Reading.{start}
 use Rattle.covers.specs.Capacity.{capacity}
 use Rattle.operations.specs.Inside.{taskAnswer}
-use Rattle.operations.proofs.Laws.{tree-laid, tree-answered, tree-not-sound}
+use Rattle.overlay.proofs.Sheets.{tree-laid}
+use Rattle.operations.proofs.Laws.{tree-answered, tree-not-sound}
 use Rattle.operations.proofs.with_library.Statement.{statement}
 use Rattle.operations.proofs.with_library.Tie as tie
 

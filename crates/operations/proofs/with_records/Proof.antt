@@ -5,7 +5,8 @@ use native.Mathlib.Omega.{arith}
 use lib.Seq.{length-take-le}
 use Rattle.sheets.specs.Layout.{rowWords}
 use Rattle.covers.specs.Capacity.{capacity, workWords}
-use Rattle.operations.proofs.Laws.{total-few, rows-long, start-of, cleared-again}
+use Rattle.overlay.proofs.Sheets.{total-few, rows-long}
+use Rattle.operations.proofs.Laws.{start-of, cleared-again}
 use Rattle.operations.proofs.with_records.Statement.{statement}
 use Rattle.operations.proofs.with_records.Tie as tie
 

@@ -16,9 +16,9 @@ use Rattle.sheets.proofs.Laws.{padded-more}
 use Rattle.sheets.specs.Model.{Shape, leaf, inv, nand, size, leaves}
 use Rattle.covers.specs.Match.{Input, joined, laid}
 use Rattle.covers.proofs.Matching.{size-pos}
-use Rattle.matching.specs.declared.Walked.{Walked}
-use Rattle.matching.specs.Standing.{Stands}
-use Rattle.matching.specs.Promises.{WalkedIs, Walkable}
+use Rattle.overlay.specs.declared.Walked.{Walked}
+use Rattle.overlay.specs.Standing.{Stands}
+use Rattle.overlay.specs.Held.{WalkedIs, Walkable}
 use Rattle.fields.proofs.Lists.{at-mem}
 
 joined-assoc : (a b c : Option (List Input)) → joined a (joined b c) ≡ joined (joined a b) c

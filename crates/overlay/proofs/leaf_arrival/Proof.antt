@@ -1,7 +1,7 @@
 use borrow.Author.Needs.{needs}
 use Rattle.covers.specs.Cover.{leafArrival}
-use Rattle.curves.proofs.leaf_arrival.Statement.{statement}
-use Rattle.curves.proofs.leaf_arrival.Tie as tie
+use Rattle.overlay.proofs.leaf_arrival.Statement.{statement}
+use Rattle.overlay.proofs.leaf_arrival.Tie as tie
 
 returns : tie.Need-returns
 unfolding leafArrival

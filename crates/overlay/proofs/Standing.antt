@@ -13,8 +13,8 @@ use Rattle.sheets.specs.Model.{Shape, leaf, inv, nand, size, Library, Tree}
 use Rattle.sheets.specs.Layout.{padded}
 use Rattle.covers.specs.Tradeoff.{Node, nodes}
 use Rattle.covers.proofs.Nodes.{node-ends}
-use Rattle.matching.specs.Standing.{Stands, Subject}
-use Rattle.matching.specs.Promises.{Decoded}
+use Rattle.overlay.specs.Standing.{Stands, Subject}
+use Rattle.overlay.specs.Held.{Decoded}
 use Rattle.fields.proofs.Lists.{in-sets}
 
 -- A list stands in another from place i on.

@@ -4,12 +4,12 @@ use Prim.Native.Nat.{_≤_, _-_}
 use mathlib.Core.Path.{refl}
 use mathlib.Core.Logic.{⊎-elim}
 use Rattle.sheets.specs.Model.{Shape}
-use Rattle.matching.specs.Promises.{Walkable}
-use Rattle.matching.proofs.Walking.{Going, Within, within, going-start, next-turn, skip-turn, differs-turn, going-end}
-use Rattle.matching.proofs.walk.Statement.{statement}
-use Rattle.matching.proofs.walk.Tie as tie
-use Rattle.matching.proofs.walk.Reads as reads
-use Rattle.matching.proofs.walk.Lts as lts
+use Rattle.overlay.specs.Held.{Walkable}
+use Rattle.overlay.proofs.Walking.{Going, Within, within, going-start, next-turn, skip-turn, differs-turn, going-end}
+use Rattle.overlay.proofs.walk.Statement.{statement}
+use Rattle.overlay.proofs.walk.Tie as tie
+use Rattle.overlay.proofs.walk.Reads as reads
+use Rattle.overlay.proofs.walk.Lts as lts
 
 abbrev Inv-loop : tie.InvT-loop
 Inv-loop row symbols sizes n pins₀ nodes₀ count₀ at₀ size k₀ pins nodes count at k =

@@ -1,0 +1,5 @@
+-- The laws of `overlay`, in reading order, for the proofs of this crate and of those above it.
+pub mod Walking
+pub mod Standing
+pub mod Patterns
+pub mod Sheets

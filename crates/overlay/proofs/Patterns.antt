@@ -1,0 +1,127 @@
+-- What a walk notes of a drawing, and the patterns of a decoded library.
+use Prim.Native.Nat.{ℕ, suc, _+_, _*_, _≤_, _<_}
+use mathlib.Core.Path.{_≡_, refl, sym, ap, subst, _∙_}
+use mathlib.Core.Logic.{⊎-elim}
+use mathlib.Core.Bool.{false}
+use mathlib.Core.List.{List, [], _∷_, _++_, map, List·Memᴰ, List·Memᴰ·head, List·Memᴰ·append-cases, List·Memᴰ·eq-of-singleton, Memᴰ·append-left, Memᴰ·append-right}
+use mathlib.Core.Option.{Option}
+use native.Mathlib.Nat.{add-zero}
+use native.Mathlib.Omega.{arith}
+use lib.ListN.{length, getD, take, drop, length-append, length-map}
+use Rattle.fields.proofs.Lists.{at-mem, at-map}
+use Rattle.sheets.specs.Model.{Shape, leaf, inv, nand, size, leaves, Library, Pattern, Tree, patterns}
+use Rattle.sheets.specs.Layout.{padded, pinsMost, pinWords, figuresAt, rowWords}
+use Rattle.sheets.specs.Sound.{IsGate}
+use Rattle.sheets.proofs.Laws.{in-padded}
+use Rattle.sheets.proofs.Patterns.{SoundPattern, sound-pattern, Told, row-told, table-long, pin-laid}
+use Rattle.covers.specs.Match.{Input, joined, laid, matched, pinAt, pinLoad}
+use Rattle.covers.specs.Tradeoff.{nodes}
+use Rattle.covers.proofs.Matching.{Whenever, never, holds}
+use Rattle.overlay.specs.Held.{PatternHeld, Walkable, Decoded}
+use Rattle.overlay.proofs.Standing.{subject-everywhere}
+
+-- ---- the inputs of one match
+
+-- There are no more inputs than the drawing has nodes, and each pin stands at a leaf of the drawing.
+pub record FromDrawing (d : Shape) (is : List Input) : Type 0 where
+  pub few : length is ≤ size d
+  pub pins : (i : Input) → List·Memᴰ i is → List·Memᴰ (i .pin) (leaves d)
+
+pub laid-from : (d : Shape) (n : ℕ) (s : Shape) → Whenever (FromDrawing d) (laid d n s)
+unfolding laid size leaves
+laid-from (leaf x) n s = holds {is = record { pin = x; node = n; shape = s } ∷ []} (record {
+  few = omega arith;
+  pins = λ i m. List·Memᴰ·head (ap (λ (j : Input). j .pin) (List·Memᴰ·eq-of-singleton m));
+})
+laid-from (inv d) n (leaf x) = never
+laid-from (inv d) n (inv s) = go (laid-from d (suc n) s)
+  where
+    go : {o : Option (List Input)} → Whenever (FromDrawing d) o → Whenever (FromDrawing (inv d)) o
+    go never = never
+    go (holds {is} f) = holds {is = is} (record { few = omega (arith, f .few); pins = f .pins })
+laid-from (inv d) n (nand s t) = never
+laid-from (nand d e) n (leaf x) = never
+laid-from (nand d e) n (inv s) = never
+laid-from (nand d e) n (nand s t) = go (laid-from d (suc n) s) (laid-from e (suc n + size s) t)
+  where
+    go : {a b : Option (List Input)} → Whenever (FromDrawing d) a → Whenever (FromDrawing e) b → Whenever (FromDrawing (nand d e)) (joined a b)
+    go never g = unfold joined in never
+    go (holds f) never = unfold joined in never
+    go (holds {is} f) (holds {is = js} g) = unfold joined in holds {is = is ++ js} (record {
+      few = omega (arith, f .few, g .few, length-append is js);
+      pins = λ i m. ⊎-elim (λ k. Memᴰ·append-left (leaves e) (f .pins i k)) (λ k. Memᴰ·append-right (leaves d) (g .pins i k)) (List·Memᴰ·append-cases is m);
+    })
+
+pub matched-laid : (d : Shape) (n : ℕ) (s : Shape) → IsGate d → matched d n s ≡ laid d n s
+unfolding matched
+matched-laid (leaf x) n s h = absurd h
+matched-laid (inv d) n s h = refl
+matched-laid (nand d e) n s h = refl
+
+abbrev pub noInput : Input
+noInput = record { pin = 0; node = 0; shape = leaf 0 }
+
+-- What a walk noted of the input k.
+pub noted : (f : Input → ℕ) (ws : List ℕ) (is : List Input) (k : ℕ) → ws ≡ padded 16 0 (map f is) → length is ≤ 16 → k < length is → getD ws k 0 ≡ f (getD is k noInput)
+noted f ws is k e h g =
+    ap (λ (l : List ℕ). getD l k 0) e
+    ∙ in-padded 16 0 0 (map f is) k (omega (arith, length-map is f)) (omega (arith, length-map is f))
+    ∙ at-map f is k noInput 0 g
+
+-- ---- the patterns of a decoded library
+
+abbrev pub noPattern : Pattern
+noPattern = record { cellNumber = 0; cell = record { held = false; area = 0; highest = 0; pins = []; drawings = [] }; drawing = leaf 0 }
+
+abbrev pub patternAt : Library → ℕ → Pattern
+patternAt l j = getD (patterns l) j noPattern
+
+-- A row that tells of a pattern holds it.
+holds-pattern : (l : Library) (p : Pattern) {r : List ℕ} → length (p .cell .pins) ≤ pinsMost → Told (l .bins) p r → PatternHeld l r p
+unfolding pinAt pinLoad
+holds-pattern l p {r} few t = record {
+  drawing = record { long = t .long; size-is = t .nodes; symbols-are = t .symbol };
+  cell = record {
+    long = t .long;
+    held-is = t .held;
+    area-is = t .area;
+    highest-is = t .highest;
+    pins-are = λ k h.
+        let at = figuresAt + pinWords * k in
+        let pin = pinAt (p .cell) k in
+        let word : (q : ℕ) → q < pinWords → getD r (at + q) 0 ≡ getD (pin .bin ∷ (pinLoad l pin ∷ (pin .intrinsic ∷ (pin .drive ∷ [])))) q 0 =
+        λ q g. t .figure k q (omega arith) g ∙ ap (λ (ws : List ℕ). getD ws q 0) (pin-laid (l .bins) (p .cell) (record { bin = 0; intrinsic = 0; drive = 0 }) k few h) in
+        record {
+          bin-is = ap (λ (i : ℕ). getD r i 0) (sym (add-zero at)) ∙ word 0 (omega arith);
+          load-is = word 1 (omega arith);
+          intrinsic-is = word 2 (omega arith);
+          drive-is = word 3 (omega arith);
+        };
+  };
+}
+
+module _ {l : Library} {t : Tree} {rows ss zs : List ℕ} (decoded : Decoded l t rows ss zs) where
+  pub rows-long : length rows ≡ rowWords * length (patterns l)
+  rows-long = ap length (decoded .rows-are) ∙ table-long l (decoded .library)
+
+  pub few-patterns : length (patterns l) ≤ 128
+  few-patterns = decoded .library .few-patterns
+
+  module _ (j : ℕ) (h : j < length (patterns l)) where
+    pub at-hand : SoundPattern l (patternAt l j)
+    at-hand = sound-pattern l (decoded .library) (at-mem (patterns l) j noPattern h)
+
+    module _ (m : ℕ) (e : m ≡ rowWords) where
+      -- The row of pattern j.
+      pub row-held : PatternHeld l (take m (drop (rowWords * j) rows)) (patternAt l j)
+      row-held =
+          subst (λ (rs : List ℕ). PatternHeld l (take m (drop (rowWords * j) rs)) (patternAt l j)) (sym (decoded .rows-are))
+          (holds-pattern l (patternAt l j) (at-hand .cell .few-pins) (row-told l (decoded .library) noPattern j m h e))
+
+      pub walkable : {n : ℕ} {s : Shape} → List·Memᴰ (record { number = n; shape = s }) (nodes 0 (t .shape)) → Walkable (take m (drop (rowWords * j) rows)) ss zs n (patternAt l j .drawing) s
+      walkable {n} {s} here = record {
+        drawing = row-held .drawing;
+        small = at-hand .drawing .size;
+        pinned = λ x i. omega (arith, at-hand .drawing .leaves x i, at-hand .cell .few-pins);
+        subject = subject-everywhere decoded (record { number = n; shape = s }) here;
+      }

@@ -1,0 +1,3 @@
+-- What the contracts of `overlay` say, in reading order.
+pub mod Standing
+pub mod Held
