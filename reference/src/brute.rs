@@ -48,6 +48,16 @@ impl<'a> Listing<'a> {
         }
     }
 
+    /// Every legal cover of the root under the root load.
+    pub fn covers(&self) -> &[Cover] {
+        &self.covers[0][0]
+    }
+
+    /// Whether every node has a cover under every load considered there.
+    pub fn has_all_covers(&self) -> bool {
+        self.covers.iter().flatten().all(|covers| !covers.is_empty())
+    }
+
     /// The loads considered at a node.
     fn loads(&self, node: usize) -> Vec<u32> {
         if node == 0 {
@@ -95,8 +105,7 @@ impl<'a> Listing<'a> {
         for input in &found.inputs {
             let choices = &self.covers[input.node][found.bin(input)];
             let delay = found.delay(input, load);
-            covers =
-                covers.iter().flat_map(|cover| choices.iter().map(|choice| beside(cover, choice, delay))).collect();
+            covers = covers.iter().flat_map(|cover| choices.iter().map(|choice| cover.beside(choice, delay))).collect();
         }
         covers
     }
@@ -135,15 +144,6 @@ impl<'a> Listing<'a> {
         }
         matches.sort();
         Some(matches)
-    }
-}
-
-/// A cover so far with the cover of one more input, which is delayed.
-fn beside(cover: &Cover, input: &Cover, delay: u32) -> Cover {
-    Cover {
-        area: cover.area + input.area,
-        arrival: cover.arrival.max(input.arrival + delay),
-        matches: [cover.matches.as_slice(), &input.matches].concat(),
     }
 }
 

@@ -1,6 +1,8 @@
 //! Covers, and the two sheets that map and list hand over.
 
 use crate::bits::Writer;
+use crate::refusal::Refusal;
+use crate::sheet::Sheet;
 
 /// A pair of arrival and area.
 #[derive(Clone, Copy, PartialEq, Eq, PartialOrd, Ord, Hash, Debug)]
@@ -29,6 +31,30 @@ impl Cover {
         }
         writer.finish()
     }
+
+    /// This cover so far, with the cover of one more input, which is delayed.
+    pub fn beside(&self, input: &Cover, delay: u32) -> Cover {
+        Cover {
+            area: self.area + input.area,
+            arrival: self.arrival.max(input.arrival + delay),
+            matches: [self.matches.as_slice(), &input.matches].concat(),
+        }
+    }
+}
+
+/// What a cover sheet states, be it true or not; refusals are numbered as those of a library.
+pub fn decode(bytes: &[u8]) -> Result<Cover, Refusal> {
+    let mut sheet = Sheet::new(bytes, 0);
+    let area = sheet.any(22)?.value;
+    let arrival = sheet.any(24)?.value;
+    let mut matches = Vec::new();
+    for _ in 0..sheet.any(6)?.value {
+        let node = sheet.any(6)?.value;
+        let pattern = sheet.any(7)?.value;
+        matches.push((node as usize, pattern as usize));
+    }
+    sheet.end()?;
+    Ok(Cover { area, arrival, matches })
 }
 
 /// The sheet of a list of trade-offs, earliest first.

@@ -1,6 +1,7 @@
 //! A sheet as the list of its fields, so that each can be found and damaged.
 
 use crate::bits::Writer;
+use crate::cover::Cover;
 use crate::library::{Cell, Library, Pin};
 use crate::shape::{Shape, Step};
 use crate::tree::Tree;
@@ -23,6 +24,11 @@ pub enum Role {
     RootLoad,
     Required,
     Arrival,
+    CoverArea,
+    CoverArrival,
+    MatchCount,
+    MatchNode,
+    MatchPattern,
 }
 
 impl Role {
@@ -48,11 +54,13 @@ impl Role {
             Role::Hold => 1,
             Role::PinBin | Role::Code => 2,
             Role::BinCount | Role::PinCount | Role::PatternCount | Role::PinNumber => 3,
-            Role::CellCount => 7,
+            Role::MatchCount | Role::MatchNode => 6,
+            Role::CellCount | Role::MatchPattern => 7,
             Role::BinLoad | Role::HighestLoad | Role::Drive | Role::RootLoad => 8,
             Role::Area | Role::Intrinsic => 16,
             Role::Arrival => 20,
-            Role::Required => 24,
+            Role::CoverArea => 22,
+            Role::Required | Role::CoverArrival => 24,
         }
     }
 }
@@ -84,6 +92,18 @@ impl Form {
         form.push(Role::RootLoad, tree.root_load);
         form.push(Role::Required, tree.required);
         form.push_shape(&tree.shape, Role::Arrival);
+        form
+    }
+
+    pub fn of_cover(cover: &Cover) -> Form {
+        let mut form = Form::default();
+        form.push(Role::CoverArea, cover.area);
+        form.push(Role::CoverArrival, cover.arrival);
+        form.push(Role::MatchCount, cover.matches.len() as u32);
+        for &(node, pattern) in &cover.matches {
+            form.push(Role::MatchNode, node as u32);
+            form.push(Role::MatchPattern, pattern as u32);
+        }
         form
     }
 

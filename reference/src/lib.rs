@@ -9,6 +9,7 @@ pub mod deadline;
 pub mod form;
 pub mod generate;
 pub mod hex;
+pub mod judging;
 pub mod library;
 pub mod matching;
 pub mod merging;

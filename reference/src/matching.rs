@@ -38,11 +38,16 @@ impl Match<'_> {
 /// Every match at a node, ascending by pattern.
 pub fn matches_at<'a>(library: &'a Library, tree: &Shape, node: usize) -> Vec<Match<'a>> {
     let stand = |(pattern, (cell, shape)): (usize, (&'a Cell, &'a Shape))| {
-        let mut inputs = Vec::new();
-        let fits = !cell.held && stands(shape, 0, tree, node, &mut inputs);
-        fits.then_some(Match { pattern, cell, inputs })
+        let inputs = if cell.held { None } else { inputs_at(shape, tree, node) };
+        inputs.map(|inputs| Match { pattern, cell, inputs })
     };
     library.patterns().enumerate().filter_map(stand).collect()
+}
+
+/// The inputs of a pattern that stands at a node, in drawn order; `None` if it does not stand there.
+pub fn inputs_at(pattern: &Shape, tree: &Shape, node: usize) -> Option<Vec<Input>> {
+    let mut inputs = Vec::new();
+    stands(pattern, 0, tree, node, &mut inputs).then_some(inputs)
 }
 
 /// Whether the pattern from one of its nodes on has the tree's shape from `node` on.

@@ -8,6 +8,17 @@ extern "C" {
     fn treecover_judge_tree(tree: *const u8, tree_len: usize) -> u64;
 }
 
+extern "C" {
+    fn treecover_judge_cover(
+        library: *const u8,
+        library_len: usize,
+        tree: *const u8,
+        tree_len: usize,
+        cover: *const u8,
+        cover_len: usize,
+    ) -> u64;
+}
+
 /// The product's verdict, in the form of `Verdict::coded`.
 pub fn judge(kind: Kind, sheet: &[u8]) -> u64 {
     // Both functions only read, and only within the slice.
@@ -16,6 +27,14 @@ pub fn judge(kind: Kind, sheet: &[u8]) -> u64 {
             Kind::Library => treecover_judge_library(sheet.as_ptr(), sheet.len()),
             Kind::Tree => treecover_judge_tree(sheet.as_ptr(), sheet.len()),
         }
+    }
+}
+
+/// The product's verdict on a cover, in the same form.
+pub fn judge_cover(library: &[u8], tree: &[u8], cover: &[u8]) -> u64 {
+    // It only reads, and only within the slices.
+    unsafe {
+        treecover_judge_cover(library.as_ptr(), library.len(), tree.as_ptr(), tree.len(), cover.as_ptr(), cover.len())
     }
 }
 

@@ -18,6 +18,12 @@ pub const OVERFULL: u32 = 7;
 pub const NO_COVER: u32 = 8;
 /// Added to a sheet's number when the sheet is a tree.
 pub const IN_TREE: u32 = 10;
+/// The cover sheet ends before or inside a field, or has something after the last one.
+pub const COVER_SHEET: u32 = 22;
+/// A match stands wrongly, or matches are lacking.
+pub const COVER_MATCH: u32 = 23;
+/// Area or arrival is not the cover's.
+pub const COVER_FIGURES: u32 = 24;
 
 #[derive(Clone, Copy, PartialEq, Eq, Debug)]
 pub struct Refusal {

@@ -1,6 +1,8 @@
 //! What a judge says of a sheet.
 
+use crate::cover::Pair;
 use crate::generate::damage::Kind;
+use crate::judging::Judged;
 use crate::refusal::Refusal;
 use crate::{library, tree};
 
@@ -8,7 +10,14 @@ use crate::{library, tree};
 pub enum Verdict {
     Library { cells: usize, patterns: usize },
     Tree { nodes: usize },
+    Cover(Pair),
     Refused(Refusal),
+}
+
+impl From<Judged> for Verdict {
+    fn from(judged: Judged) -> Verdict {
+        judged.map_or_else(|fault| Verdict::Refused(fault.refusal()), Verdict::Cover)
+    }
 }
 
 impl Verdict {
@@ -25,6 +34,7 @@ impl Verdict {
         match self {
             Verdict::Library { cells, patterns } => format!("library {cells} {patterns}"),
             Verdict::Tree { nodes } => format!("tree {nodes}"),
+            Verdict::Cover(pair) => format!("accepted {} {}", pair.area, pair.arrival),
             Verdict::Refused(refusal) => format!("refused {} {}", refusal.number, refusal.place),
         }
     }
@@ -34,6 +44,7 @@ impl Verdict {
         match self {
             Verdict::Library { cells, patterns } => (cells * 256 + patterns) as u64,
             Verdict::Tree { nodes } => *nodes as u64,
+            Verdict::Cover(pair) => 1 << 63 | (pair.area as u64) << 24 | pair.arrival as u64,
             Verdict::Refused(refusal) => refusal.coded(),
         }
     }

@@ -127,7 +127,8 @@ pub fn edge_values(role: Role) -> Vec<u32> {
     values
 }
 
-fn damage_bytes(rng: &mut Rng, bytes: &mut Vec<u8>) {
+/// Cuts the bytes, adds to them, or changes a bit.
+pub fn damage_bytes(rng: &mut Rng, bytes: &mut Vec<u8>) {
     match rng.below(7) {
         0 | 1 => bytes.truncate(rng.below(bytes.len() + 1)),
         2 => bytes.push(0),

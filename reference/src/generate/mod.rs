@@ -1,6 +1,7 @@
 //! Sheets for tests: sound ones, damaged ones, and ones at the limits.
 
 pub mod chosen;
+pub mod covers;
 pub mod damage;
 pub mod heavy;
 pub mod limits;

@@ -1,6 +1,7 @@
 //! Writes the stored cases and their expected results into a directory
 //! (the first argument; `cases` if there is none).
 
+mod cover;
 mod judge;
 mod map;
 mod single;
@@ -19,5 +20,6 @@ fn main() -> io::Result<()> {
     judge::add_all(&mut stored);
     map::add_all(&mut stored);
     text::add_all(&mut stored);
+    cover::add_all(&mut stored);
     stored.write(&directory)
 }

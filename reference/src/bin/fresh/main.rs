@@ -2,9 +2,11 @@
 //!
 //! `fresh judge [COUNT] [SEED]`: the two judges.
 //! `fresh map [COUNT] [SEED]`: map and list.
+//! `fresh cover [COUNT] [SEED]`: the judge of covers.
 //!
 //! The exit status is 1 if anything disagrees.
 
+mod cover;
 mod judge;
 mod map;
 mod tally;
@@ -20,8 +22,9 @@ fn main() -> ExitCode {
     let tally = match arguments.first().map(String::as_str) {
         Some("judge") => judge::run(number(1, 100_000), number(2, 1)),
         Some("map") => map::run(number(1, 200_000), number(2, 1)),
+        Some("cover") => cover::run(number(1, 200_000), number(2, 1)),
         _ => {
-            eprintln!("usage: fresh judge|map [COUNT] [SEED]");
+            eprintln!("usage: fresh judge|map|cover [COUNT] [SEED]");
             return ExitCode::from(2);
         }
     };

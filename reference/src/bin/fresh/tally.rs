@@ -48,6 +48,7 @@ pub fn key(success: &str, coded: u64) -> String {
 pub fn words(coded: u64) -> String {
     match coded >> 32 {
         0 => format!("success {coded}"),
+        high if high >> 31 == 1 => format!("accepted {} {}", coded << 1 >> 25, coded & 0xff_ffff),
         number => format!("refused {number} {}", coded as u32),
     }
 }

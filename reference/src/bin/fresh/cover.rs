@@ -1,0 +1,41 @@
+//! Fresh covers for their judge.
+
+use crate::tally::{words, Tally};
+use reference::generate::covers::damage::any_case;
+use reference::generate::covers::Case;
+use reference::hex::hex;
+use reference::judging;
+use reference::product;
+use reference::rng::Rng;
+use reference::verdict::Verdict;
+
+pub fn run(count: u64, seed: u64) -> Tally {
+    let mut rng = Rng::new(seed);
+    let mut tally = Tally::default();
+    for _ in 0..count {
+        compare(&mut tally, &any_case(&mut rng));
+    }
+    tally
+}
+
+fn compare(tally: &mut Tally, case: &Case) {
+    let judged = case.judged();
+    let expected = Verdict::from(judged).coded();
+    let actual = product::judge_cover(&case.library, &case.tree, &case.cover);
+    if actual == expected {
+        tally.agree(judging::name(&judged));
+    } else {
+        tally.disagree(|| story(case, expected, actual));
+    }
+}
+
+fn story(case: &Case, expected: u64, actual: u64) -> String {
+    let lines = [
+        format!("library: {}", hex(&case.library)),
+        format!("tree: {}", hex(&case.tree)),
+        format!("cover: {}", hex(&case.cover)),
+        format!("reference: {}", words(expected)),
+        format!("product: {}", words(actual)),
+    ];
+    lines.map(|line| format!("  {line}")).join("\n")
+}

@@ -1,0 +1,192 @@
+//! One thing wrong with a cover, with its sheet, or with what it is judged by. Whether
+//! the cover is then still accepted is for the judge to say.
+
+use super::draw::any_cover;
+use super::{Case, Draft};
+use crate::generate::damage::{damage_bytes, damaged, Kind};
+use crate::generate::problem::{any_style, problem};
+use crate::library::Cell;
+use crate::matching::inputs_at;
+use crate::rng::Rng;
+
+#[derive(Clone, Copy, PartialEq, Eq, Debug)]
+pub enum Damage {
+    Area,
+    Arrival,
+    LeftOut,
+    Added,
+    AddedLast,
+    Moved,
+    Exchanged,
+    Pattern,
+    PatternThatStands,
+    Node,
+    Count,
+    Held,
+    Load,
+    Bytes,
+    Library,
+    Tree,
+}
+
+/// Other figures and matches, on a sheet that is whole.
+pub const IN_COVER: [Damage; 10] = [
+    Damage::Area,
+    Damage::Arrival,
+    Damage::LeftOut,
+    Damage::Added,
+    Damage::AddedLast,
+    Damage::Moved,
+    Damage::Exchanged,
+    Damage::Pattern,
+    Damage::PatternThatStands,
+    Damage::Node,
+];
+
+/// All others: the match count alone, a cell of the cover, and the bytes of the sheets.
+pub const ELSEWHERE: [Damage; 6] =
+    [Damage::Count, Damage::Held, Damage::Load, Damage::Bytes, Damage::Library, Damage::Tree];
+
+/// A fresh case of any kind, with up to two damages.
+pub fn any_case(rng: &mut Rng) -> Case {
+    let style = any_style(rng);
+    let problem = problem(rng, style);
+    let cover = any_cover(rng, &problem);
+    let count = rng.pick(&[0, 1, 1, 1, 1, 2]);
+    let damages: Vec<Damage> = (0..count).map(|_| any_damage(rng)).collect();
+    spoiled(rng, Draft::new(problem, cover), &damages)
+}
+
+fn any_damage(rng: &mut Rng) -> Damage {
+    if rng.once_in(3) {
+        rng.pick(&ELSEWHERE)
+    } else {
+        rng.pick(&IN_COVER)
+    }
+}
+
+/// The sheets of a draft, damaged in each of these ways.
+pub fn spoiled(rng: &mut Rng, mut draft: Draft, damages: &[Damage]) -> Case {
+    damages.iter().for_each(|&damage| draft.damage(rng, damage));
+    let mut case = draft.case();
+    damages.iter().for_each(|&damage| case.damage(rng, damage));
+    case
+}
+
+impl Draft {
+    /// The damages that can be done before the sheets are written.
+    fn damage(&mut self, rng: &mut Rng, damage: Damage) {
+        match damage {
+            Damage::Area => self.cover.area = beside(rng, self.cover.area, 22),
+            Damage::Arrival => self.cover.arrival = beside(rng, self.cover.arrival, 24),
+            Damage::Count => self.count = beside(rng, self.count as u32, 6) as usize,
+            Damage::Held | Damage::Load => self.damage_cell(rng, damage),
+            Damage::Bytes | Damage::Library | Damage::Tree => {}
+            _ => self.damage_matches(rng, damage),
+        }
+    }
+
+    fn damage_matches(&mut self, rng: &mut Rng, damage: Damage) {
+        let any = self.any_match(rng);
+        let matches = &mut self.cover.matches;
+        match damage {
+            Damage::Added => matches.insert(rng.below(matches.len() + 1), any),
+            Damage::AddedLast => matches.push(any),
+            _ if matches.is_empty() => {}
+            _ => self.damage_one(rng, damage),
+        }
+        self.count = self.cover.matches.len();
+    }
+
+    /// Damages of a list that has matches.
+    fn damage_one(&mut self, rng: &mut Rng, damage: Damage) {
+        let position = rng.below(self.cover.matches.len());
+        let (node, _) = self.cover.matches[position];
+        let standing = self.standing(node);
+        let another = self.any_match(rng);
+        let matches = &mut self.cover.matches;
+        match damage {
+            Damage::LeftOut if rng.once_in(2) => drop(matches.pop()),
+            Damage::LeftOut => drop(matches.remove(position)),
+            Damage::Moved => {
+                let moved = matches.remove(position);
+                matches.insert(rng.below(matches.len() + 1), moved);
+            }
+            Damage::Exchanged => matches.swap(position.saturating_sub(1), position),
+            Damage::PatternThatStands if !standing.is_empty() => matches[position].1 = rng.pick(&standing),
+            Damage::Node => matches[position].0 = another.0,
+            _ => matches[position].1 = another.1,
+        }
+    }
+
+    /// One of the list, or any node and pattern: some that there are, the first that there is not, or the last number.
+    fn any_match(&self, rng: &mut Rng) -> (usize, usize) {
+        let listed = &self.cover.matches;
+        if !listed.is_empty() && rng.once_in(3) {
+            return rng.pick(listed);
+        }
+        let node = any_number(rng, self.problem.tree.shape.nodes.len(), 63);
+        let pattern = any_number(rng, self.problem.library.pattern_count(), 127);
+        (node, pattern)
+    }
+
+    /// The patterns that match at a node, those of held cells too.
+    fn standing(&self, node: usize) -> Vec<usize> {
+        let shape = &self.problem.tree.shape;
+        let patterns = self.problem.library.patterns().enumerate();
+        let stands = |pattern| node < shape.nodes.len() && inputs_at(pattern, shape, node).is_some();
+        patterns.filter(|(_, (_, pattern))| stands(pattern)).map(|(number, _)| number).collect()
+    }
+
+    /// Holds a cell of the cover, or sets its highest load to one of the loads, or just below.
+    fn damage_cell(&mut self, rng: &mut Rng, damage: Damage) {
+        let loads = [self.problem.library.bins.as_slice(), &[self.problem.tree.root_load]].concat();
+        let load = rng.pick(&loads).saturating_sub(rng.below(2) as u32);
+        let Some(cell) = self.any_cell(rng) else { return };
+        match damage {
+            Damage::Held => cell.held = true,
+            _ => cell.highest_load = load,
+        }
+    }
+
+    /// The cell of some match.
+    fn any_cell(&mut self, rng: &mut Rng) -> Option<&mut Cell> {
+        if self.cover.matches.is_empty() {
+            return None;
+        }
+        let (_, pattern) = rng.pick(&self.cover.matches);
+        let cells = self.problem.library.cells.iter().enumerate();
+        let number = cells.flat_map(|(number, cell)| vec![number; cell.patterns.len()]).nth(pattern)?;
+        Some(&mut self.problem.library.cells[number])
+    }
+}
+
+impl Case {
+    /// The damages that are done to the bytes.
+    fn damage(&mut self, rng: &mut Rng, damage: Damage) {
+        match damage {
+            Damage::Bytes => damage_bytes(rng, &mut self.cover),
+            Damage::Library if rng.once_in(2) => damage_bytes(rng, &mut self.library),
+            Damage::Library => self.library = damaged(rng, Kind::Library, 1),
+            Damage::Tree if rng.once_in(2) => damage_bytes(rng, &mut self.tree),
+            Damage::Tree => self.tree = damaged(rng, Kind::Tree, 1),
+            _ => {}
+        }
+    }
+}
+
+/// A value one off, or now and then any other of the width.
+fn beside(rng: &mut Rng, value: u32, width: u32) -> u32 {
+    let top = (1 << width) - 1;
+    let any = rng.value(0, top);
+    rng.pick(&[value.saturating_sub(1), value.saturating_sub(1), value + 1, value + 1, any]).min(top)
+}
+
+/// Mostly a number below a count; sometimes the count itself, or the highest that a field holds.
+fn any_number(rng: &mut Rng, count: usize, highest: usize) -> usize {
+    match rng.below(6) {
+        0 => count.min(highest),
+        1 => highest,
+        _ => rng.below(count),
+    }
+}

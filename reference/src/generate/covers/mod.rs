@@ -1,0 +1,63 @@
+//! Covers for the judge of covers: legal ones, drawn at random, and ones with something wrong.
+
+pub mod damage;
+pub mod draw;
+
+use super::problem::Problem;
+use crate::cover::Cover;
+use crate::form::{Form, Role};
+use crate::judging::{self, Judged};
+
+/// Three sheets.
+#[derive(Clone, PartialEq, Eq, Hash, Debug)]
+pub struct Case {
+    pub library: Vec<u8>,
+    pub tree: Vec<u8>,
+    pub cover: Vec<u8>,
+}
+
+impl Case {
+    pub fn new(problem: &Problem, cover: &Form) -> Case {
+        Case { library: problem.library_sheet(), tree: problem.tree_sheet(), cover: cover.bytes() }
+    }
+
+    pub fn judged(&self) -> Judged {
+        judging::judge(&self.library, &self.tree, &self.cover)
+    }
+
+    /// The bytes of the sheets.
+    pub fn length(&self) -> usize {
+        self.library.len() + self.tree.len() + self.cover.len()
+    }
+}
+
+/// A problem, a cover of it, and the match count that its sheet is to state: to be edited.
+#[derive(Clone, Debug)]
+pub struct Draft {
+    pub problem: Problem,
+    pub cover: Cover,
+    pub count: usize,
+}
+
+impl Draft {
+    pub fn new(problem: Problem, cover: Cover) -> Draft {
+        let count = cover.matches.len();
+        Draft { problem, cover, count }
+    }
+
+    /// The cover sheet's fields; of the count only what its field holds.
+    pub fn form(&self) -> Form {
+        let form = Form::of_cover(&self.cover);
+        let field = form.find(Role::MatchCount)[0];
+        form.with(field, self.count as u32 % 64)
+    }
+
+    pub fn case(&self) -> Case {
+        Case::new(&self.problem, &self.form())
+    }
+
+    /// The same with other matches and their number.
+    pub fn with_matches(&self, matches: Vec<(usize, usize)>) -> Draft {
+        Draft::new(self.problem.clone(), Cover { matches, ..self.cover.clone() })
+    }
+}

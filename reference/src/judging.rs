@@ -1,0 +1,176 @@
+//! The judge of covers: the list is walked with the set of nodes still to be covered, and the
+//! figures are then worked out from the leaves up, over the matches taken.
+
+use crate::cover::{self, Cover, Pair};
+use crate::library::{self, Library};
+use crate::matching::{inputs_at, Match};
+use crate::refusal::{Refusal, COVER_FIGURES, COVER_MATCH, COVER_SHEET, TAIL};
+use crate::shape::{Node, Shape};
+use crate::tree::{self, Tree};
+use std::collections::BTreeMap;
+
+/// What is wrong with a match.
+#[derive(Clone, Copy, PartialEq, Eq, Debug)]
+pub enum Wrong {
+    /// Its node is not the lowest still to be covered.
+    Node,
+    /// Its number is not that of a pattern.
+    Number,
+    /// Its pattern does not match there.
+    Shape,
+    /// Its cell is held.
+    Held,
+    /// It drives more than its cell's highest load.
+    Load,
+}
+
+/// Why a cover is not accepted.
+#[derive(Clone, Copy, PartialEq, Eq, Debug)]
+pub enum Fault {
+    /// The library or the tree is refused.
+    Before(Refusal),
+    /// The cover sheet ends before or inside a field, which begins at this bit.
+    Torn(usize),
+    /// Something stands after the last field, which ends before this bit.
+    Tail(usize),
+    /// The match at this position is wrong.
+    Match(usize, Wrong),
+    /// Something is left to cover after this many matches.
+    Unfinished(usize),
+    /// One of the figures is not the cover's, or neither is.
+    Figures { area: bool, arrival: bool },
+}
+
+/// The true figures of a cover, or why it is not accepted.
+pub type Judged = Result<Pair, Fault>;
+
+impl Fault {
+    /// A cover sheet's own refusal.
+    fn of_sheet(refusal: Refusal) -> Fault {
+        let place = refusal.place as usize;
+        if refusal.number == TAIL {
+            Fault::Tail(place)
+        } else {
+            Fault::Torn(place)
+        }
+    }
+
+    pub fn refusal(&self) -> Refusal {
+        match *self {
+            Fault::Before(refusal) => refusal,
+            Fault::Torn(place) | Fault::Tail(place) => Refusal::new(COVER_SHEET, place),
+            Fault::Match(place, _) | Fault::Unfinished(place) => Refusal::new(COVER_MATCH, place),
+            Fault::Figures { .. } => Refusal::new(COVER_FIGURES, 0),
+        }
+    }
+}
+
+/// How an answer is counted: refusals by their number, those of the cover more closely.
+pub fn name(judged: &Judged) -> String {
+    let Err(fault) = judged else { return "accepted".to_string() };
+    let closely = match *fault {
+        Fault::Before(_) => String::new(),
+        Fault::Torn(_) => " torn".to_string(),
+        Fault::Tail(_) => " tail".to_string(),
+        Fault::Match(0, wrong) => format!(" at 0: {wrong:?}").to_lowercase(),
+        Fault::Match(_, wrong) => format!(" later: {wrong:?}").to_lowercase(),
+        Fault::Unfinished(0) => " without matches".to_string(),
+        Fault::Unfinished(_) => " at the match count".to_string(),
+        Fault::Figures { area: false, .. } => " arrival".to_string(),
+        Fault::Figures { arrival: false, .. } => " area".to_string(),
+        Fault::Figures { .. } => " area and arrival".to_string(),
+    };
+    format!("refused {:>2}{closely}", fault.refusal().number)
+}
+
+/// Judges the cover that the last of three sheets holds.
+pub fn judge(library: &[u8], tree: &[u8], cover: &[u8]) -> Judged {
+    let library = library::decode(library).map_err(Fault::Before)?;
+    let tree = tree::decode(tree).map_err(Fault::Before)?;
+    let cover = cover::decode(cover).map_err(Fault::of_sheet)?;
+    check(&library, &tree, &cover)
+}
+
+/// Judges a cover of a sound tree by a sound library.
+pub fn check(library: &Library, tree: &Tree, cover: &Cover) -> Judged {
+    let mut walk = Walk::begin(library, tree);
+    for (position, &(node, pattern)) in cover.matches.iter().enumerate() {
+        walk.take(node, pattern).map_err(|wrong| Fault::Match(position, wrong))?;
+    }
+    if !walk.uncovered.is_empty() {
+        return Err(Fault::Unfinished(cover.matches.len()));
+    }
+    let figures = Pair { arrival: walk.arrival(0), area: walk.area() };
+    let (area, arrival) = (cover.area != figures.area, cover.arrival != figures.arrival);
+    if area || arrival {
+        return Err(Fault::Figures { area, arrival });
+    }
+    Ok(figures)
+}
+
+/// A list of matches walked up to some position.
+struct Walk<'a> {
+    library: &'a Library,
+    shape: &'a Shape,
+    /// The inverters and NANDs still to be covered, with the loads that they drive.
+    uncovered: BTreeMap<usize, u32>,
+    /// The matches by node, with the loads that they drive.
+    taken: BTreeMap<usize, (Match<'a>, u32)>,
+}
+
+impl<'a> Walk<'a> {
+    fn begin(library: &'a Library, tree: &'a Tree) -> Self {
+        let mut walk = Walk { library, shape: &tree.shape, uncovered: BTreeMap::new(), taken: BTreeMap::new() };
+        walk.uncover(0, tree.root_load);
+        walk
+    }
+
+    /// A node is to be covered if it is no leaf.
+    fn uncover(&mut self, node: usize, load: u32) {
+        if !self.shape.is_leaf(node) {
+            self.uncovered.insert(node, load);
+        }
+    }
+
+    /// The next match of the list.
+    fn take(&mut self, node: usize, pattern: usize) -> Result<(), Wrong> {
+        let load = match self.uncovered.first_key_value() {
+            Some((&lowest, &load)) if lowest == node => load,
+            _ => return Err(Wrong::Node),
+        };
+        let found = self.legal_match(node, pattern, load)?;
+        self.uncovered.remove(&node);
+        for input in &found.inputs {
+            self.uncover(input.node, self.library.bins[found.bin(input)]);
+        }
+        self.taken.insert(node, (found, load));
+        Ok(())
+    }
+
+    fn legal_match(&self, node: usize, pattern: usize, load: u32) -> Result<Match<'a>, Wrong> {
+        let (cell, shape) = self.library.patterns().nth(pattern).ok_or(Wrong::Number)?;
+        let inputs = inputs_at(shape, self.shape, node).ok_or(Wrong::Shape)?;
+        let found = Match { pattern, cell, inputs };
+        if cell.held {
+            Err(Wrong::Held)
+        } else if !found.is_legal(load) {
+            Err(Wrong::Load)
+        } else {
+            Ok(found)
+        }
+    }
+
+    fn area(&self) -> u32 {
+        self.taken.values().map(|(found, _)| found.cell.area).sum()
+    }
+
+    /// A leaf's stated arrival, or the latest over the pins of the match taken at a node.
+    fn arrival(&self, node: usize) -> u32 {
+        if let Node::Leaf(arrival) = self.shape.nodes[node] {
+            return arrival;
+        }
+        let (found, load) = &self.taken[&node];
+        let through = found.inputs.iter().map(|input| self.arrival(input.node) + found.delay(input, *load));
+        through.max().expect("a pattern has a leaf")
+    }
+}
