@@ -41,31 +41,8 @@ use Rattle.curves.specs.Words.{tableOf, WorkArea}
 use Rattle.curves.specs.Best.{rowOf, rowCount, RowSafe, Sources, Matches, Above, rowsBest}
 use Rattle.curves.specs.Promises.{bestBefore, nodePoints, PointsFit, Fit}
 use Rattle.curves.proofs.Laws.{part-word}
+use Rattle.overlay.proofs.Symbols.{symbols-small}
 use Rattle.filling.proofs.Rows.{Heads, Headed, Holds, rows-are-best}
-
--- ---- the symbols of a decoded tree
-
--- No word of a list is above a bound, written into or not.
-sets-most : (b : ℕ) (l : List ℕ) (i : ℕ) (xs : List ℕ) → ((k : ℕ) → getD l k 0 ≤ b) → ((x : ℕ) → List·Memᴰ x xs → x ≤ b) → (k : ℕ) → getD (sets l i xs) k 0 ≤ b
-sets-most b l i [] h g = h
-sets-most b l i (x ∷ xs) h g = sets-most b (set l i x) (suc i) xs (λ k. go k (ℕ-discrete k i) (lt-or-le i (length l))) (λ y m. g y (List·Memᴰ·tail m))
-  where
-    go : (k : ℕ) → Dec (k ≡ i) → (i < length l) ⊎ (length l ≤ i) → getD (set l i x) k 0 ≤ b
-    go k (no n) z = rw (getD-set-other l i k x 0 n) (h k)
-    go k (yes e) (inl z) = rw (e, getD-set-same l i x 0 z) (g x (List·Memᴰ·head refl))
-    go k (yes e) (inr z) = rw (set-out l i x z) (h k)
-
-symbol-most : (s : Shape) (b : ℕ) → ((x : ℕ) → List·Memᴰ x (leaves s) → x ≤ b) → (y : ℕ) → List·Memᴰ y (Shapes.symbols s) → y ≤ b + 2
-unfolding leaves Shapes.symbols
-symbol-most (leaf x) b h y m = let e : y ≡ 2 + x = List·Memᴰ·eq-of-singleton m in omega (arith, h x (List·Memᴰ·head refl))
-symbol-most (inv s) b h y m = ⊎-elim (λ e. omega arith) (λ j. symbol-most s b h y j) (List·Memᴰ·cases-cons m)
-symbol-most (nand s t) b h y m =
-    ⊎-elim (λ e. omega arith)
-    (λ j. ⊎-elim (λ k. symbol-most s b (λ x q. h x (Memᴰ·append-left (leaves t) q)) y k) (λ k. symbol-most t b (λ x q. h x (Memᴰ·append-right (leaves s) q)) y k) (List·Memᴰ·append-cases (Shapes.symbols s) j))
-    (List·Memᴰ·cases-cons m)
-
-symbols-small : (symbols : List ℕ) (s : Shape) → symbols ≡ padded 64 0 (Shapes.symbols s) → ((x : ℕ) → List·Memᴰ x (leaves s) → x ≤ 1000000) → (k : ℕ) → getD symbols k 0 ≤ symbolLimit
-symbols-small symbols s e h k = rw e (sets-most symbolLimit (replicate 64 0) 0 (Shapes.symbols s) (λ i. rw (zeros-at 64 i) (omega arith)) (symbol-most s 1000000 h) k)
 
 -- ---- a node
 

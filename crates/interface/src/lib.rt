@@ -1,5 +1,7 @@
 // The C interface: see include/treecover.h. A refusal is number × 2^32 + place.
+use judge::CoverJudged;
 use operations::Reply;
+use sheets::Limits;
 use sheets::library::LibraryJudged;
 use sheets::tree::TreeJudged;
 ghost use mathlib.Core.Path.{_≡_};
@@ -10,12 +12,18 @@ ghost use Rattle.sheets.specs.Report.{libraryWord, libraryReport, treeReport};
 ghost use Rattle.covers.specs.Outcome.{mapBytes, listBytes, told, observed, mapOutcome, listOutcome};
 ghost use Rattle.covers.specs.Demands.{MapDemands, ListDemands, WhereSound};
 ghost use Rattle.operations.specs.Public.{ofReply, Leaves};
+ghost use Rattle.judgement.specs.Judgement.{judgement, pointWord, ofPointWord, PointBounded};
+ghost use Rattle.judgement.specs.Demands.{JudgedWhereSound};
+ghost use Rattle.judge.specs.Public.{ofCoverJudged};
 
 // A word has the number above the places.
 struct Word {}
 
 impl Word {
     const PLACES: u64 = 4294967296;
+
+    // The highest bit, which is set where a cover is accepted.
+    const ACCEPTED: u64 = 9223372036854775808;
 }
 
 // A refusal in one word.
@@ -91,4 +99,27 @@ pub extern "C" fn treecover_list(
 {
     let reply = operations::list(library, tree, output, work);
     reply_word(reply)
+}
+
+// A judgement of a cover in one word.
+fn judged_word(judged: CoverJudged) -> u64
+    requires { ⌜ PointBounded (ofCoverJudged judged) ⌝ }
+    ensures { λ r. ⌜ r ≡ pointWord (ofCoverJudged judged) ⌝ }
+{
+    match judged {
+        CoverJudged::Accepted(area, arrival) => {
+            Word::ACCEPTED + area as u64 * Limits::TIMES + arrival as u64
+        }
+        CoverJudged::Refused(number, place) => refusal(number, place),
+    }
+}
+
+// Judges a cover sheet: 2^63 + area × 2^24 + arrival, or the refusal.
+#[no_mangle]
+pub extern "C" fn treecover_judge_cover(library: &[u8], tree: &[u8], cover: &[u8]) -> u64
+    ensures { λ r. ⌜ r ≡ pointWord (judgement (now (library .entry)) (now (tree .entry)) (now (cover .entry))) ⌝ }
+    ensures { λ r. ⌜ JudgedWhereSound (now (library .entry)) (now (tree .entry)) (now (cover .entry)) (ofPointWord r) ⌝ }
+{
+    let judged = judge::judge_cover(library, tree, cover);
+    judged_word(judged)
 }

@@ -6,7 +6,7 @@ use mathlib.Core.Option.{Option, none, some, Option·map}
 use lib.ListN.{getElem?}
 use lib.Dec.{eqb, ltb}
 use Rattle.fields.specs.Answer.{Answer, refused, success}
-use Rattle.sheets.specs.Model.{Shape, leaf, inv, nand, Cell, Library, Pattern, patterns, Tree}
+use Rattle.sheets.specs.Model.{Shape, leaf, inv, nand, Cell, Library, Pattern, patterns, patternsFrom, drawn, Tree}
 use Rattle.covers.specs.Lists.{any, select, firstSuch}
 use Rattle.covers.specs.Match.{Input, Match, matched, legal, pinLoad}
 use Rattle.covers.specs.Cover.{Point, Placed, beside, late, raised, leafPoint, feeds, inputDelay}
@@ -67,7 +67,7 @@ taken l w o (some m) =
 
 -- The walk after a listed match; none if it stands wrongly.
 unfoldable pub placedAt : Library → Walk → Placed → Option Uncovered → Option Walk
-unfolding taken matchAt patterns
+unfolding taken matchAt patterns patternsFrom drawn
 placedAt l w x none = none
 placedAt l w x (some o) = taken l w o (matchAt (x .pattern) o (getElem? (patterns l) (x .pattern)))
 

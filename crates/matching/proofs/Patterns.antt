@@ -17,7 +17,7 @@ use Rattle.covers.specs.Match.{Input, Match, laid, matched, putFirst, fittingFr
 use Rattle.covers.proofs.Matching.{whenever}
 use Rattle.overlay.specs.declared.Walked.{Walked}
 use Rattle.overlay.specs.Held.{WalkedIs}
-use Rattle.overlay.proofs.Patterns.{FromDrawing, laid-from, matched-laid, noPattern, patternAt, at-hand, row-held}
+use Rattle.overlay.proofs.Patterns.{missed, hit, FromDrawing, laid-from, matched-laid, noPattern, patternAt, at-hand, row-held}
 use Rattle.matching.specs.Found.{matchWords, matchTable, matchRow}
 use Rattle.sheets.specs.Sound.{SoundCell, SoundLibrary}
 use Rattle.matching.specs.Promises.{Writable, Tried, Ready}
@@ -29,37 +29,19 @@ use Rattle.matching.proofs.Written.{length-row}
 -- ---- one pattern that was walked
 
 module _ (l : Library) (walked : Walked) (row : List ℕ) (p : Pattern) (n : ℕ) (s : Shape) (t : Tried l walked row p n s) where
-  pub missed : walked .matched ≡ false → matched (p .drawing) n s ≡ none
-  missed e = matched-laid (p .drawing) n s (t .drawing .gate) ∙ go (laid (p .drawing) n s) (t .walked-is)
-    where
-      go : (o : Option (List Input)) → WalkedIs o walked → o ≡ none
-      go none w = refl
-      go (some is) w = absurd (false≢true (sym e ∙ w .matches))
+  pub nowhere : walked .matched ≡ false → matched (p .drawing) n s ≡ none
+  nowhere = missed n s walked (t .drawing) (t .walked-is)
 
   -- The match, numbered k.
-  pub record Hit (k : ℕ) : Type 0 where
+  pub record Numbered (k : ℕ) : Type 0 where
     pub inputs : List Input
     pub fits : matched (p .drawing) n s ≡ some inputs
     pub writable : Writable l walked row (record { number = k; pattern = p; inputs = inputs })
 
-  pub hit : (k : ℕ) → walked .matched ≡ true → Hit k
-  hit k e = go (laid (p .drawing) n s) refl (t .walked-is)
-    where
-      go : (o : Option (List Input)) → laid (p .drawing) n s ≡ o → WalkedIs o walked → Hit k
-      go none q w = absurd (false≢true (sym w ∙ e))
-      go (some is) q w =
-          let f : FromDrawing (p .drawing) is = whenever (laid-from (p .drawing) n s) q in
-          record {
-            inputs = is;
-            fits = matched-laid (p .drawing) n s (t .drawing .gate) ∙ q;
-            writable = record {
-              walks = w;
-              cell = t .cell;
-              sound = t .sound;
-              few = omega (arith, f .few, t .drawing .size);
-              pinned = λ i m. t .drawing .leaves (i .pin) (f .pins i m);
-            };
-          }
+  pub numbered : (k : ℕ) → walked .matched ≡ true → Numbered k
+  numbered k e =
+      let h = hit n s walked (t .drawing) (t .walked-is) e in
+      record { inputs = h .inputs; fits = h .fits; writable = record { walks = h .walks; cell = t .cell; sound = t .sound; few = h .few; pinned = h .pinned } }
 
 -- What is written for it.
 pub wrote-none : (l : Library) (k : ℕ) (p : Pattern) (o : Option (List Input)) (t : List ℕ) → o ≡ none →

@@ -3,3 +3,4 @@ pub mod Walking
 pub mod Standing
 pub mod Patterns
 pub mod Sheets
+pub mod Symbols

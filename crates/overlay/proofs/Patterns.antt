@@ -2,22 +2,23 @@
 use Prim.Native.Nat.{ℕ, suc, _+_, _*_, _≤_, _<_}
 use mathlib.Core.Path.{_≡_, refl, sym, ap, subst, _∙_}
 use mathlib.Core.Logic.{⊎-elim}
-use mathlib.Core.Bool.{false}
+use mathlib.Core.Bool.{true, false, false≢true}
 use mathlib.Core.List.{List, [], _∷_, _++_, map, List·Memᴰ, List·Memᴰ·head, List·Memᴰ·append-cases, List·Memᴰ·eq-of-singleton, Memᴰ·append-left, Memᴰ·append-right}
-use mathlib.Core.Option.{Option}
+use mathlib.Core.Option.{Option, none, some}
 use native.Mathlib.Nat.{add-zero}
 use native.Mathlib.Omega.{arith}
 use lib.ListN.{length, getD, take, drop, length-append, length-map}
 use Rattle.fields.proofs.Lists.{at-mem, at-map}
 use Rattle.sheets.specs.Model.{Shape, leaf, inv, nand, size, leaves, Library, Pattern, Tree, patterns}
 use Rattle.sheets.specs.Layout.{padded, pinsMost, pinWords, figuresAt, rowWords}
-use Rattle.sheets.specs.Sound.{IsGate}
+use Rattle.sheets.specs.Sound.{IsGate, SoundDrawing}
 use Rattle.sheets.proofs.Laws.{in-padded}
 use Rattle.sheets.proofs.Patterns.{SoundPattern, sound-pattern, Told, row-told, table-long, pin-laid}
 use Rattle.covers.specs.Match.{Input, joined, laid, matched, pinAt, pinLoad}
 use Rattle.covers.specs.Tradeoff.{nodes}
-use Rattle.covers.proofs.Matching.{Whenever, never, holds}
-use Rattle.overlay.specs.Held.{PatternHeld, Walkable, Decoded}
+use Rattle.covers.proofs.Matching.{Whenever, never, holds, whenever}
+use Rattle.overlay.specs.Held.{PatternHeld, Walkable, Walks, WalkedIs, Decoded}
+use Rattle.overlay.specs.declared.Walked.{Walked}
 use Rattle.overlay.proofs.Standing.{subject-everywhere}
 
 -- ---- the inputs of one match
@@ -57,6 +58,31 @@ unfolding matched
 matched-laid (leaf x) n s h = absurd h
 matched-laid (inv d) n s h = refl
 matched-laid (nand d e) n s h = refl
+
+-- What a walk over a sound drawing says of the match.
+module _ {pins : ℕ} {d : Shape} (n : ℕ) (s : Shape) (walked : Walked) (sound : SoundDrawing pins d) (walk-is : WalkedIs (laid d n s) walked) where
+  pub missed : walked .matched ≡ false → matched d n s ≡ none
+  missed e = matched-laid d n s (sound .gate) ∙ go (laid d n s) walk-is
+    where
+      go : (o : Option (List Input)) → WalkedIs o walked → o ≡ none
+      go none w = refl
+      go (some is) w = absurd (false≢true (sym e ∙ w .matches))
+
+  pub record Hit : Type 0 where
+    pub inputs : List Input
+    pub fits : matched d n s ≡ some inputs
+    pub walks : Walks inputs walked
+    pub few : length inputs ≤ 16
+    pub pinned : (i : Input) → List·Memᴰ i inputs → i .pin < pins
+
+  pub hit : walked .matched ≡ true → Hit
+  hit e = go (laid d n s) refl walk-is
+    where
+      go : (o : Option (List Input)) → laid d n s ≡ o → WalkedIs o walked → Hit
+      go none q w = absurd (false≢true (sym w ∙ e))
+      go (some is) q w =
+          let f : FromDrawing d is = whenever (laid-from d n s) q in
+          record { inputs = is; fits = matched-laid d n s (sound .gate) ∙ q; walks = w; few = omega (arith, f .few, sound .size); pinned = λ i m. sound .leaves (i .pin) (f .pins i m) }
 
 abbrev pub noInput : Input
 noInput = record { pin = 0; node = 0; shape = leaf 0 }

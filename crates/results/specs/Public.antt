@@ -1,9 +1,9 @@
 -- What is written and read: covers and points as the code keeps them, and a sheet at the front of an output.
-use Prim.Native.Nat.{ℕ, _+_, _*_, _^_, _<_}
+use Prim.Native.Nat.{ℕ, _+_, _*_, _^_, _≤_, _<_}
 use mathlib.Core.Path.{_≡_}
 use mathlib.Core.List.{List, _++_, map, reverse, zipWith}
 use lib.ListN.{length, take, drop}
-use Rattle.fields.specs.Reading.{start}
+use Rattle.fields.specs.Reading.{place, start}
 use Rattle.covers.specs.Cover.{Point, Placed, Cover}
 use Rattle.covers.specs.Curve.{pointOf}
 use Rattle.covers.specs.CoverSheet.{areaWidth, arrivalWidth, matchCountWidth, nodeWidth, patternWidth, pointCountWidth, coverRead}
@@ -41,3 +41,4 @@ pub record CoverIs (s : List ℕ) (r : CoverRead) : Type 0 where
   pub scan-is : r .scan ≡ coverRead s start .1
   pub cover-is : coverOf (r .cover) ≡ coverRead s start .0
   pub few : r .cover .count < 2 ^ matchCountWidth
+  pub near : place (r .scan) ≤ coverBits 63

@@ -1,7 +1,7 @@
 -- The row of a pattern, if it matched.
 use borrow.Author.Needs.{needs}
 use Rattle.covers.specs.Match.{matched}
-use Rattle.matching.proofs.Patterns.{hit, missed, wrote-none, wrote-one}
+use Rattle.matching.proofs.Patterns.{numbered, nowhere, wrote-none, wrote-one}
 use borrow.Author.Tests.{not-true, not-false}
 use mathlib.Core.Path.{refl}
 use Rattle.matching.proofs.write_match.Statement.{statement}
@@ -14,7 +14,7 @@ returns : tie.Need-returns
 returns c =
     let a = c .before .before .before .before .args in
     λ l p n s t.
-    wrote-none l (a .pattern) p (matched (p .drawing) n s) (a .table .now) (missed l (a .walked) (a .row .now) p n s t (not-true _ (c .if1 .taken)))
+    wrote-none l (a .pattern) p (matched (p .drawing) n s) (a .table .now) (nowhere l (a .walked) (a .row .now) p n s t (not-true _ (c .if1 .taken)))
 
 write-row-requires : tie.Need-write-row-requires
 write-row-requires c κs =
@@ -22,7 +22,7 @@ write-row-requires c κs =
     let a = start .args in
     let w = start .pre .2 in
     let p = w .1 .0 in
-    let h = hit (w .0) (a .walked) (a .row .now) p (w .1 .1 .0) (w .1 .1 .1 .0) (w .1 .1 .1 .1) (a .pattern) (not-false _ (c .before .if1 .left)) in
+    let h = numbered (w .0) (a .walked) (a .row .now) p (w .1 .1 .0) (w .1 .1 .1 .0) (w .1 .1 .1 .1) (a .pattern) (not-false _ (c .before .if1 .left)) in
     (start .pre .0, start .pre .1, (w .0, (record { number = a .pattern; pattern = p; inputs = h .inputs }, h .writable)))
 
 same-length : tie.Need-same-length
@@ -32,7 +32,7 @@ returns-2 : tie.Need-returns-2
 returns-2 c =
     let a = c .before .before .before .before .before .before .before .before .args in
     λ l p n s t.
-    let h = hit l (a .walked) (a .row .now) p n s t (a .pattern) (not-false _ (c .before .before .before .before .if1 .left)) in
+    let h = numbered l (a .walked) (a .row .now) p n s t (a .pattern) (not-false _ (c .before .before .before .before .if1 .left)) in
     wrote-one l (a .pattern) p (matched (p .drawing) n s) (h .inputs) (a .table .now) (c .before .before .write-row .last .0) (h .fits)
     (c .before .before .write-row .ensures l (record { number = a .pattern; pattern = p; inputs = h .inputs }) (h .writable) refl)
 

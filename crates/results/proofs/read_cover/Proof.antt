@@ -35,7 +35,7 @@ returns c =
     let matches = c .before .before .before .before .read-matches in
     let last = c .before .end in
     cover-read (a .s .now) (area .result) (arrival .result) (count .result) (matches .result) (first .result) (last .result) (first .ensures .0)
-    (area .ensures) (arrival .ensures) (count .ensures) (omega arith) (matches .ensures) (last .ensures)
+    (area .ensures) (arrival .ensures) (count .ensures) (omega arith) (omega (arith, first .ensures .1, area .ensures .near, arrival .ensures .near)) (matches .ensures) (last .ensures)
 
 pub read-cover-spec : {M : Type 1} → statement M
 read-cover-spec =

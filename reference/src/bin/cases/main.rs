@@ -20,6 +20,8 @@ fn main() -> io::Result<()> {
     judge::add_all(&mut stored);
     map::add_all(&mut stored);
     text::add_all(&mut stored);
-    cover::add_all(&mut stored);
-    stored.write(&directory)
+    stored.write(&directory, "stored")?;
+    let mut covers = Stored::default();
+    cover::add_all(&mut covers);
+    covers.write(&directory, "covers")
 }

@@ -23,11 +23,11 @@ impl Stored {
     }
 
     /// Writes both files and prints what is in them.
-    pub fn write(&self, directory: &Path) -> io::Result<()> {
-        std::fs::write(directory.join("stored.bin"), &self.records)?;
+    pub fn write(&self, directory: &Path, name: &str) -> io::Result<()> {
+        std::fs::write(directory.join(format!("{name}.bin")), &self.records)?;
         let lines: String = self.lines.iter().map(|line| format!("{line}\n")).collect();
-        std::fs::write(directory.join("stored.expected"), lines)?;
-        println!("{} cases, {} bytes", self.lines.len(), self.records.len());
+        std::fs::write(directory.join(format!("{name}.expected")), lines)?;
+        println!("{name}: {} cases, {} bytes", self.lines.len(), self.records.len());
         self.print_histogram();
         Ok(())
     }

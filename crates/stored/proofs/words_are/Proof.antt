@@ -1,16 +1,15 @@
 use native.Mathlib.Omega.{arith}
 use Prim.Native.Nat.{_-_}
-use lib.ListN.{length}
-use Rattle.cases.proofs.opens_with.Statement.{statement}
-use Rattle.cases.proofs.opens_with.Tie as tie
-use Rattle.cases.proofs.opens_with.Reads as reads
-use Rattle.cases.proofs.opens_with.Lts as lts
+use Rattle.stored.proofs.words_are.Statement.{statement}
+use Rattle.stored.proofs.words_are.Tie as tie
+use Rattle.stored.proofs.words_are.Reads as reads
+use Rattle.stored.proofs.words_are.Lts as lts
 
 abbrev Inv-loop : tie.InvT-loop
-Inv-loop text word k₀ k = Unit {0}
+Inv-loop s from to w k₀ k = Unit {0}
 
 abbrev μ-loop : tie.MeasureT-loop
-μ-loop text word k₀ k = length word - k
+μ-loop s from to w k₀ k = to - k
 
 loop-holds : tie.Need-loop-holds Inv-loop μ-loop
 loop-holds c = tt
@@ -18,11 +17,11 @@ loop-holds c = tt
 returns : tie.Need-returns Inv-loop μ-loop
 returns c = tt
 
+mul-if2 : tie.Need-mul-if2 Inv-loop μ-loop
+mul-if2 c = omega arith
+
 shared-slice-read-if2 : tie.Need-shared-slice-read-if2 Inv-loop μ-loop
 shared-slice-read-if2 c = omega arith
-
-shared-slice-read-if2-2 : tie.Need-shared-slice-read-if2-2 Inv-loop μ-loop
-shared-slice-read-if2-2 c = omega arith
 
 returns-2 : tie.Need-returns-2 Inv-loop μ-loop
 returns-2 c = tt
@@ -39,16 +38,16 @@ loop-again c = tt
 returns-3 : tie.Need-returns-3 Inv-loop μ-loop
 returns-3 c = tt
 
-pub opens-with-spec : {M : Type 1} → statement M
-opens-with-spec =
+pub words-are-spec : {M : Type 1} → statement M
+words-are-spec =
     tie.close
     (tie.spec
     Inv-loop
     μ-loop
     loop-holds
     returns
+    mul-if2
     shared-slice-read-if2
-    shared-slice-read-if2-2
     returns-2
     add-k
     loop-less

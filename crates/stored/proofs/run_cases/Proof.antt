@@ -2,8 +2,8 @@
 use native.Mathlib.Omega.{arith}
 use Prim.Native.Nat.{_-_}
 use lib.ListN.{length}
-use Rattle.cases.proofs.run_cases.Statement.{statement}
-use Rattle.cases.proofs.run_cases.Tie as tie
+use Rattle.stored.proofs.run_cases.Statement.{statement}
+use Rattle.stored.proofs.run_cases.Tie as tie
 
 abbrev Inv-loop : tie.InvT-loop
 Inv-loop s at₀ at = Unit {0}

@@ -1,10 +1,10 @@
 use native.Mathlib.Omega.{arith}
 use Prim.Native.Nat.{_-_}
 use lib.ListN.{length}
-use Rattle.cases.proofs.bytes_kept.Statement.{statement}
-use Rattle.cases.proofs.bytes_kept.Tie as tie
-use Rattle.cases.proofs.bytes_kept.Reads as reads
-use Rattle.cases.proofs.bytes_kept.Lts as lts
+use Rattle.stored.proofs.bytes_kept.Statement.{statement}
+use Rattle.stored.proofs.bytes_kept.Tie as tie
+use Rattle.stored.proofs.bytes_kept.Reads as reads
+use Rattle.stored.proofs.bytes_kept.Lts as lts
 
 abbrev Inv-loop : tie.InvT-loop
 Inv-loop s from k₀ k = Unit {0}

@@ -1,0 +1,4 @@
+// The stored cases of the judge of covers.
+fn main() {
+    stored::run();
+}

@@ -1,0 +1,90 @@
+-- A match's inputs, come to from the last to the first.
+use Prim.Native.Nat.{ℕ, _+_, _-_, _*_, _≤_, _<_}
+use mathlib.Core.Path.{_≡_, refl, sym, ap, ap₂, subst, _∙_}
+use mathlib.Core.List.{List, [], _∷_, List·Memᴰ}
+use native.Mathlib.Nat.{mul-le-mul}
+use native.Mathlib.Numerals.{add-one}
+use native.Mathlib.Omega.{arith}
+use lib.ListN.{length, getD, drop}
+use lib.Seq.{drop-cons, drop-length}
+use Rattle.fields.proofs.Lists.{at-mem}
+use Rattle.sheets.specs.Model.{Shape, Pin, Cell, Library}
+use Rattle.sheets.specs.Layout.{pinWords, figuresAt, rowWords}
+use Rattle.covers.specs.Match.{Input, Match, pinAt, pinLoad, delay}
+use Rattle.covers.specs.Cover.{feeds, inputDelay}
+use Rattle.covers.specs.Curve.{base}
+use Rattle.covers.proofs.Basics.{at-all}
+use Rattle.overlay.specs.declared.Walked.{Walked}
+use Rattle.overlay.specs.Held.{symbolLimit, PinHeld}
+use Rattle.overlay.proofs.Patterns.{noInput, noted}
+use Rattle.judgement.specs.Walk.{Walk, comeTo, comeToInputs}
+use Rattle.judge.specs.declared.WalkRecord.{WalkRecord}
+use Rattle.judge.specs.Inside.{slowest, Kept, Opens, Entering}
+
+module _ {l : Library} {row ss : List ℕ} {walked : Walked} {load delay₀ : ℕ} {r : WalkRecord} {m : Match} {w : Walk} (h : Entering l row ss walked load delay₀ r m w) where
+  abbrev cell : Cell
+  cell = m .pattern .cell
+
+  -- The walk that has come to the inputs from k on.
+  abbrev pub from : ℕ → Walk
+  from k = comeToInputs l cell load delay₀ (drop k (m .inputs)) w
+
+  pub from-none : from (walked .count) ≡ w
+  unfolding comeToInputs
+  from-none = ap (λ (is : List Input). comeToInputs l cell load delay₀ is w) (ap (λ (i : ℕ). drop i (m .inputs)) (h .walks .count-is) ∙ drop-length (m .inputs))
+
+  pub from-all : from 0 ≡ comeToInputs l cell load delay₀ (m .inputs) w
+  from-all = refl
+
+  -- What the loop reads of input k.
+  abbrev figures : ℕ → ℕ
+  figures k = figuresAt + pinWords * getD (walked .pins) k 0
+
+  abbrev node : ℕ → ℕ
+  node k = getD (walked .nodes) k 0
+
+  pub record InputRead (k : ℕ) : Type 0 where
+    pub long : length row ≡ rowWords
+    pub symbols-long : length ss ≡ 64
+    pub k-small : k < 16
+    pub pin-small : getD (walked .pins) k 0 < 6
+    pub node-small : node k < 64
+    pub load-small : getD row (figures k + 1) 0 ≤ 255
+    pub intrinsic-small : getD row (figures k + 2) 0 ≤ 65535
+    pub delay-small : getD row (figures k + 3) 0 * load ≤ 65025
+    pub symbol-small : getD ss (node k) 0 ≤ symbolLimit
+    pub room : length (from (k + 1) .left) < 64
+    -- One input more.
+    pub kept : {a b : WalkRecord} → Kept (from (k + 1)) a →
+        ((v : Walk) (s : Shape) → Kept v a → Opens (getD ss (node k) 0) s → Kept (comeTo (getD row (figures k + 1) 0) (getD row (figures k + 2) 0 + getD row (figures k + 3) 0 * load + delay₀) (node k) s v) b) → Kept (from k) b
+
+  pub input-read : (k : ℕ) → k < walked .count → InputRead k
+  unfolding comeToInputs inputDelay feeds delay pinLoad
+  input-read k g =
+      let is = m .inputs in
+      let here : k < length is = omega (arith, h .walks .count-is) in
+      let i = getD is k noInput in
+      let among : List·Memᴰ i is = at-mem is k noInput here in
+      let pin-is = noted (λ (j : Input). j .pin) (walked .pins) is k (h .walks .pins-are) (h .few) here in
+      let node-is = noted (λ (j : Input). j .node) (walked .nodes) is k (h .walks .nodes-are) (h .few) here in
+      let pin = pinAt cell (i .pin) in
+      let held : PinHeld l row (figures k) pin = subst (λ (p : ℕ). PinHeld l row (figuresAt + pinWords * p) pin) (sym pin-is) (h .cell .pins-are (i .pin) (h .pinned i among)) in
+      let limits : (pin .intrinsic ≤ 65535) × (pin .drive ≤ 255) = at-all (λ (q : Pin). (q .intrinsic ≤ 65535) × (q .drive ≤ 255)) (cell .pins) (i .pin) (record { bin = 0; intrinsic = 0; drive = 0 }) (omega arith, omega arith) (λ q j. (h .sound .pins q j .1, h .sound .pins q j .2)) in
+      record {
+        long = h .cell .long;
+        symbols-long = h .symbols-long;
+        k-small = omega (arith, h .few);
+        pin-small = omega (arith, pin-is, h .pinned i among, h .sound .few-pins);
+        node-small = omega (arith, node-is, h .opens i among .1);
+        load-small = omega (arith, held .load-is, at-all (λ (x : ℕ). x ≤ 255) (l .bins) (pin .bin) 0 (omega arith) (h .loads-small));
+        intrinsic-small = omega (arith, held .intrinsic-is, limits .0);
+        delay-small = subst (λ (d : ℕ). d * load ≤ 65025) (sym (held .drive-is)) (mul-le-mul (limits .1) (h .light));
+        symbol-small = h .symbols-small (node k);
+        room = h .room k here;
+        kept = λ {a} {b} was came.
+            let step : from k ≡ comeTo (pinLoad l (feeds cell i)) (inputDelay cell load i + delay₀) (i .node) (i .shape) (from (k + 1)) =
+            ap (λ (js : List Input). comeToInputs l cell load delay₀ js w) (drop-cons is k noInput here ∙ ap (λ (j : ℕ). i ∷ drop j is) (sym (add-one k))) in
+            let same : comeTo (getD row (figures k + 1) 0) (getD row (figures k + 2) 0 + getD row (figures k + 3) 0 * load + delay₀) (node k) (i .shape) (from (k + 1)) ≡ from k =
+            (λ j. comeTo (held .load-is j) (held .intrinsic-is j + held .drive-is j * load + delay₀) (node-is j) (i .shape) (from (k + 1))) ∙ sym step in
+            subst (λ (v : Walk). Kept v b) same (came (from (k + 1)) (i .shape) was (subst (λ (n : ℕ). Opens (getD ss n 0) (i .shape)) (sym node-is) (h .opens i among .0)));
+      }

@@ -1,0 +1,7 @@
+-- The laws of `judge`, in reading order.
+pub mod Kept
+pub mod Entering
+pub mod Taking
+pub mod Stepping
+pub mod Walking
+pub mod Judged

@@ -1,0 +1,37 @@
+use borrow.Author.Needs.{needs}
+use mathlib.Core.Path.{sym, ap, subst, _∙_}
+use Prim.Native.Nat.{ℕ, _+_}
+use native.Mathlib.Omega.{arith}
+use Rattle.judge.specs.Inside.{Kept}
+use Rattle.judge.proofs.Kept.{come-arrived, come-pushed}
+use Rattle.judge.proofs.come_to.Statement.{statement}
+use Rattle.judge.proofs.come_to.Tie as tie
+
+leaf-arrival-requires : tie.Need-leaf-arrival-requires
+leaf-arrival-requires c κs = search needs
+
+cast-arrive : tie.Need-cast-arrive
+cast-arrive c = search needs
+
+add-arrive : tie.Need-add-arrive
+add-arrive c = search needs
+
+arrive-requires : tie.Need-arrive-requires
+arrive-requires c κs = search needs
+
+push-requires : tie.Need-push-requires
+push-requires c κs = search needs
+
+returns : tie.Need-returns
+returns c = λ w s k o.
+    let a = c .before .before .before .args in
+    subst (Kept _) (sym (c .arrive .ensures))
+    (come-arrived k (a .symbol) (a .load) (a .delay) (a .node) _ s o (c .before .before .if1 .taken) (ap (λ (t : ℕ). t + a .delay) (c .before .leaf-arrival .ensures .0)))
+
+returns-2 : tie.Need-returns-2
+returns-2 c = λ w s k o.
+    let a = c .before .before .args in
+    subst (Kept _) (sym (c .push .ensures)) (come-pushed k (a .symbol) (a .load) (a .delay) (a .node) s o (omega (arith, c .before .if1 .left)) (c .before .before .pre .1))
+
+pub come-to-spec : {M : Type 1} → statement M
+come-to-spec = tie.close (tie.spec leaf-arrival-requires cast-arrive add-arrive arrive-requires returns push-requires returns-2)

@@ -1,0 +1,130 @@
+-- What the functions inside promise each other.
+use Prim.Native.Nat.{ℕ, _+_, _-_, _*_, _≤_, _<_, max}
+use mathlib.Core.Path.{_≡_}
+use mathlib.Core.Bool.{Bool, true, false}
+use mathlib.Core.List.{List, [], _∷_, List·Memᴰ}
+use mathlib.Core.Option.{Option, none, some}
+use lib.ListN.{length, getD, set, drop, replicate}
+use Rattle.shapes.specs.Shape.{invSymbol, nandSymbol, leafSymbol}
+use Rattle.sheets.specs.declared.tree.TreeRecord.{TreeRecord}
+use Rattle.sheets.specs.Model.{Shape, leaf, inv, nand, size, Library, Pattern, Tree}
+use Rattle.sheets.specs.Sound.{SoundCell, SoundDrawing, SoundTree}
+use Rattle.sheets.specs.Layout.{treeLaid}
+use Rattle.covers.specs.Match.{Input, Match, pinLoad}
+use Rattle.covers.specs.Curve.{base}
+use Rattle.covers.specs.Tradeoff.{Node, nodes}
+use Rattle.overlay.specs.declared.Walked.{Walked}
+use Rattle.overlay.specs.Standing.{Stands}
+use Rattle.overlay.specs.Held.{symbolLimit, CellHeld, Walkable, Walks, Decoded}
+use Rattle.judgement.specs.Walk.{Uncovered, Walk, comeToInputs, started}
+use Rattle.judgement.specs.Order.{Apart}
+use Rattle.judge.specs.declared.WalkRecord.{WalkRecord}
+use Rattle.judge.specs.declared.Stepped.{Stepped}
+
+-- ---- a walk as it is kept
+
+-- Nothing is come to yet.
+abbrev pub nothingYet : WalkRecord
+nothingYet = record { area = 0; arrival = 0; count = 0; nodes = replicate 64 0; loads = replicate 64 0; delays = replicate 64 0 }
+
+-- With an arrival more, with a node more to be covered, and with the last of them taken away for an area.
+abbrev pub arrived : WalkRecord → ℕ → WalkRecord
+arrived r t = record { area = r .area; arrival = max t (r .arrival); count = r .count; nodes = r .nodes; loads = r .loads; delays = r .delays }
+
+abbrev pub pushed : WalkRecord → (node load delay : ℕ) → WalkRecord
+pushed r node load delay = record { area = r .area; arrival = r .arrival; count = r .count + 1; nodes = set (r .nodes) (r .count) node; loads = set (r .loads) (r .count) load; delays = set (r .delays) (r .count) delay }
+
+abbrev pub popped : WalkRecord → ℕ → WalkRecord
+popped r area = record { area = r .area + area; arrival = r .arrival; count = r .count - 1; nodes = r .nodes; loads = r .loads; delays = r .delays }
+
+-- Three arrays hold what is to be covered, the first of it last.
+abbrev pub Stacked : (nodes loads delays : List ℕ) → List Uncovered → Type 0
+Stacked ns ls ds [] = Unit {0}
+Stacked ns ls ds (o ∷ os) = (getD ns (length os) 0 ≡ o .node) × (getD ls (length os) 0 ≡ o .load) × (getD ds (length os) 0 ≡ o .delay) × Stacked ns ls ds os
+
+-- A record keeps a walk.
+pub record Kept (w : Walk) (r : WalkRecord) : Type 0 where
+  pub area-is : r .area ≡ w .point .area
+  pub arrival-is : r .arrival ≡ w .point .arrival
+  pub count-is : r .count ≡ length (w .left)
+  pub stacked : Stacked (r .nodes) (r .loads) (r .delays) (w .left)
+  pub nodes-long : length (r .nodes) ≡ 64
+  pub loads-long : length (r .loads) ≡ 64
+  pub delays-long : length (r .delays) ≡ 64
+
+-- ---- coming to nodes
+
+-- The symbol of a shape's first node.
+abbrev pub Opens : ℕ → Shape → Type 0
+Opens symbol (leaf x) = symbol ≡ leafSymbol x
+Opens symbol (inv s) = symbol ≡ invSymbol
+Opens symbol (nand s t) = symbol ≡ nandSymbol
+
+-- What a pin adds at the most: an intrinsic delay of 16 bits, and a drive times a load of 8 bits each.
+abbrev pub slowest : ℕ
+slowest = 130560
+
+-- A match as the walk over its pattern found it, with its pattern's row, and the walk that comes to its inputs: there is room for each.
+pub record Entering (l : Library) (row ss : List ℕ) (walked : Walked) (load delay : ℕ) (r : WalkRecord) (m : Match) (w : Walk) : Type 0 where
+  pub kept : Kept w r
+  pub walks : Walks (m .inputs) walked
+  pub cell : CellHeld l row (m .pattern .cell)
+  pub sound : SoundCell (length (l .bins)) (m .pattern .cell)
+  pub few : length (m .inputs) ≤ 16
+  pub pinned : (i : Input) → List·Memᴰ i (m .inputs) → i .pin < length (m .pattern .cell .pins)
+  pub opens : (i : Input) → List·Memᴰ i (m .inputs) → Opens (getD ss (i .node) 0) (i .shape) × (i .node < 64)
+  pub symbols-long : length ss ≡ 64
+  pub symbols-small : (k : ℕ) → getD ss k 0 ≤ symbolLimit
+  pub loads-small : (x : ℕ) → List·Memᴰ x (l .bins) → x ≤ 255
+  pub light : load ≤ 255
+  pub near : delay + slowest < base
+  pub room : (k : ℕ) → k < length (m .inputs) → length (comeToInputs l (m .pattern .cell) load delay (drop (k + 1) (m .inputs)) w .left) < 64
+
+-- ---- one match
+
+-- What a step makes of a walk: nothing if the match stands wrongly.
+abbrev pub SteppedIs : Option Walk → Stepped → Type 0
+SteppedIs none r = r .right ≡ false
+SteppedIs (some w) r = (r .right ≡ true) × Kept w (r .walk)
+
+-- What is to be covered, after k matches: a node of the tree, under a load that a field has room for, no more than k pins' delays from the root.
+pub record Within (t : Tree) (k : ℕ) (o : Uncovered) : Type 0 where
+  pub node-in : List·Memᴰ (record { number = o .node; shape = o .shape }) (nodes 0 (t .shape))
+  pub light : o .load ≤ 255
+  pub near : o .delay ≤ slowest * k
+
+-- A walk over the tree t after k matches.
+pub record Walking (t : Tree) (k : ℕ) (w : Walk) : Type 0 where
+  pub low : ℕ
+  pub apart : Apart low (size (t .shape)) (w .left)
+  pub within : (o : Uncovered) → List·Memᴰ o (w .left) → Within t k o
+  pub area : w .point .area ≤ 65535 * k
+
+-- The row of a sound pattern, and a walk over the tree after k matches with something left to cover, the first of which stands in the arrays.
+pub record Taking (l : Library) (t : Tree) (row ss zs : List ℕ) (k : ℕ) (p : Pattern) (w : Walk) (r : WalkRecord) : Type 0 where
+  pub o : Uncovered
+  pub os : List Uncovered
+  pub first : w .left ≡ o ∷ os
+  pub walking : Walking t k w
+  pub kept : Kept w r
+  pub few : k ≤ 62
+  pub walkable : Walkable row ss zs (o .node) (p .drawing) (o .shape)
+  pub cell : CellHeld l row (p .cell)
+  pub sound : SoundCell (length (l .bins)) (p .cell)
+  pub drawing : SoundDrawing (length (p .cell .pins)) (p .drawing)
+  pub stands : (x : Node) → List·Memᴰ x (nodes 0 (t .shape)) → Stands ss zs (x .number) (x .shape)
+  pub tree : SoundTree t
+  pub symbols-small : (j : ℕ) → getD ss j 0 ≤ symbolLimit
+  pub loads-small : (x : ℕ) → List·Memᴰ x (l .bins) → x ≤ 255
+
+-- The library and the tree as decoded, and a walk over it after k matches, of which there are at most 62.
+pub record Stepping (l : Library) (t : Tree) (rows ss zs : List ℕ) (k : ℕ) (w : Walk) (r : WalkRecord) : Type 0 where
+  pub decoded : Decoded l t rows ss zs
+  pub walking : Walking t k w
+  pub kept : Kept w r
+  pub few : k ≤ 62
+
+-- The library and the tree as decoded, the tree in its record.
+pub record Judging (l : Library) (t : Tree) (rows : List ℕ) (tree : TreeRecord) : Type 0 where
+  pub decoded : Decoded l t rows (tree .symbols) (tree .sizes)
+  pub tree-is : tree ≡ treeLaid t

@@ -1,0 +1,38 @@
+-- How great the symbols of a decoded tree are.
+use Prim.Native.Nat.{ℕ, suc, _+_, _≤_, _<_}
+use mathlib.Core.Path.{_≡_, refl}
+use mathlib.Core.Logic.{_⊎_, inl, inr, ⊎-elim}
+use mathlib.Core.List.{List, [], _∷_, List·Memᴰ, List·Memᴰ·head, List·Memᴰ·tail, List·Memᴰ·cases-cons, List·Memᴰ·append-cases, List·Memᴰ·eq-of-singleton, Memᴰ·append-left, Memᴰ·append-right}
+use native.Mathlib.Decide.{ℕ-discrete}
+use native.Mathlib.Omega.{arith}
+use lib.ListN.{length, getD, set, replicate}
+use lib.Seq.{sets, getD-set-same, getD-set-other, set-out}
+use Rattle.fields.proofs.Lists.{zeros-at}
+use Rattle.shapes.specs.Shape.{symbols as symbolsOf}
+use Rattle.sheets.specs.Model.{Shape, leaf, inv, nand, leaves}
+use Rattle.sheets.specs.Layout.{padded}
+use Rattle.covers.proofs.Basics.{lt-or-le}
+use Rattle.overlay.specs.Held.{symbolLimit}
+
+-- No word of a list is above a bound, written into or not.
+sets-most : (b : ℕ) (l : List ℕ) (i : ℕ) (xs : List ℕ) → ((k : ℕ) → getD l k 0 ≤ b) → ((x : ℕ) → List·Memᴰ x xs → x ≤ b) → (k : ℕ) → getD (sets l i xs) k 0 ≤ b
+sets-most b l i [] h g = h
+sets-most b l i (x ∷ xs) h g = sets-most b (set l i x) (suc i) xs (λ k. go k (ℕ-discrete k i) (lt-or-le i (length l))) (λ y m. g y (List·Memᴰ·tail m))
+  where
+    go : (k : ℕ) → Dec (k ≡ i) → (i < length l) ⊎ (length l ≤ i) → getD (set l i x) k 0 ≤ b
+    go k (no n) z = rw (getD-set-other l i k x 0 n) (h k)
+    go k (yes e) (inl z) = rw (e, getD-set-same l i x 0 z) (g x (List·Memᴰ·head refl))
+    go k (yes e) (inr z) = rw (set-out l i x z) (h k)
+
+symbol-most : (s : Shape) (b : ℕ) → ((x : ℕ) → List·Memᴰ x (leaves s) → x ≤ b) → (y : ℕ) → List·Memᴰ y (symbolsOf s) → y ≤ b + 2
+unfolding leaves symbolsOf
+symbol-most (leaf x) b h y m = let e : y ≡ 2 + x = List·Memᴰ·eq-of-singleton m in omega (arith, h x (List·Memᴰ·head refl))
+symbol-most (inv s) b h y m = ⊎-elim (λ e. omega arith) (λ j. symbol-most s b h y j) (List·Memᴰ·cases-cons m)
+symbol-most (nand s t) b h y m =
+    ⊎-elim (λ e. omega arith)
+    (λ j. ⊎-elim (λ k. symbol-most s b (λ x q. h x (Memᴰ·append-left (leaves t) q)) y k) (λ k. symbol-most t b (λ x q. h x (Memᴰ·append-right (leaves s) q)) y k) (List·Memᴰ·append-cases (symbolsOf s) j))
+    (List·Memᴰ·cases-cons m)
+
+-- So no symbol of a decoded tree is above the limit.
+pub symbols-small : (symbols : List ℕ) (s : Shape) → symbols ≡ padded 64 0 (symbolsOf s) → ((x : ℕ) → List·Memᴰ x (leaves s) → x ≤ 1000000) → (k : ℕ) → getD symbols k 0 ≤ symbolLimit
+symbols-small symbols s e h k = rw e (sets-most symbolLimit (replicate 64 0) 0 (symbolsOf s) (λ i. rw (zeros-at 64 i) (omega arith)) (symbol-most s 1000000 h) k)
