@@ -22,8 +22,8 @@ instructions() { # WHO ROW: of one map, the difference of two runs
     done | paste -sd' ' | awk '{ print $2 - $1 }'
 }
 
-stack() { # ROW: the greatest stack of a map, in bytes
-    valgrind --tool=massif --stacks=yes --heap=no --massif-out-file="$scratch/ms" "$bench" repeat 2 product "$1" >/dev/null 2>&1
+stack() { # WHO ROW: the greatest stack of a map, or of a judgement of its cover, in bytes
+    valgrind --tool=massif --stacks=yes --heap=no --massif-out-file="$scratch/ms" "$bench" repeat 2 "$1" "$2" >/dev/null 2>&1
     awk -F= '/^mem_stacks_B/ && $2 > m { m = $2 } END { print m }' "$scratch/ms"
 }
 
@@ -33,7 +33,7 @@ cat <<TEXT
 Printed by \`docs/measure.sh GATE_LOG\`, where GATE_LOG is the output of \`.ci/run\`. The machine's speed changes from run to run, so ratios within a
 run say more than times. Processor: $(lscpu | awk -F': *' '/^Model name/ { print $2; exit }'), $(nproc) processors.
 
-## Map
+## Map and the judges
 
 The proved map through the C interface; the same algorithm in plain Rust (\`plain\`: \`reference/src/deadline\`); the separate implementation, which merges
 whole curves (\`merging\`)$([ "$features" = product ] || echo '; and the static library of the delivery before (`before`)'). All built for release, on the same bytes, taking turns in one run (medians of 31 rounds), each
@@ -52,9 +52,9 @@ $(for row in $rows; do printf '| %s |' "$row"; for w in $who; do printf ' %s |' 
 
 The greatest stack, by massif, in bytes, of which main and the benchmark have a small part. The bar that we set is 256 KB.
 
-| row | stack |
-|---|---|
-$(for row in $rows; do echo "| $row | $(stack "$row") |"; done)
+| row | map | judge of its cover |
+|---|---|---|
+$(for row in $rows; do echo "| $row | $(stack product "$row") | $(stack judge "$row") |"; done)
 
 ## Agreement on fresh cases
 
@@ -65,6 +65,8 @@ $ fresh map 200000 31
 $("$fresh" map 200000 31)
 $ fresh judge 200000 32
 $("$fresh" judge 200000 32)
+$ fresh cover 200000 33
+$("$fresh" cover 200000 33)
 \`\`\`
 
 ## The gate

@@ -11,9 +11,9 @@ extern "C" {
 /*
  * Each function reads the bytes that it is lent, keeps no pointer and never fails otherwise than by its answer.
  * What has length 0 may have any pointer. Output and work area must not overlap each other or the sheets, and the work area
- * is aligned as uint64_t. treecover_map and treecover_list take up to 256 KB of stack.
+ * is aligned as uint64_t. A call takes up to 256 KB of stack.
  *
- * A refusal is number * 2^32 + place; a success has 0 above bit 31. The numbers:
+ * A refusal is number * 2^32 + place; a success has 0 above bit 31, but an accepted cover has the highest bit set. The numbers:
  *    1  output or work area too short; place 0
  *    2  the library ends before or inside a field; place: the field's first bit, counted from 0
  *    3  a set bit in the library's last byte after the last field, or a byte after it; place: the bit after the last field
@@ -24,12 +24,18 @@ extern "C" {
  *   16  the tree's 65th node; place: its code
  *    7  more than 31 trade-offs at a node under a load considered there; place: the highest-numbered such node
  *    8  map: no cover arrives by the required time; list: the root has no cover; place 0
+ *   22  the cover sheet ends before or inside a field, or has a bad tail; place as for 2 or 3
+ *   23  a match is misplaced or not legal; place: its position from 0; or the list ends early; place: the match count
+ *   24  the stated area or arrival is not that of the cover listed; place 0
  */
 
 /* The least lengths of an output in bytes and of a work area in words. */
 #define TREECOVER_MAP_OUTPUT 109
 #define TREECOVER_LIST_OUTPUT 179
 #define TREECOVER_WORK 8192
+
+/* Set in the answer to a cover that is accepted. */
+#define TREECOVER_ACCEPTED (UINT64_C(1) << 63)
 
 /* Judges a library: cells * 256 + patterns, or a refusal with a number from 2 to 6. */
 uint64_t treecover_judge_library(const uint8_t *library, size_t library_len);
@@ -50,6 +56,13 @@ uint64_t treecover_map(const uint8_t *library, size_t library_len, const uint8_t
 /* Lists every trade-off of the tree's root between arrival and area, earliest first; the rest is as for treecover_map. */
 uint64_t treecover_list(const uint8_t *library, size_t library_len, const uint8_t *tree, size_t tree_len,
                         uint8_t *output, size_t output_len, uint64_t *work, size_t work_len);
+
+/*
+ * Judges a cover sheet: TREECOVER_ACCEPTED + area * 2^24 + arrival if it is that of a legal cover of the tree by the library's cells, late or
+ * not, with its true area and arrival; or a refusal, the library's (2 to 6), the tree's (12 to 16), 22, 23 or 24.
+ */
+uint64_t treecover_judge_cover(const uint8_t *library, size_t library_len, const uint8_t *tree, size_t tree_len,
+                               const uint8_t *cover, size_t cover_len);
 
 #ifdef __cplusplus
 }

@@ -2,17 +2,20 @@
 //!
 //! `bench`: a table of times and ratios.
 //! `bench repeat COUNT WHO ROW`: so many maps of a row (`typical`, `chain`, `comb`, `deep`) by
-//! `product`, `plain`, `merging` or, if it is linked, `before`, for a profiler that counts instructions: two counts,
-//! and the difference is free of what comes before the first map.
+//! `product`, `plain`, `merging` or, if it is linked, `before`, or judgements of its cover by `judge`, for a profiler that
+//! counts instructions: two counts, and the difference is free of what comes before the first one.
 
 mod clock;
+mod cover;
 mod judge;
 mod map;
 
 fn main() {
-    if map::repeat(std::env::args().skip(1).collect()) {
+    let arguments: Vec<String> = std::env::args().skip(1).collect();
+    if cover::repeat(&arguments) || map::repeat(arguments) {
         return;
     }
     judge::run();
+    cover::run();
     map::run();
 }
