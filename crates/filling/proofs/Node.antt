@@ -2,16 +2,13 @@
 use mathlib.Core.Path.{_≡_, refl, sym, ap, subst, fun-ext, _∙_}
 use mathlib.Core.Logic.{_⊎_, inl, inr, ⊎-elim}
 use mathlib.Core.Bool.{false}
-use mathlib.Core.List.{List, [], _∷_, map, List·Memᴰ, List·Memᴰ·head, List·Memᴰ·tail, List·Memᴰ·append-cases, List·Memᴰ·eq-of-singleton, List·Memᴰ·cases-cons, Memᴰ·append-left, Memᴰ·append-right}
+use mathlib.Core.List.{List, [], map, List·Memᴰ}
 use mathlib.Core.Option.{Option, some, Option·none-ne-some, Option·some-injective}
 use Prim.Native.Nat.{ℕ, suc, _+_, _-_, _*_, _≤_, _<_}
-use native.Mathlib.Decide.{ℕ-discrete}
 use native.Mathlib.Omega.{arith}
-use lib.ListN.{length, getD, take, set, replicate}
-use lib.Seq.{sets, getD-set-same, getD-set-other, set-out}
-use Rattle.shapes.specs.Shape as Shapes
+use lib.ListN.{length, getD, take}
 use Rattle.sheets.specs.Model.{Shape, leaf, inv, nand, size, leaves, Cell, Library, Tree}
-use Rattle.sheets.specs.Layout.{padded, tableFrom}
+use Rattle.sheets.specs.Layout.{tableFrom}
 use Rattle.sheets.specs.Sound.{SoundCell, SoundLibrary}
 use Rattle.covers.specs.Match.{Input, Match, fitting, matches, pinAt, pinLoad}
 use Rattle.covers.specs.Cover.{Point, Cover, feeds, raised, topped, IsCover, bare, matching}
@@ -19,7 +16,7 @@ use Rattle.covers.specs.Enumeration.{covers}
 use Rattle.covers.specs.Choice.{least}
 use Rattle.covers.specs.Tradeoff.{Node}
 use Rattle.covers.specs.Curve.{Filled, base, byDeadline, curve, gates}
-use Rattle.covers.proofs.Basics.{at-all, lt-or-le}
+use Rattle.covers.proofs.Basics.{at-all}
 use Rattle.covers.proofs.Least.{In, LeastOf, absent, found as reached, least-is}
 use Rattle.covers.proofs.Matching.{size-pos, fitting-are, fits-inside, spread-in}
 use Rattle.covers.proofs.Nodes.{nodeOf, fits-in, nodes-within, leaves-within}
@@ -28,9 +25,8 @@ use Rattle.covers.proofs.Relation.{covers-are}
 use Rattle.covers.proofs.Curve.{curve-found}
 use Rattle.covers.proofs.Filling.{best-from-table}
 use Rattle.covers.proofs.FromSheets.{limited, binned}
-use Rattle.fields.proofs.Lists.{at-mem, zeros-at}
+use Rattle.fields.proofs.Lists.{at-mem}
 use Rattle.overlay.specs.Standing.{Stands, Subject}
-use Rattle.overlay.specs.Held.{symbolLimit}
 use Rattle.overlay.proofs.Standing.{stands-everywhere, subject-everywhere}
 use Rattle.matching.specs.Found.{matchWords, inputSize, inputPlace, inputWords, matchRow}
 use Rattle.matching.specs.Promises.{Ready}

@@ -1,7 +1,7 @@
 -- A match's inputs, come to from the last to the first.
 use Prim.Native.Nat.{ℕ, _+_, _-_, _*_, _≤_, _<_}
-use mathlib.Core.Path.{_≡_, refl, sym, ap, ap₂, subst, _∙_}
-use mathlib.Core.List.{List, [], _∷_, List·Memᴰ}
+use mathlib.Core.Path.{_≡_, refl, sym, ap, subst, _∙_}
+use mathlib.Core.List.{List, _∷_, List·Memᴰ}
 use native.Mathlib.Nat.{mul-le-mul}
 use native.Mathlib.Numerals.{add-one}
 use native.Mathlib.Omega.{arith}
@@ -12,14 +12,13 @@ use Rattle.sheets.specs.Model.{Shape, Pin, Cell, Library}
 use Rattle.sheets.specs.Layout.{pinWords, figuresAt, rowWords}
 use Rattle.covers.specs.Match.{Input, Match, pinAt, pinLoad, delay}
 use Rattle.covers.specs.Cover.{feeds, inputDelay}
-use Rattle.covers.specs.Curve.{base}
 use Rattle.covers.proofs.Basics.{at-all}
 use Rattle.overlay.specs.declared.Walked.{Walked}
 use Rattle.overlay.specs.Held.{symbolLimit, PinHeld}
 use Rattle.overlay.proofs.Patterns.{noInput, noted}
 use Rattle.judgement.specs.Walk.{Walk, comeTo, comeToInputs}
 use Rattle.judge.specs.declared.WalkRecord.{WalkRecord}
-use Rattle.judge.specs.Inside.{slowest, Kept, Opens, Entering}
+use Rattle.judge.specs.Inside.{Kept, Opens, Entering}
 
 module _ {l : Library} {row ss : List ℕ} {walked : Walked} {load delay₀ : ℕ} {r : WalkRecord} {m : Match} {w : Walk} (h : Entering l row ss walked load delay₀ r m w) where
   abbrev cell : Cell
@@ -32,9 +31,6 @@ module _ {l : Library} {row ss : List ℕ} {walked : Walked} {load delay₀ : �
   pub from-none : from (walked .count) ≡ w
   unfolding comeToInputs
   from-none = ap (λ (is : List Input). comeToInputs l cell load delay₀ is w) (ap (λ (i : ℕ). drop i (m .inputs)) (h .walks .count-is) ∙ drop-length (m .inputs))
-
-  pub from-all : from 0 ≡ comeToInputs l cell load delay₀ (m .inputs) w
-  from-all = refl
 
   -- What the loop reads of input k.
   abbrev figures : ℕ → ℕ

@@ -1,17 +1,16 @@
 -- From the sheets to the whole answer: a cover, a tree and a library, sound or not; and the answer fits a word.
-use Prim.Native.Nat.{ℕ, _≤_, _<_}
+use Prim.Native.Nat.{ℕ, _≤_}
 use mathlib.Core.Path.{_≡_, refl, sym, ap, ap₂, subst, _∙_}
 use mathlib.Core.Bool.{Bool, true, false, cond}
 use mathlib.Core.List.{List}
 use native.Mathlib.Omega.{arith}
-use lib.ListN.{length}
 use Rattle.bits.specs.declared.Cursor.{Cursor}
 use Rattle.fields.specs.declared.Fault.{Fault}
 use Rattle.fields.specs.declared.Fault.the-variants.{Truncated, Tail, Range, Drawing, Size}
 use Rattle.fields.specs.declared.Scan.{Scan}
 use Rattle.fields.specs.declared.Scan.the-variants.{At, Refused}
 use Rattle.fields.specs.Reading.{start, place}
-use Rattle.fields.specs.Answer.{Answer, refused, success, places}
+use Rattle.fields.specs.Answer.{Answer, refused, success}
 use Rattle.sheets.specs.declared.library.LibraryRead.{LibraryRead}
 use Rattle.sheets.specs.declared.tree.TreeRead.{TreeRead}
 use Rattle.sheets.specs.Model.{Library, Tree}

@@ -1,16 +1,16 @@
 -- A walk as it is kept: coming to a node, and taking the first of what is to be covered.
-use Prim.Native.Nat.{ℕ, suc, _+_, _-_, _*_, _≤_, _<_, max}
-use mathlib.Core.Path.{_≡_, refl, sym, ap, subst, _∙_}
+use Prim.Native.Nat.{ℕ, _+_, _-_, _≤_, _<_, max}
+use mathlib.Core.Path.{_≡_, refl, sym, ap, _∙_}
 use mathlib.Core.Bool.{Bool, true, false, cond, _&&_, not}
 use mathlib.Core.List.{List, [], _∷_}
 use native.Mathlib.Omega.{arith}
-use lib.ListN.{length, getD, set, length-set, replicate, length-replicate}
+use lib.ListN.{length, getD, set, length-set, length-replicate}
 use lib.Seq.{getD-set-same, getD-set-other}
 use lib.Dec.{leb}
 use Rattle.sheets.specs.Model.{Shape, leaf, inv, nand, Cell}
 use Rattle.covers.specs.Match.{usable, legal}
 use Rattle.covers.specs.Cover.{Point, beside, late, raised, leafArrival, leafPoint}
-use Rattle.fields.specs.Answer.{Answer, refused, success}
+use Rattle.fields.specs.Answer.{refused, success}
 use Rattle.covers.specs.Tradeoff.{same}
 use Rattle.covers.proofs.Points.{point-path, same-true, same-refl}
 use Rattle.judgement.specs.Walk.{Uncovered, Walk, comeTo}
@@ -19,7 +19,7 @@ use Rattle.judge.specs.declared.CoverJudged.{CoverJudged}
 use Rattle.judge.specs.declared.CoverJudged.the-variants.{Accepted}
 use Rattle.judge.specs.Public.{ofCoverJudged}
 use Rattle.judge.specs.declared.WalkRecord.{WalkRecord}
-use Rattle.judge.specs.Inside.{nothingYet, arrived, pushed, popped, Stacked, Kept, Opens}
+use Rattle.judge.specs.Inside.{nothingYet, arrived, pushed, popped, lastOf, Stacked, Kept, Opens}
 
 pub kept-nothing : Kept (record { left = []; point = record { area = 0; arrival = 0 } }) nothingYet
 kept-nothing = record {
@@ -88,14 +88,9 @@ module _ {o : Uncovered} {os : List Uncovered} {q : Point} {r : WalkRecord} (k :
   top : r .count - 1 ≡ length os
   top = omega (arith, k .count-is)
 
-  pub top-node : getD (r .nodes) (r .count - 1) 0 ≡ o .node
-  top-node = ap (λ (i : ℕ). getD (r .nodes) i 0) top ∙ k .stacked .0
-
-  pub top-load : getD (r .loads) (r .count - 1) 0 ≡ o .load
-  top-load = ap (λ (i : ℕ). getD (r .loads) i 0) top ∙ k .stacked .1
-
-  pub top-delay : getD (r .delays) (r .count - 1) 0 ≡ o .delay
-  top-delay = ap (λ (i : ℕ). getD (r .delays) i 0) top ∙ k .stacked .2
+  pub last-is : o ≡ lastOf r (o .shape)
+  last-is = sym (ap (λ (i : ℕ). record { node = getD (r .nodes) i 0; shape = o .shape; load = getD (r .loads) i 0; delay = getD (r .delays) i 0 }) top
+      ∙ (λ d. record { node = k .stacked .0 d; shape = o .shape; load = k .stacked .1 d; delay = k .stacked .2 d }))
 
   pub kept-popped : (area : ℕ) → Kept (record { left = os; point = raised area q }) (popped r area)
   unfolding raised

@@ -7,20 +7,19 @@ use mathlib.Core.List.{List, [], _∷_, List·Memᴰ, List·Memᴰ·head}
 use mathlib.Core.Option.{Option, none, some}
 use native.Mathlib.Omega.{arith}
 use lib.ListN.{length, getD, getElem?, take, drop}
-use Rattle.sheets.specs.Model.{size, Library, Tree, patterns}
+use Rattle.sheets.specs.Model.{Shape, size, Library, Pattern, Tree, patterns}
 use Rattle.sheets.specs.Layout.{rowWords}
 use Rattle.covers.specs.Cover.{Placed}
-use Rattle.overlay.specs.Held.{Decoded}
 use Rattle.overlay.proofs.Standing.{stands-everywhere}
 use Rattle.overlay.proofs.Symbols.{symbols-small}
-use Rattle.overlay.proofs.Patterns.{noPattern, patternAt, rows-long, few-patterns, at-hand, row-held, walkable}
+use Rattle.overlay.proofs.Patterns.{noPattern, patternAt, rows-long, at-hand, row-held, walkable}
 use Rattle.judgement.specs.Walk.{Uncovered, Walk, lowestAt, matchAt, taken, placedAt, step}
 use Rattle.judgement.specs.Order.{Apart}
 use Rattle.judgement.proofs.Order.{lowest-first, lowest-other, apart-few, step-past}
 use Rattle.judge.specs.declared.WalkRecord.{WalkRecord}
 use Rattle.judge.specs.declared.Stepped.{Stepped}
-use Rattle.judge.specs.Inside.{Kept, Within, Walking, Taking, SteppedIs, Stepping}
-use Rattle.judge.proofs.Kept.{top-node}
+use Rattle.judge.specs.Inside.{lastOf, Kept, Taking, SteppedIs, Stepping}
+use Rattle.judge.proofs.Kept.{last-is}
 
 module _ {A : Type 0} where
   at-there : (xs : List A) (k : ℕ) (d : A) → k < length xs → getElem? xs k ≡ some (getD xs k d)
@@ -36,16 +35,16 @@ module _ {A : Type 0} where
 module _ {l : Library} {t : Tree} {rows ss zs : List ℕ} {k : ℕ} {w : Walk} {r : WalkRecord} (h : Stepping l t rows ss zs k w r) where
   -- The first of what is to be covered.
   pub record First : Type 0 where
-    pub o : Uncovered
-    pub os : List Uncovered
-    pub first : w .left ≡ o ∷ os
+    pub shape : Shape
+    pub others : List Uncovered
+    pub first : w .left ≡ lastOf r shape ∷ others
 
   pub first-of : 0 < r .count → First
   first-of g = go (w .left) refl
     where
       go : (us : List Uncovered) → w .left ≡ us → First
       go [] e = absurd (omega (arith, h .kept .count-is, ap length e))
-      go (o ∷ os) e = record { o = o; os = os; first = e }
+      go (o ∷ os) e = record { shape = o .shape; others = os; first = e ∙ ap (λ (u : Uncovered). u ∷ os) (last-is (subst (λ (us : List Uncovered). Kept (record { left = us; point = w .point }) r) e (h .kept))) }
 
   pub count-few : r .count ≤ 64
   count-few = omega (arith, h .kept .count-is, apart-few (h .walking .apart), h .decoded .tree .size)
@@ -73,25 +72,22 @@ module _ {l : Library} {t : Tree} {rows ss zs : List ℕ} {k : ℕ} {w : Walk} {
       f = first-of some-left
 
       abbrev o : Uncovered
-      o = f .o
+      o = lastOf r (f .shape)
 
-      node-read : getD (r .nodes) (r .count - 1) 0 ≡ o .node
-      node-read = top-node (subst (λ (us : List Uncovered). Kept (record { left = us; point = w .point }) r) (f .first) (h .kept))
-
-      apart : Apart (h .walking .low) (size (t .shape)) (o ∷ f .os)
+      apart : Apart (h .walking .low) (size (t .shape)) (o ∷ f .others)
       apart = subst (Apart (h .walking .low) (size (t .shape))) (f .first) (h .walking .apart)
 
       -- It stands at another node.
-      pub wrong-node : getD (r .nodes) (r .count - 1) 0 ≢ node → Makes (record { right = false; walk = r })
-      wrong-node d = wrong (away (ap (lowestAt node) (f .first) ∙ lowest-other apart (λ e. d (node-read ∙ sym e))))
+      pub wrong-node : o .node ≢ node → Makes (record { right = false; walk = r })
+      wrong-node d = wrong (away (ap (lowestAt node) (f .first) ∙ lowest-other apart (λ e. d (sym e))))
         where
           away : lowestAt node (w .left) ≡ none → step l w x ≡ none
           away e = unfold step placedAt in rw e
 
-      module _ (here : getD (r .nodes) (r .count - 1) 0 ≡ node) where
+      module _ (here : o .node ≡ node) where
         step-here : step l w x ≡ taken l w o (matchAt pattern o (getElem? (patterns l) pattern))
         unfolding step placedAt
-        step-here = ap (placedAt l w x) (ap (lowestAt node) (f .first) ∙ ap (λ (n : ℕ). lowestAt n (o ∷ f .os)) (sym here ∙ node-read) ∙ lowest-first apart)
+        step-here = ap (placedAt l w x) (ap (lowestAt node) (f .first) ∙ ap (λ (n : ℕ). lowestAt n (o ∷ f .others)) (sym here) ∙ lowest-first apart)
 
         -- No pattern of the library has that number.
         pub wrong-pattern : length rows ≤ rowWords * pattern → Makes (record { right = false; walk = r })
@@ -101,29 +97,24 @@ module _ {l : Library} {t : Tree} {rows ss zs : List ℕ} {k : ℕ} {w : Walk} {
             away e = unfold taken matchAt in rw e
 
         module _ (known : rowWords * pattern < length rows) where
-          pub in-library : pattern < length (patterns l)
+          in-library : pattern < length (patterns l)
           in-library = omega (arith, rows-long (h .decoded))
-
-          pub pattern-small : pattern < 128
-          pattern-small = omega (arith, in-library, few-patterns (h .decoded))
 
           pub row-inside : rowWords * pattern + rowWords ≤ length rows
           row-inside = omega (arith, in-library, rows-long (h .decoded))
 
           module _ (m : ℕ) (e : m ≡ rowWords) where
-            unfoldable pub taking : Taking l t (take m (drop (rowWords * pattern) rows)) ss zs k (patternAt l pattern) w r
+            pub taking : Taking l t (take m (drop (rowWords * pattern) rows)) ss zs k (patternAt l pattern) (f .shape) w r
             taking =
                 let held = row-held (h .decoded) pattern in-library m e in
                 let sound = at-hand (h .decoded) pattern in-library in
-                let inside = h .walking .within o (subst (List·Memᴰ o) (sym (f .first)) (List·Memᴰ·head refl)) in
                 record {
-                  o = o;
-                  os = f .os;
+                  others = f .others;
                   first = f .first;
                   walking = h .walking;
                   kept = h .kept;
                   few = h .few;
-                  walkable = walkable (h .decoded) pattern in-library m e (inside .node-in);
+                  walkable = walkable (h .decoded) pattern in-library m e (h .walking .within o (subst (List·Memᴰ o) (sym (f .first)) (List·Memᴰ·head refl)) .node-in);
                   cell = held .cell;
                   sound = sound .cell;
                   drawing = sound .drawing;
@@ -133,7 +124,5 @@ module _ {l : Library} {t : Tree} {rows ss zs : List ℕ} {k : ℕ} {w : Walk} {
                   loads-small = h .decoded .library .loads;
                 }
 
-            pub made : (q : Stepped) → ((number : ℕ) → SteppedIs (taken l w (taking .o) (matchAt number (taking .o) (some (patternAt l pattern)))) q) → Makes q
-            unfolding taking
-            made q g =
-                subst (λ (v : Option Walk). SteppedIs v q) (ap (λ (p : Option _). taken l w o (matchAt pattern o p)) (sym (at-there (patterns l) pattern noPattern in-library)) ∙ sym step-here) (g pattern)
+          pub made : (q : Stepped) → SteppedIs (taken l w o (matchAt pattern o (some (patternAt l pattern)))) q → Makes q
+          made q = subst (λ (v : Option Walk). SteppedIs v q) (ap (λ (p : Option Pattern). taken l w o (matchAt pattern o p)) (sym (at-there (patterns l) pattern noPattern in-library)) ∙ sym step-here)

@@ -1,32 +1,31 @@
 -- One match at the first of what is to be covered.
-use Prim.Native.Nat.{ℕ, zero, suc, _+_, _-_, _*_, _≤_, _<_}
+use Prim.Native.Nat.{ℕ, zero, suc, _+_, _-_, _≤_, _<_}
 use mathlib.Core.Path.{_≡_, refl, sym, ap, subst, _∙_}
 use mathlib.Core.Bool.{Bool, true, false, cond}
-use mathlib.Core.List.{List, [], _∷_, List·Memᴰ, List·Memᴰ·head, List·Memᴰ·tail}
+use mathlib.Core.List.{List, _∷_, List·Memᴰ, List·Memᴰ·head}
 use mathlib.Core.Option.{Option, none, some, Option·map}
-use native.Mathlib.Nat.{mul-le-mul-right}
 use native.Mathlib.Numerals.{add-one}
 use native.Mathlib.Omega.{arith}
 use lib.ListN.{length, getD, drop}
 use Rattle.sheets.specs.Model.{Shape, leaf, inv, nand, size, Cell, Library, Pattern, Tree}
-use Rattle.covers.specs.Match.{Input, Match, matched, legal, IsMatch, pinLoad, laid}
-use Rattle.covers.specs.Cover.{Point, raised, feeds, inputDelay}
+use Rattle.covers.specs.Match.{Input, Match, matched, legal, laid}
+use Rattle.covers.specs.Cover.{raised}
 use Rattle.covers.specs.Curve.{base}
-use Rattle.covers.specs.Tradeoff.{Node, nodes}
-use Rattle.covers.proofs.Matching.{Spread, fits-inside, size-pos, spread-ends}
+use Rattle.covers.specs.Tradeoff.{nodes}
+use Rattle.covers.proofs.Matching.{Spread, fits-inside, size-pos}
 use Rattle.covers.proofs.Matching as matching
 use Rattle.covers.proofs.Nodes.{nodeOf, fits-in, nodes-within, node-ends}
 use Rattle.overlay.specs.declared.Walked.{Walked}
 use Rattle.overlay.specs.Standing.{Stands}
-use Rattle.overlay.specs.Held.{heldAt, areaAt, highestAt, Walkable, WalkedIs}
-use Rattle.overlay.proofs.Patterns.{noInput, missed, Hit, hit}
+use Rattle.overlay.specs.Held.{heldAt, areaAt, highestAt, Walkable, Walks, WalkedIs}
+use Rattle.overlay.proofs.Patterns.{missed, hit}
 use Rattle.judgement.specs.Walk.{Uncovered, Walk, comeToInputs, others, matchAt, taken}
 use Rattle.judgement.specs.Order.{Apart, last, next}
 use Rattle.judgement.proofs.Order.{inputs-apart, apart-few, others-first}
 use Rattle.judge.specs.declared.WalkRecord.{WalkRecord}
 use Rattle.judge.specs.declared.Stepped.{Stepped}
-use Rattle.judge.specs.Inside.{slowest, popped, Kept, Opens, Entering, Within, Walking, Taking, SteppedIs}
-use Rattle.judge.proofs.Kept.{top-node, top-load, top-delay, kept-popped}
+use Rattle.judge.specs.Inside.{popped, lastOf, Kept, Opens, Entering, Within, Taking, SteppedIs}
+use Rattle.judge.proofs.Kept.{kept-popped}
 
 -- The symbol where a shape stands.
 pub stands-opens : (ss zs : List ℕ) (n : ℕ) (s : Shape) → Stands ss zs n s → Opens (getD ss n 0) s
@@ -48,173 +47,125 @@ spread-after (matching.next {i = i} {is = is} a b s) (suc k) g =
     let r = spread-after s k (omega arith) in
     record { from = r .from; gates = r .gates; above = omega (arith, r .above); spread = r .spread }
 
-module _ {l : Library} {t : Tree} {row ss zs : List ℕ} {k : ℕ} {p : Pattern} {w : Walk} {r : WalkRecord} (h : Taking l t row ss zs k p w r) where
+module _ {l : Library} {t : Tree} {row ss zs : List ℕ} {k : ℕ} {p : Pattern} {s : Shape} {w : Walk} {r : WalkRecord} (h : Taking l t row ss zs k p s w r) where
   abbrev o : Uncovered
-  o = h .o
+  o = lastOf r s
 
-  abbrev os : List Uncovered
-  os = h .os
-
-  abbrev pub cellOf : Cell
-  cellOf = p .cell
-
-  kept : Kept (record { left = o ∷ os; point = w .point }) r
+  kept : Kept (record { left = o ∷ h .others; point = w .point }) r
   kept = subst (λ (us : List Uncovered). Kept (record { left = us; point = w .point }) r) (h .first) (h .kept)
 
-  apart : Apart (h .walking .low) (size (t .shape)) (o ∷ os)
+  apart : Apart (h .walking .low) (size (t .shape)) (o ∷ h .others)
   apart = subst (Apart (h .walking .low) (size (t .shape))) (h .first) (h .walking .apart)
 
   within : Within t k o
   within = h .walking .within o (subst (List·Memᴰ o) (sym (h .first)) (List·Memᴰ·head refl))
 
-  -- What is read of the arrays and of the row.
+  -- How far the code may read and add.
   pub record Top : Type 0 where
     pub some : 0 < r .count
     pub few : r .count ≤ 64
-    pub node-is : getD (r .nodes) (r .count - 1) 0 ≡ o .node
-    pub load-is : getD (r .loads) (r .count - 1) 0 ≡ o .load
-    pub delay-is : getD (r .delays) (r .count - 1) 0 ≡ o .delay
-    pub node-small : o .node < 64
-    pub light : o .load ≤ 255
-    pub area-small : r .area + p .cell .area < base
+    pub area-small : r .area + getD row areaAt 0 < base
 
   pub top : Top
   top = record {
     some = omega (arith, kept .count-is);
     few = omega (arith, kept .count-is, apart-few apart, h .tree .size);
-    node-is = top-node kept;
-    load-is = top-load kept;
-    delay-is = top-delay kept;
-    node-small = omega (arith, node-ends 0 (t .shape) (within .node-in), size-pos (o .shape), h .tree .size);
-    light = within .light;
-    area-small = omega (arith, kept .area-is, h .walking .area, h .few, h .sound .area);
+    area-small = omega (arith, kept .area-is, h .walking .area, h .few, h .cell .area-is, h .sound .area);
   }
 
-  -- Not legal, or no match.
-  not-legal : (number : ℕ) → legal (p .cell) (o .load) ≡ false → taken l w o (matchAt number o (some p)) ≡ none
-  unfolding taken matchAt
-  not-legal number e = rw e
+  module _ (number : ℕ) where
+    abbrev step : Option Walk
+    step = taken l w o (matchAt number o (some p))
 
-  not-matched : (number : ℕ) → matched (p .drawing) (o .node) (o .shape) ≡ none → taken l w o (matchAt number o (some p)) ≡ none
-  unfolding taken matchAt
-  not-matched number e = go (legal (p .cell) (o .load))
-    where
-      go : (b : Bool) → taken l w o (cond b (Option·map (λ (is : List Input). record { number = number; pattern = p; inputs = is }) (matched (p .drawing) (o .node) (o .shape))) none) ≡ none
-      go true = unfold taken in rw e
-      go false = unfold taken in refl
+    abbrev refusal : Stepped
+    refusal = record { right = false; walk = r }
 
-  module _ (number : ℕ) (is : List Input) (fits : matched (p .drawing) (o .node) (o .shape) ≡ some is) where
-    abbrev m : Match
-    m = record { number = number; pattern = p; inputs = is }
+    -- What is_legal and the walk over the pattern answer.
+    abbrev LegalIs : Bool → Type 0
+    LegalIs b = (c : Cell) → getD row heldAt 0 ≡ cond (c .held) 1 0 → getD row highestAt 0 ≡ c .highest → b ≡ legal c (o .load)
 
-    abbrev below : Walk
-    below = record { left = os; point = raised (p .cell .area) (w .point) }
+    abbrev WalkIs : Walked → Type 0
+    WalkIs walked = (d u : Shape) → Walkable row ss zs (o .node) d u → WalkedIs (laid d (o .node) u) walked
 
-    stepped : legal (p .cell) (o .load) ≡ true → taken l w o (matchAt number o (some p)) ≡ some (comeToInputs l (p .cell) (o .load) (o .delay) is below)
-    unfolding taken matchAt
-    stepped e =
-        let there : matchAt number o (some p) ≡ some m = rw (e, fits) in
-        ap (taken l w o) there
-        ∙ ap (λ (us : List Uncovered). some (comeToInputs l (p .cell) (o .load) (o .delay) is (record { left = us; point = raised (p .cell .area) (w .point) }))) (ap (others (o .node)) (h .first) ∙ others-first apart)
+    legal-read : {b : Bool} → LegalIs b → b ≡ legal (p .cell) (o .load)
+    legal-read e = e (p .cell) (h .cell .held-is) (h .cell .highest-is)
 
-    -- The inputs are nodes of the tree.
-    in-tree : (i : Input) → List·Memᴰ i is → List·Memᴰ (nodeOf i) (nodes 0 (t .shape))
-    in-tree i a = nodes-within 0 (t .shape) (within .node-in) (fits-in (p .drawing) (o .node) (o .shape) is fits i a)
-
-    room : (j : ℕ) → j < length is → length (comeToInputs l (p .cell) (o .load) (o .delay) (drop (j + 1) is) below .left) < 64
-    room j g =
-        let inside = fits-inside (p .drawing) (o .node) (o .shape) fits in
-        let rest = spread-after (inside .spread) j g in
-        let few = apart-few (inputs-apart l (p .cell) (o .load) (o .delay) (drop (suc j) is) below (rest .spread) (beyond apart)) in
-        subst (λ (q : ℕ). length (comeToInputs l (p .cell) (o .load) (o .delay) (drop q is) below .left) < 64) (sym (add-one j)) (omega (arith, few, rest .above, h .tree .size))
+    -- Not legal under the load, or no match.
+    pub wrong-load : {b : Bool} → LegalIs b → b ≡ false → SteppedIs step refusal
+    wrong-load e f = subst (λ (v : Option Walk). SteppedIs v refusal) (sym (none-legal (sym (legal-read e) ∙ f))) refl
       where
-        beyond : {low : ℕ} → Apart low (size (t .shape)) (o ∷ os) → Apart (o .node + size (o .shape)) (size (t .shape)) os
-        beyond (next a g s) = s
+        none-legal : legal (p .cell) (o .load) ≡ false → step ≡ none
+        none-legal g = unfold taken matchAt in rw g
 
-    entering : (walked : Walked) → (hits : WalkedIs (some is) walked) → length is ≤ 16 → ((i : Input) → List·Memᴰ i is → i .pin < length (p .cell .pins)) →
-        Entering l row ss walked (o .load) (o .delay) (popped r (p .cell .area)) m below
-    entering walked hits few pinned = record {
-      kept = kept-popped kept (p .cell .area);
-      walks = hits;
-      cell = h .cell;
-      sound = h .sound;
-      few = few;
-      pinned = pinned;
-      opens = λ i a. (stands-opens ss zs (i .node) (i .shape) (h .stands (nodeOf i) (in-tree i a)), omega (arith, node-ends 0 (t .shape) (in-tree i a), size-pos (i .shape), h .tree .size));
-      symbols-long = h .walkable .subject .symbols-long;
-      symbols-small = h .symbols-small;
-      loads-small = h .loads-small;
-      light = within .light;
-      near = omega (arith, within .near, h .few);
-      room = room;
-    }
+    pub wrong-shape : (walked : Walked) → WalkIs walked → walked .matched ≡ false → SteppedIs step refusal
+    wrong-shape walked e f = subst (λ (v : Option Walk). SteppedIs v refusal) (sym (none-matched (missed (o .node) s walked (h .drawing) (e (p .drawing) s (h .walkable)) f))) refl
+      where
+        none-matched : matched (p .drawing) (o .node) s ≡ none → step ≡ none
+        none-matched g = unfold taken matchAt in go (legal (p .cell) (o .load))
+          where
+            go : (b : Bool) → taken l w o (cond b (Option·map (λ (is : List Input). record { number = number; pattern = p; inputs = is }) (matched (p .drawing) (o .node) s)) none) ≡ none
+            go true = unfold taken in rw g
+            go false = unfold taken in refl
 
-  -- ---- what a step makes of it, by what the code reads and calls
+    -- A legal match: the walk comes to its inputs.
+    module _ (is : List Input) (fits : matched (p .drawing) (o .node) s ≡ some is) where
+      abbrev pub match : Match
+      match = record { number = number; pattern = p; inputs = is }
 
-  abbrev loadRead : ℕ
-  loadRead = getD (r .loads) (r .count - 1) 0
+      abbrev pub below : Walk
+      below = record { left = h .others; point = raised (p .cell .area) (w .point) }
 
-  abbrev delayRead : ℕ
-  delayRead = getD (r .delays) (r .count - 1) 0
+      stepped : legal (p .cell) (o .load) ≡ true → step ≡ some (comeToInputs l (p .cell) (o .load) (o .delay) is below)
+      unfolding taken matchAt
+      stepped e =
+          let there : matchAt number o (some p) ≡ some match = rw (e, fits) in
+          ap (taken l w o) there
+          ∙ ap (λ (us : List Uncovered). some (comeToInputs l (p .cell) (o .load) (o .delay) is (record { left = us; point = raised (p .cell .area) (w .point) }))) (ap (others (o .node)) (h .first) ∙ others-first apart)
 
-  abbrev nodeRead : ℕ
-  nodeRead = getD (r .nodes) (r .count - 1) 0
+      -- The inputs are nodes of the tree.
+      in-tree : (i : Input) → List·Memᴰ i is → List·Memᴰ (nodeOf i) (nodes 0 (t .shape))
+      in-tree i a = nodes-within 0 (t .shape) (within .node-in) (fits-in (p .drawing) (o .node) s is fits i a)
 
-  abbrev areaRead : ℕ
-  areaRead = getD row areaAt 0
+      room : (j : ℕ) → j < length is → length (comeToInputs l (p .cell) (o .load) (o .delay) (drop (j + 1) is) below .left) < 64
+      room j g =
+          let rest = spread-after (fits-inside (p .drawing) (o .node) s fits .spread) j g in
+          let few = apart-few (inputs-apart l (p .cell) (o .load) (o .delay) (drop (suc j) is) below (rest .spread) (beyond apart)) in
+          subst (λ (q : ℕ). length (comeToInputs l (p .cell) (o .load) (o .delay) (drop q is) below .left) < 64) (sym (add-one j)) (omega (arith, few, rest .above, h .tree .size))
+        where
+          beyond : {low : ℕ} → Apart low (size (t .shape)) (o ∷ h .others) → Apart (o .node + size s) (size (t .shape)) (h .others)
+          beyond (next a g r) = r
 
-  pub walkable-read : Walkable row ss zs nodeRead (p .drawing) (o .shape)
-  walkable-read = subst (λ (n : ℕ). Walkable row ss zs n (p .drawing) (o .shape)) (sym (top .node-is)) (h .walkable)
-
-  -- What is_legal and the walk over the pattern answered.
-  abbrev pub LegalIs : Bool → Type 0
-  LegalIs b = (c : Cell) → getD row heldAt 0 ≡ cond (c .held) 1 0 → getD row highestAt 0 ≡ c .highest → b ≡ legal c loadRead
-
-  abbrev pub WalkIs : Walked → Type 0
-  WalkIs walked = (d s : Shape) → Walkable row ss zs nodeRead d s → WalkedIs (laid d nodeRead s) walked
-
-  legal-read : {b : Bool} → LegalIs b → b ≡ legal (p .cell) (o .load)
-  legal-read e = e (p .cell) (h .cell .held-is) (h .cell .highest-is) ∙ ap (legal (p .cell)) (top .load-is)
-
-  walked-read : (walked : Walked) → WalkIs walked → WalkedIs (laid (p .drawing) (o .node) (o .shape)) walked
-  walked-read walked e = subst (λ (n : ℕ). WalkedIs (laid (p .drawing) n (o .shape)) walked) (top .node-is) (e (p .drawing) (o .shape) walkable-read)
-
-  abbrev Makes : ℕ → Stepped → Type 0
-  Makes number q = SteppedIs (taken l w o (matchAt number o (some p))) q
-
-  wrong : (number : ℕ) → taken l w o (matchAt number o (some p)) ≡ none → Makes number (record { right = false; walk = r })
-  wrong number e = subst (λ (v : Option Walk). SteppedIs v (record { right = false; walk = r })) (sym e) refl
-
-  pub wrong-load : (number : ℕ) {b : Bool} → LegalIs b → b ≡ false → Makes number (record { right = false; walk = r })
-  wrong-load number e f = wrong number (not-legal number (sym (legal-read e) ∙ f))
-
-  pub wrong-shape : (number : ℕ) (walked : Walked) → WalkIs walked → walked .matched ≡ false → Makes number (record { right = false; walk = r })
-  wrong-shape number walked e f = wrong number (not-matched number (missed (o .node) (o .shape) walked (h .drawing) (walked-read walked e) f))
-
-  -- The walk that comes to the inputs of the match.
-  pub record Found (walked : Walked) (next : WalkRecord) (number : ℕ) : Type 0 where
-    pub m : Match
-    pub below : Walk
-    pub enters : Entering l row ss walked loadRead delayRead next m below
-    pub makes : (q : WalkRecord) → Kept (comeToInputs l (m .pattern .cell) loadRead delayRead (m .inputs) below) q → Makes number (record { right = true; walk = q })
-
-  pub found : (number : ℕ) (walked : Walked) {next : WalkRecord} {b : Bool} → LegalIs b → b ≡ true → WalkIs walked → walked .matched ≡ true → next ≡ popped r areaRead → Found walked next number
-  found number walked {next} a e f g q =
-      let there = hit (o .node) (o .shape) walked (h .drawing) (walked-read walked f) g in
-      let is = there .inputs in
-      let same : popped r (p .cell .area) ≡ next = sym (q ∙ ap (popped r) (h .cell .area-is)) in
-      record {
-        m = m number is (there .fits);
-        below = below number is (there .fits);
-        enters =
-            subst (λ (x : WalkRecord). Entering l row ss walked loadRead delayRead x (m number is (there .fits)) (below number is (there .fits))) same
-            (subst (λ (x : ℕ). Entering l row ss walked loadRead x (popped r (p .cell .area)) (m number is (there .fits)) (below number is (there .fits))) (sym (top .delay-is))
-            (subst (λ (x : ℕ). Entering l row ss walked x (o .delay) (popped r (p .cell .area)) (m number is (there .fits)) (below number is (there .fits))) (sym (top .load-is))
-            (entering number is (there .fits) walked (there .walks) (there .few) (there .pinned))));
-        makes = λ x kept-after.
-            subst (λ (v : Option Walk). SteppedIs v (record { right = true; walk = x })) (sym (stepped number is (there .fits) (sym (legal-read a) ∙ e))) (
-              refl,
-              subst (λ (y : ℕ). Kept (comeToInputs l (p .cell) (o .load) y is (below number is (there .fits))) x) (top .delay-is)
-                  (subst (λ (y : ℕ). Kept (comeToInputs l (p .cell) y delayRead is (below number is (there .fits))) x) (top .load-is) kept-after),
-            );
+      entering : {walked : Walked} → Walks is walked → length is ≤ 16 → ((i : Input) → List·Memᴰ i is → i .pin < length (p .cell .pins)) → Entering l row ss walked (o .load) (o .delay) (popped r (p .cell .area)) match below
+      entering walks few pinned = record {
+        kept = kept-popped kept (p .cell .area);
+        walks = walks;
+        cell = h .cell;
+        sound = h .sound;
+        few = few;
+        pinned = pinned;
+        opens = λ i a. (stands-opens ss zs (i .node) (i .shape) (h .stands (nodeOf i) (in-tree i a)), omega (arith, node-ends 0 (t .shape) (in-tree i a), size-pos (i .shape), h .tree .size));
+        symbols-long = h .walkable .subject .symbols-long;
+        symbols-small = h .symbols-small;
+        loads-small = h .loads-small;
+        light = within .light;
+        near = omega (arith, within .near, h .few);
+        room = room;
       }
+
+    pub record Found (walked : Walked) (after : WalkRecord) : Type 0 where
+      pub m : Match
+      pub below : Walk
+      pub enters : Entering l row ss walked (o .load) (o .delay) after m below
+      pub makes : (q : WalkRecord) → Kept (comeToInputs l (m .pattern .cell) (o .load) (o .delay) (m .inputs) below) q → SteppedIs step (record { right = true; walk = q })
+
+    pub found : (walked : Walked) {after : WalkRecord} {b : Bool} → LegalIs b → b ≡ true → WalkIs walked → walked .matched ≡ true → after ≡ popped r (getD row areaAt 0) → Found walked after
+    found walked {after} a e f g q =
+        let there = hit (o .node) s walked (h .drawing) (f (p .drawing) s (h .walkable)) g in
+        let is = there .inputs in
+        record {
+          m = match is (there .fits);
+          below = below is (there .fits);
+          enters = subst (λ (x : WalkRecord). Entering l row ss walked (o .load) (o .delay) x (match is (there .fits)) (below is (there .fits))) (sym (q ∙ ap (popped r) (h .cell .area-is)))
+              (entering is (there .fits) (there .walks) (there .few) (there .pinned));
+          makes = λ x kept-after. subst (λ (v : Option Walk). SteppedIs v (record { right = true; walk = x })) (sym (stepped is (there .fits) (sym (legal-read a) ∙ e))) (refl, kept-after);
+        }

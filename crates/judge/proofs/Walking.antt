@@ -1,19 +1,19 @@
 -- The walk over all listed matches: after each step it is again a walk over the tree.
 use Prim.Native.Nat.{ℕ, zero, suc, _+_, _-_, _*_, _≤_, _<_}
-use mathlib.Core.Path.{_≡_, refl, sym, ap, ap₂, subst, _∙_}
-use mathlib.Core.Bool.{Bool, true, false, false≢true}
+use mathlib.Core.Path.{_≡_, refl, sym, ap, subst, _∙_}
+use mathlib.Core.Bool.{true, false, false≢true}
 use mathlib.Core.List.{List, [], _∷_, zipWith, List·Memᴰ, List·Memᴰ·head, List·Memᴰ·tail, List·Memᴰ·not-nil}
 use mathlib.Core.Option.{Option, none, some, Option·none-ne-some, Option·some-injective}
-use native.Mathlib.Nat.{mul-le-mul, le-refl}
+use native.Mathlib.Nat.{mul-le-mul}
 use native.Mathlib.Numerals.{add-one}
 use native.Mathlib.Omega.{arith}
 use lib.ListN.{length, getD, take, drop}
-use Rattle.fields.specs.Answer.{Answer, refused, success}
+use Rattle.fields.specs.Answer.{refused, success}
 use Rattle.sheets.specs.Model.{Shape, leaf, inv, nand, size, Pin, Cell, Library, Tree}
-use Rattle.sheets.specs.Sound.{SoundCell, SoundLibrary, SoundTree}
+use Rattle.sheets.specs.Sound.{SoundLibrary, SoundTree}
 use Rattle.covers.specs.Match.{Input, Match, IsMatch, pinAt, pinLoad, delay}
 use Rattle.covers.specs.Cover.{Point, Placed, raised, beside, late, leafPoint, feeds, inputDelay}
-use Rattle.covers.specs.Tradeoff.{Node, nodes}
+use Rattle.covers.specs.Tradeoff.{nodes}
 use Rattle.covers.proofs.Basics.{at-all, each}
 use Rattle.covers.proofs.Points.{point-path}
 use Rattle.results.specs.Public.{placedOf}

@@ -1,7 +1,7 @@
 -- What the functions inside promise each other.
 use Prim.Native.Nat.{ℕ, _+_, _-_, _*_, _≤_, _<_, max}
 use mathlib.Core.Path.{_≡_}
-use mathlib.Core.Bool.{Bool, true, false}
+use mathlib.Core.Bool.{true, false}
 use mathlib.Core.List.{List, [], _∷_, List·Memᴰ}
 use mathlib.Core.Option.{Option, none, some}
 use lib.ListN.{length, getD, set, drop, replicate}
@@ -10,13 +10,13 @@ use Rattle.sheets.specs.declared.tree.TreeRecord.{TreeRecord}
 use Rattle.sheets.specs.Model.{Shape, leaf, inv, nand, size, Library, Pattern, Tree}
 use Rattle.sheets.specs.Sound.{SoundCell, SoundDrawing, SoundTree}
 use Rattle.sheets.specs.Layout.{treeLaid}
-use Rattle.covers.specs.Match.{Input, Match, pinLoad}
+use Rattle.covers.specs.Match.{Input, Match}
 use Rattle.covers.specs.Curve.{base}
 use Rattle.covers.specs.Tradeoff.{Node, nodes}
 use Rattle.overlay.specs.declared.Walked.{Walked}
 use Rattle.overlay.specs.Standing.{Stands}
 use Rattle.overlay.specs.Held.{symbolLimit, CellHeld, Walkable, Walks, Decoded}
-use Rattle.judgement.specs.Walk.{Uncovered, Walk, comeToInputs, started}
+use Rattle.judgement.specs.Walk.{Uncovered, Walk, comeToInputs}
 use Rattle.judgement.specs.Order.{Apart}
 use Rattle.judge.specs.declared.WalkRecord.{WalkRecord}
 use Rattle.judge.specs.declared.Stepped.{Stepped}
@@ -36,6 +36,10 @@ pushed r node load delay = record { area = r .area; arrival = r .arrival; count 
 
 abbrev pub popped : WalkRecord → ℕ → WalkRecord
 popped r area = record { area = r .area + area; arrival = r .arrival; count = r .count - 1; nodes = r .nodes; loads = r .loads; delays = r .delays }
+
+-- What stands last in its arrays, over the subtree s.
+abbrev pub lastOf : WalkRecord → Shape → Uncovered
+lastOf r s = record { node = getD (r .nodes) (r .count - 1) 0; shape = s; load = getD (r .loads) (r .count - 1) 0; delay = getD (r .delays) (r .count - 1) 0 }
 
 -- Three arrays hold what is to be covered, the first of it last.
 abbrev pub Stacked : (nodes loads delays : List ℕ) → List Uncovered → Type 0
@@ -100,15 +104,14 @@ pub record Walking (t : Tree) (k : ℕ) (w : Walk) : Type 0 where
   pub within : (o : Uncovered) → List·Memᴰ o (w .left) → Within t k o
   pub area : w .point .area ≤ 65535 * k
 
--- The row of a sound pattern, and a walk over the tree after k matches with something left to cover, the first of which stands in the arrays.
-pub record Taking (l : Library) (t : Tree) (row ss zs : List ℕ) (k : ℕ) (p : Pattern) (w : Walk) (r : WalkRecord) : Type 0 where
-  pub o : Uncovered
-  pub os : List Uncovered
-  pub first : w .left ≡ o ∷ os
+-- The row of a sound pattern, and a walk over the tree after k matches: the first of what is left to cover stands last in the arrays, over the subtree s.
+pub record Taking (l : Library) (t : Tree) (row ss zs : List ℕ) (k : ℕ) (p : Pattern) (s : Shape) (w : Walk) (r : WalkRecord) : Type 0 where
+  pub others : List Uncovered
+  pub first : w .left ≡ lastOf r s ∷ others
   pub walking : Walking t k w
   pub kept : Kept w r
   pub few : k ≤ 62
-  pub walkable : Walkable row ss zs (o .node) (p .drawing) (o .shape)
+  pub walkable : Walkable row ss zs (lastOf r s .node) (p .drawing) s
   pub cell : CellHeld l row (p .cell)
   pub sound : SoundCell (length (l .bins)) (p .cell)
   pub drawing : SoundDrawing (length (p .cell .pins)) (p .drawing)

@@ -8,7 +8,6 @@ use sheets::library::PatternRow;
 use sheets::tree::TreeRecord;
 ghost use mathlib.Core.Path.{_≡_};
 ghost use mathlib.Core.Bool.{cond};
-ghost use mathlib.Core.List.{_∷_};
 ghost use mathlib.Core.Option.{some};
 ghost use Prim.Native.Nat.{ℕ, _+_, _<_, _≤_};
 ghost use Rattle.fields.specs.Reading.{start};
@@ -19,12 +18,12 @@ ghost use Rattle.covers.specs.Curve.{base};
 ghost use Rattle.covers.specs.CoverSheet.{coverRead};
 ghost use Rattle.covers.specs.Outcome.{withTree};
 ghost use Rattle.results.specs.Public.{coverOf};
-ghost use Rattle.overlay.specs.Held.{symbolLimit, Decoded, LibraryHeld, SheetsHeld};
+ghost use Rattle.overlay.specs.Held.{symbolLimit, LibraryHeld, SheetsHeld};
 ghost use Rattle.judgement.specs.Walk.{Walk, comeTo, comeToInputs, matchAt, taken, step as stepOf, started, walk as walkOf};
 ghost use Rattle.judgement.specs.Judgement.{figures, coverJudged, judgement, PointBounded};
 ghost use Rattle.judgement.specs.Demands.{JudgedWhereSound};
 ghost use Rattle.judge.specs.Public.{ofCoverJudged};
-ghost use Rattle.judge.specs.Inside.{nothingYet, arrived, pushed, popped, Kept, Opens, Entering, Taking, SteppedIs, Stepping, Judging};
+ghost use Rattle.judge.specs.Inside.{nothingYet, arrived, pushed, popped, lastOf, Kept, Opens, Entering, Taking, SteppedIs, Stepping, Judging};
 
 // What the judge of covers answers: area and arrival, or document 02's number and the place.
 pub enum CoverJudged {
@@ -160,9 +159,9 @@ fn is_legal(held: u32, highest: u32, load: u32) -> bool
 
 // The lowest of what is to be covered, by the pattern in a row.
 fn take_match<'a>(walk: WalkRecord, row: &'a [u32], symbols: &'a [u32], sizes: &'a [u8]) -> Stepped
-    requires { ⌜ ((l : Library) × ((t : Tree) × ((k : ℕ) × ((p : Pattern) × ((w : Walk) × Taking l t (now row) (now symbols) (now sizes) k p w walk))))) ⌝ }
-    ensures { λ r. ⌜ ((l : Library) (t : Tree) (k : ℕ) (p : Pattern) (w : Walk) (number : ℕ) → (h : Taking l t (now (row .entry)) (now (symbols .entry)) (now (sizes .entry)) k p w walk) →
-        SteppedIs (taken l w (h .o) (matchAt number (h .o) (some p))) r) ⌝ }
+    requires { ⌜ ((l : Library) × ((t : Tree) × ((k : ℕ) × ((p : Pattern) × ((s : Shape) × ((w : Walk) × Taking l t (now row) (now symbols) (now sizes) k p s w walk)))))) ⌝ }
+    ensures { λ r. ⌜ ((l : Library) (t : Tree) (k : ℕ) (p : Pattern) (s : Shape) (w : Walk) (number : ℕ) → Taking l t (now (row .entry)) (now (symbols .entry)) (now (sizes .entry)) k p s w walk →
+        SteppedIs (taken l w (lastOf walk s) (matchAt number (lastOf walk s) (some p))) r) ⌝ }
 {
     let top = walk.count - 1;
     let node = walk.nodes[top] as usize;

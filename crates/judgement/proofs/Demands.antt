@@ -1,14 +1,13 @@
 -- The judge's answers meet the demands, from the bytes of the three sheets; and a word says its answer.
-use Prim.Native.Nat.{ℕ, suc, _+_, _*_, _^_, _≤_, _<_}
+use Prim.Native.Nat.{ℕ, suc, _+_, _*_, _^_, _≤_}
 use mathlib.Core.Path.{_≡_, refl, sym, ap, ap₂, subst, _∙_}
-use mathlib.Core.Logic.{_↔_}
 use mathlib.Core.Bool.{Bool, true, false, false≢true, _&&_, cond}
 use mathlib.Core.List.{List, [], _∷_}
 use mathlib.Core.Option.{Option, none, some}
 use native.Mathlib.Omega.{arith}
-use lib.Dec.{leb, eqb}
-use lib.ListN.{getD, length}
-use borrow.Author.Tests.{lt-ltb, le-ltb, leb-true, eq-eqb}
+use lib.Dec.{leb}
+use lib.ListN.{length}
+use borrow.Author.Tests.{lt-ltb, le-ltb, leb-true}
 use Rattle.bits.specs.declared.Cursor.{Cursor}
 use Rattle.fields.specs.declared.Scan.{Scan}
 use Rattle.fields.specs.declared.Scan.the-variants.{At, Refused}
@@ -22,11 +21,10 @@ use Rattle.sheets.proofs.Sound.{library-limits, tree-limits}
 use Rattle.covers.specs.Capacity.{capacity, workWords}
 use Rattle.covers.specs.Cover.{Point, Placed, Cover}
 use Rattle.covers.specs.Tradeoff.{same}
-use Rattle.covers.specs.CoverSheet.{arrivalWidth, coverRead, coverSheet, CoverReads}
+use Rattle.covers.specs.CoverSheet.{arrivalWidth, coverRead, CoverReads}
 use Rattle.covers.specs.Outcome.{mapBytes, lent, withLibrary, withTree, operation, mapOutcome}
 use Rattle.covers.specs.Answer.{mapAnswer}
 use Rattle.covers.specs.Promise.{RootCover}
-use Rattle.covers.proofs.Basics.{tests}
 use Rattle.covers.proofs.Points.{point-path, same-true, same-refl}
 use Rattle.covers.proofs.Determined.{placed-determines}
 use Rattle.covers.proofs.ReadBack.{cover-reads}
@@ -34,7 +32,7 @@ use Rattle.covers.proofs.FromSheets.{cover-fits}
 use Rattle.covers.proofs.Demands.{map-demands}
 use Rattle.judgement.specs.Walk.{Uncovered, Walk, matchNumber, started, step, ended, onward, walk}
 use Rattle.judgement.specs.Judgement.{sheetNumber, figuresNumber, figures, coverJudged, judgement, accepted, pointWord, ofPointWord, PointBounded}
-use Rattle.judgement.specs.Demands.{Listing, SaidExactly, JudgeDemands, JudgedWhereSound}
+use Rattle.judgement.specs.Demands.{Listing, SaidExactly, JudgedWhereSound}
 use Rattle.judgement.proofs.Walking.{answer-none, walk-legal}
 use Rattle.judgement.proofs.Sheet as Sheet
 

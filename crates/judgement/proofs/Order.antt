@@ -1,9 +1,9 @@
 -- What is still to be covered stands in order: so the lowest is the first, and one step of a walk is known.
-use Prim.Native.Nat.{ℕ, suc, _+_, _≤_, _<_}
+use Prim.Native.Nat.{ℕ, _+_, _≤_, _<_}
 use mathlib.Core.Path.{_≡_, refl, sym, ap, subst, _∙_}
-use mathlib.Core.Logic.{_⊎_, inl, inr, ⊎-elim, _≢_}
-use mathlib.Core.Bool.{Bool, true, false, _&&_, _||_, not, cond, false≢true, true≢false}
-use mathlib.Core.List.{List, [], _∷_, List·Memᴰ, List·Memᴰ·head, List·Memᴰ·tail, List·Memᴰ·not-nil}
+use mathlib.Core.Logic.{_⊎_, ⊎-elim, _≢_}
+use mathlib.Core.Bool.{Bool, true, false, _&&_, not, cond, false≢true}
+use mathlib.Core.List.{List, [], _∷_, List·Memᴰ, List·Memᴰ·head, List·Memᴰ·tail}
 use mathlib.Core.Option.{Option, none, some, Option·map, Option·none-ne-some, Option·some-injective}
 use native.Mathlib.Nat.{le-refl}
 use native.Mathlib.Omega.{arith}
@@ -13,10 +13,10 @@ use borrow.Author.Tests.{eq-eqb, ne-eqb, eqb-true, eqb-false, le-ltb, lt-ltb}
 use Rattle.sheets.specs.Model.{Shape, leaf, inv, nand, size, Cell, Library, Pattern, patterns}
 use Rattle.covers.specs.Lists.{any, keepIf, select, firstSuch}
 use Rattle.covers.specs.Match.{Input, Match, matched, legal, pinLoad, IsMatch}
-use Rattle.covers.specs.Cover.{Point, Placed, raised, beside, late, leafPoint, feeds, inputDelay}
+use Rattle.covers.specs.Cover.{Point, Placed, raised, feeds, inputDelay}
 use Rattle.covers.specs.Curve.{gates}
 use Rattle.covers.proofs.Basics.{each, FirstOf, nowhere, somewhere, first-of, lt-or-le}
-use Rattle.covers.proofs.Matching.{Spread, gates-lt-size, size-pos}
+use Rattle.covers.proofs.Matching.{Spread, size-pos}
 use Rattle.covers.proofs.Matching as matching
 use Rattle.judgement.specs.Order.{Apart, last, next}
 use Rattle.judgement.specs.Walk.{Uncovered, Walk, comeTo, comeToInputs, lowestAt, others, matchAt, taken, placedAt, step}

@@ -1,26 +1,23 @@
 -- What a walk comes to its end with is a legal cover, and every legal cover is walked to its end.
 use Prim.Native.Nat.{ℕ, suc, _+_, _≤_, _<_}
 use mathlib.Core.Path.{_≡_, refl, sym, ap, ap₂, subst, _∙_}
-use mathlib.Core.Logic.{_≢_, _↔_, ⊎-elim}
-use mathlib.Core.Bool.{Bool, true, false}
+use mathlib.Core.Logic.{_≢_, _↔_}
 use mathlib.Core.List.{List, [], _∷_, _++_, append-nil, append-assoc, cons≢nil, head-eq-of-cons-eq, tail-eq-of-cons-eq}
 use mathlib.Core.Option.{Option, none, some, Option·none-ne-some}
 use native.Mathlib.Nat.{le-refl}
 use native.Mathlib.Omega.{arith}
 use lib.ListN.{getElem?, length, length-append}
-use lib.Dec.{eqb}
-use borrow.Author.Tests.{eqb-true, eqb-false}
 use Rattle.fields.specs.Answer.{Answer, refused, success}
-use Rattle.sheets.specs.Model.{Shape, leaf, inv, nand, size, Cell, Library, Pattern, patterns, Tree}
+use Rattle.sheets.specs.Model.{Shape, leaf, inv, nand, size, Cell, Library, patterns, Tree}
 use Rattle.covers.specs.Match.{Input, Match, IsMatch, joined, laid, matched, pinLoad}
 use Rattle.covers.specs.Cover.{Point, Placed, Cover, IsCover, bare, matching, AreCovers, done, more, beside, late, raised, leafPoint, leafCover, nothing, together, delayed, topped, feeds, inputDelay}
 use Rattle.covers.specs.Curve.{gates}
 use Rattle.covers.specs.Promise.{RootCover}
 use Rattle.covers.proofs.Points.{point-path}
-use Rattle.covers.proofs.Matching.{Whenever, never, holds, whenever, implied, match-inside}
+use Rattle.covers.proofs.Matching.{Whenever, never, holds, whenever, match-inside}
 use Rattle.judgement.specs.Order.{Apart, last, next}
-use Rattle.judgement.specs.Walk.{Uncovered, Walk, comeTo, comeToInputs, started, matchAt, step, matchNumber, ended, onward, walk}
-use Rattle.judgement.proofs.Order.{come-apart, inputs-apart, matched-is, match-found, after, there, step-some, StepIs, wrong, right, step-is, step-past}
+use Rattle.judgement.specs.Walk.{Uncovered, Walk, comeTo, comeToInputs, started, matchAt, ended, onward, walk}
+use Rattle.judgement.proofs.Order.{come-apart, inputs-apart, match-found, after, there, step-some, StepIs, wrong, right, step-is}
 
 -- ---- covers of several nodes
 

@@ -10,9 +10,6 @@ use Rattle.judge.specs.Inside.{slowest, Kept, Entering}
 use Rattle.judge.proofs.Entering.{from, from-none, InputRead, input-read}
 use Rattle.judge.proofs.come_to_inputs.Statement.{statement}
 use Rattle.judge.proofs.come_to_inputs.Tie as tie
-use Rattle.judge.proofs.come_to_inputs.Reads as reads
-use Rattle.judge.proofs.come_to_inputs.Lts as lts
-use Rattle.judge.proofs.come_to.Reads as come-to-reads
 
 abbrev Inv-loop : tie.InvT-loop
 Inv-loop row symbols load delay walked next₀ k₀ next k =

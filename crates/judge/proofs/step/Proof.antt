@@ -4,12 +4,9 @@ use native.Mathlib.Omega.{arith}
 use Prim.Native.Nat.{_+_, _-_, _*_}
 use Rattle.sheets.specs.Layout.{rowWords}
 use Rattle.overlay.proofs.Patterns.{patternAt}
-use Rattle.judge.proofs.Stepping.{count-few, wrong-past, wrong-node, wrong-pattern, pattern-small, row-inside, taking, made}
+use Rattle.judge.proofs.Stepping.{count-few, wrong-past, wrong-node, wrong-pattern, row-inside, taking, made}
 use Rattle.judge.proofs.step.Statement.{statement}
 use Rattle.judge.proofs.step.Tie as tie
-use Rattle.judge.proofs.step.Reads as reads
-use Rattle.judge.proofs.step.Lts as lts
-use Rattle.judge.proofs.take_match.Reads as take-match-reads
 
 returns : tie.Need-returns
 returns c = let a = c .before .before .before .before .args in λ l t k w h. wrong-past h (a .node) (a .pattern) (c .if1 .taken)
@@ -51,31 +48,16 @@ take-match-requires : tie.Need-take-match-requires
 take-match-requires c κs =
     let first = c .before .before .before .before .before .before .before .before in
     let p = first .pre in
-    let at = rowWords * first .args .pattern in (
-      p .0,
-      (
-        p .1 .0,
-        (
-          p .1 .1 .0,
-          (
-            patternAt (p .0) (first .args .pattern),
-            (
-              p .1 .1 .1 .0,
-              taking (p .1 .1 .1 .1) (first .args .node) (first .args .pattern) (omega (arith, c .before .before .before .before .if1 .left)) (c .before .before .if2 .left) (omega (arith, c .before .if3 .left)) (at + rowWords - at) (omega arith),
-            ),
-          ),
-        ),
-      ),
-    )
+    let at = rowWords * first .args .pattern in
+    (p .0, (p .1 .0, (p .1 .1 .0, (patternAt (p .0) (first .args .pattern), (_, (p .1 .1 .1 .0, taking (p .1 .1 .1 .1) (first .args .node) (first .args .pattern) (omega (arith, c .before .before .before .before .if1 .left)) (c .before .before .if2 .left) (omega (arith, c .before .if3 .left)) (at + rowWords - at) (omega arith)))))))
 
 returns-4 : tie.Need-returns-4
 returns-4 c =
     let a = c .before .before .before .before .before .before .before .before .before .args in
     let at = rowWords * a .pattern in
     λ l t k w h.
-    made h (a .node) (a .pattern) (omega (arith, c .before .before .before .before .before .if1 .left)) (c .before .before .before .if2 .left) (omega (arith, c .before .before .if3 .left)) (at + rowWords - at) (omega arith) (c .take-match .result)
-    (λ number. c .take-match .ensures l t k (patternAt l (a .pattern)) w number
-    (taking h (a .node) (a .pattern) (omega (arith, c .before .before .before .before .before .if1 .left)) (c .before .before .before .if2 .left) (omega (arith, c .before .before .if3 .left)) (at + rowWords - at) (omega arith)))
+    made h (a .node) (a .pattern) (omega (arith, c .before .before .before .before .before .if1 .left)) (c .before .before .before .if2 .left) (omega (arith, c .before .before .if3 .left)) (c .take-match .result)
+    (c .take-match .ensures l t k (patternAt l (a .pattern)) _ w (a .pattern) (taking h (a .node) (a .pattern) (omega (arith, c .before .before .before .before .before .if1 .left)) (c .before .before .before .if2 .left) (omega (arith, c .before .before .if3 .left)) (at + rowWords - at) (omega arith)))
 
 pub step-spec : {M : Type 1} → statement M
 step-spec =

@@ -2,38 +2,30 @@
 use borrow.Author.Needs.{needs}
 use borrow.Author.Tests.{not-true, not-false}
 use native.Mathlib.Omega.{arith}
-use mathlib.Core.Path.{_≡_, refl, sym, ap, subst, _∙_}
-use Rattle.judge.specs.Inside.{Taking}
-use Rattle.judge.proofs.Taking.{Top, top, walkable-read, wrong-load, wrong-shape, Found, found}
+use Rattle.judge.proofs.Taking.{top, wrong-load, wrong-shape, found}
 use Rattle.judge.proofs.take_match.Statement.{statement}
 use Rattle.judge.proofs.take_match.Tie as tie
-use Rattle.judge.proofs.take_match.Reads as reads
-use Rattle.judge.proofs.take_match.Lts as lts
-use Rattle.judge.proofs.come_to_inputs.Reads as come-to-inputs-reads
-use Rattle.judge.proofs.is_legal.Reads as is-legal-reads
-use Rattle.judge.proofs.pop.Reads as pop-reads
-use Rattle.overlay.proofs.walk.Reads as walk-reads
 
 sub-top : tie.Need-sub-top
-sub-top c = top (c .before .before .before .pre .1 .1 .1 .1 .1) .some
+sub-top c = top (c .before .before .before .pre .1 .1 .1 .1 .1 .1) .some
 
 element-copy-out-node : tie.Need-element-copy-out-node
-element-copy-out-node c = let t = top (c .before .before .before .pre .1 .1 .1 .1 .1) in omega (arith, t .some, t .few)
+element-copy-out-node c = let t = top (c .before .before .before .pre .1 .1 .1 .1 .1 .1) in omega (arith, t .some, t .few)
 
 cast-node : tie.Need-cast-node
 cast-node c = search needs
 
 element-copy-out-load : tie.Need-element-copy-out-load
-element-copy-out-load c = let t = top (c .before .before .before .before .pre .1 .1 .1 .1 .1) in omega (arith, t .some, t .few)
+element-copy-out-load c = let t = top (c .before .before .before .before .pre .1 .1 .1 .1 .1 .1) in omega (arith, t .some, t .few)
 
 cast-load : tie.Need-cast-load
 cast-load c = search needs
 
 mul-delay : tie.Need-mul-delay
-mul-delay c = let t = top (c .before .before .before .before .before .pre .1 .1 .1 .1 .1) in omega (arith, t .some, t .few)
+mul-delay c = let t = top (c .before .before .before .before .before .pre .1 .1 .1 .1 .1 .1) in omega (arith, t .some, t .few)
 
 element-copy-out-delay : tie.Need-element-copy-out-delay
-element-copy-out-delay c = let t = top (c .before .before .before .before .before .pre .1 .1 .1 .1 .1) in omega (arith, t .some, t .few)
+element-copy-out-delay c = let t = top (c .before .before .before .before .before .pre .1 .1 .1 .1 .1 .1) in omega (arith, t .some, t .few)
 
 shared-slice-read-is-legal : tie.Need-shared-slice-read-is-legal
 shared-slice-read-is-legal c = search needs
@@ -45,29 +37,29 @@ is-legal-requires : tie.Need-is-legal-requires
 is-legal-requires c κs = search needs
 
 returns : tie.Need-returns
-returns c = λ l t k p w number h. wrong-load h number (c .before .is-legal .ensures) (not-true _ (c .if1 .taken))
+returns c = λ l t k p s w number h. wrong-load h number (c .before .is-legal .ensures) (not-true _ (c .if1 .taken))
 
 walk-requires : tie.Need-walk-requires
-walk-requires c κs = let p = c .before .before .before .before .before .before .before .before .before .before .pre in let h = p .1 .1 .1 .1 .1 in (p .1 .1 .1 .0 .drawing, (h .o .shape, walkable-read h))
+walk-requires c κs = let p = c .before .before .before .before .before .before .before .before .before .before .pre in (p .1 .1 .1 .0 .drawing, (p .1 .1 .1 .1 .0, p .1 .1 .1 .1 .1 .1 .walkable))
 
 returns-2 : tie.Need-returns-2
-returns-2 c = λ l t k p w number h. wrong-shape h number (c .before .before .walk .result) (c .before .before .walk .ensures) (not-true _ (c .if2 .taken))
+returns-2 c = λ l t k p s w number h. wrong-shape h number (c .before .before .walk .result) (c .before .before .walk .ensures) (not-true _ (c .if2 .taken))
 
 shared-slice-read-pop : tie.Need-shared-slice-read-pop
 shared-slice-read-pop c = search needs
 
 pop-requires : tie.Need-pop-requires
-pop-requires c κs = let h = c .before .before .before .before .before .before .before .before .before .before .before .before .before .before .pre .1 .1 .1 .1 .1 in (top h .some, omega (arith, top h .area-small, h .cell .area-is))
+pop-requires c κs = let t = top (c .before .before .before .before .before .before .before .before .before .before .before .before .before .before .pre .1 .1 .1 .1 .1 .1) in (t .some, t .area-small)
 
 come-to-inputs-requires : tie.Need-come-to-inputs-requires
 come-to-inputs-requires c κs =
     let p = c .before .before .before .before .before .before .before .before .before .before .before .before .before .before .before .pre in
     let walk = c .before .before .before .before .walk in
-    let f = found (p .1 .1 .1 .1 .1) 0 (walk .result) (c .before .before .before .before .before .before .is-legal .ensures) (not-false _ (c .before .before .before .before .before .if1 .left)) (walk .ensures) (not-false _ (c .before .before .if2 .left)) (c .pop .ensures) in
+    let f = found (p .1 .1 .1 .1 .1 .1) 0 (walk .result) (c .before .before .before .before .before .before .is-legal .ensures) (not-false _ (c .before .before .before .before .before .if1 .left)) (walk .ensures) (not-false _ (c .before .before .if2 .left)) (c .pop .ensures) in
     (p .0, (f .m, (f .below, f .enters)))
 
 returns-3 : tie.Need-returns-3
-returns-3 c = λ l t k p w number h.
+returns-3 c = λ l t k p s w number h.
     let walk = c .before .before .before .before .before .walk in
     let f = found h number (walk .result) (c .before .before .before .before .before .before .before .is-legal .ensures) (not-false _ (c .before .before .before .before .before .before .if1 .left)) (walk .ensures) (not-false _ (c .before .before .before .if2 .left)) (c .before .pop .ensures) in
     f .makes (c .come-to-inputs .result) (c .come-to-inputs .ensures l (f .m) (f .below) (f .enters))

@@ -3,11 +3,10 @@ use borrow.Author.Needs.{needs}
 use borrow.Author.Tests.{not-true, not-false}
 use native.Mathlib.Omega.{arith}
 use Prim.Native.Nat.{ℕ, suc, _-_, _≤_}
-use mathlib.Core.Path.{_≡_, refl, sym, ap, subst, _∙_}
-use mathlib.Core.List.{_∷_, List}
+use mathlib.Core.Path.{_≡_, sym, ap, subst}
+use mathlib.Core.List.{[], _∷_}
 use lib.ListN.{length, take, drop, getD}
 use Rattle.sheets.specs.Model.{Library, Tree}
-use Rattle.covers.specs.Cover.{Placed}
 use Rattle.results.specs.Public.{placedOf}
 use Rattle.overlay.specs.Held.{Decoded}
 use Rattle.judgement.specs.Walk.{started}
@@ -17,11 +16,7 @@ use Rattle.judge.specs.declared.WalkRecord.{WalkRecord}
 use Rattle.judge.proofs.Walking.{symbol-small, symbols-long, sizes-long, load-small, started-kept, placed-drop, placed-end, Gone, gone-start, gone-early, gone-end, gone-wrong, gone-next}
 use Rattle.judge.proofs.walk_cover.Statement.{statement}
 use Rattle.judge.proofs.walk_cover.Tie as tie
-use Rattle.judge.proofs.walk_cover.Reads as reads
 use Rattle.judge.proofs.walk_cover.Lts as lts
-use Rattle.judge.proofs.begin.Reads as begin-reads
-use Rattle.judge.proofs.come_to.Reads as come-to-reads
-use Rattle.judge.proofs.step.Reads as step-reads
 
 abbrev Inv-loop : tie.InvT-loop
 Inv-loop rows symbols sizes nodes patterns count walk₀ k₀ walk k =
@@ -118,29 +113,28 @@ loop-again c =
           (not-false _ (c .before .if1 .left)),
     )
 
+-- After the loop all listed matches were walked over.
+gone-all : (c : tie.After-loop Inv-loop μ-loop) →
+    let a = c .before .before .before .before .before .before .before .before .before .before .args in
+    (l : Library) (t : Tree) → Judging l t (a .rows .now) (a .tree) →
+    Gone l t (placedOf (take (a .cover .count) (a .cover .nodes)) (take (a .cover .count) (a .cover .patterns))) (a .cover .count) (c .before .loop .walk)
+gone-all c l t h =
+    let a = c .before .before .before .before .before .before .before .before .before .before .args in
+    let i = c .before .loop in
+    let all : i .k ≡ a .cover .count = omega (arith, i .inv .0, c .loop-test .left) in
+    subst (λ (j : ℕ). Gone l t (placedOf (take (a .cover .count) (a .cover .nodes)) (take (a .cover .count) (a .cover .patterns))) j (i .walk)) all
+    (i .inv .1 l t (h .decoded) (started-kept h _ _ (c .before .before .before .before .begin .ensures) (c .before .before .come-to .ensures)))
+
+none-listed : (c : tie.Start Inv-loop μ-loop) → let a = c .args in drop (a .cover .count) (placedOf (take (a .cover .count) (a .cover .nodes)) (take (a .cover .count) (a .cover .patterns))) ≡ []
+none-listed c = let a = c .args in placed-end (a .cover .nodes) (a .cover .patterns) (a .cover .count) (room c .0) (room c .1)
+
 returns-2 : tie.Need-returns-2 Inv-loop μ-loop
 unfolding ofCoverJudged
-returns-2 c =
-    let first = c .before .before .before .before .before .before .before .before .before .before .before .before in
-    let a = first .args in
-    let i = c .before .before .before .loop in
-    let all : i .k ≡ a .cover .count = omega (arith, i .inv .0, c .before .before .loop-test .left) in
-    λ l t h.
-    let g = subst (λ (j : ℕ). Gone l t (placedOf (take (a .cover .count) (a .cover .nodes)) (take (a .cover .count) (a .cover .patterns))) j (i .walk)) all
-    (i .inv .1 l t (h .decoded) (started-kept h _ _ (c .before .before .before .before .before .before .begin .ensures) (c .before .before .before .before .come-to .ensures))) in
-    gone-early l t _ g (placed-end (a .cover .nodes) (a .cover .patterns) (a .cover .count) (room first .0) (room first .1)) (c .if2 .taken)
+returns-2 c = λ l t h. gone-early l t _ (gone-all (c .before .before) l t h) (none-listed (c .before .before .before .before .before .before .before .before .before .before .before .before)) (c .if2 .taken)
 
 returns-3 : tie.Need-returns-3 Inv-loop μ-loop
 unfolding ofCoverJudged
-returns-3 c =
-    let first = c .before .before .before .before .before .before .before .before .before .before .before .before in
-    let a = first .args in
-    let i = c .before .before .before .loop in
-    let all : i .k ≡ a .cover .count = omega (arith, i .inv .0, c .before .before .loop-test .left) in
-    λ l t h.
-    let g = subst (λ (j : ℕ). Gone l t (placedOf (take (a .cover .count) (a .cover .nodes)) (take (a .cover .count) (a .cover .patterns))) j (i .walk)) all
-    (i .inv .1 l t (h .decoded) (started-kept h _ _ (c .before .before .before .before .before .before .begin .ensures) (c .before .before .before .before .come-to .ensures))) in
-    gone-end l t _ g (placed-end (a .cover .nodes) (a .cover .patterns) (a .cover .count) (room first .0) (room first .1)) (omega (arith, c .if2 .left))
+returns-3 c = λ l t h. gone-end l t _ (gone-all (c .before .before) l t h) (none-listed (c .before .before .before .before .before .before .before .before .before .before .before .before)) (omega (arith, c .if2 .left))
 
 pub walk-cover-spec : {M : Type 1} → statement M
 walk-cover-spec =
