@@ -1,6 +1,6 @@
 -- A match's inputs, come to from the last to the first.
 use Prim.Native.Nat.{ℕ, _+_, _-_, _*_, _≤_, _<_}
-use mathlib.Core.Path.{_≡_, refl, sym, ap, subst, _∙_}
+use mathlib.Core.Path.{_≡_, sym, ap, subst, _∙_}
 use mathlib.Core.List.{List, _∷_, List·Memᴰ}
 use native.Mathlib.Nat.{mul-le-mul}
 use native.Mathlib.Numerals.{add-one}
@@ -30,7 +30,7 @@ module _ {l : Library} {row ss : List ℕ} {walked : Walked} {load delay₀ : �
 
   pub from-none : from (walked .count) ≡ w
   unfolding comeToInputs
-  from-none = ap (λ (is : List Input). comeToInputs l cell load delay₀ is w) (ap (λ (i : ℕ). drop i (m .inputs)) (h .walks .count-is) ∙ drop-length (m .inputs))
+  from-none = ap (λ (is : List Input). comeToInputs l cell load delay₀ is w) (ap (λ (i : ℕ). drop i (m .inputs)) (h .held .walks .count-is) ∙ drop-length (m .inputs))
 
   -- What the loop reads of input k.
   abbrev figures : ℕ → ℕ
@@ -58,19 +58,19 @@ module _ {l : Library} {row ss : List ℕ} {walked : Walked} {load delay₀ : �
   unfolding comeToInputs inputDelay feeds delay pinLoad
   input-read k g =
       let is = m .inputs in
-      let here : k < length is = omega (arith, h .walks .count-is) in
+      let here : k < length is = omega (arith, h .held .walks .count-is) in
       let i = getD is k noInput in
       let among : List·Memᴰ i is = at-mem is k noInput here in
-      let pin-is = noted (λ (j : Input). j .pin) (walked .pins) is k (h .walks .pins-are) (h .few) here in
-      let node-is = noted (λ (j : Input). j .node) (walked .nodes) is k (h .walks .nodes-are) (h .few) here in
+      let pin-is = noted (λ (j : Input). j .pin) (walked .pins) is k (h .held .walks .pins-are) (h .held .few) here in
+      let node-is = noted (λ (j : Input). j .node) (walked .nodes) is k (h .held .walks .nodes-are) (h .held .few) here in
       let pin = pinAt cell (i .pin) in
-      let held : PinHeld l row (figures k) pin = subst (λ (p : ℕ). PinHeld l row (figuresAt + pinWords * p) pin) (sym pin-is) (h .cell .pins-are (i .pin) (h .pinned i among)) in
-      let limits : (pin .intrinsic ≤ 65535) × (pin .drive ≤ 255) = at-all (λ (q : Pin). (q .intrinsic ≤ 65535) × (q .drive ≤ 255)) (cell .pins) (i .pin) (record { bin = 0; intrinsic = 0; drive = 0 }) (omega arith, omega arith) (λ q j. (h .sound .pins q j .1, h .sound .pins q j .2)) in
+      let held : PinHeld l row (figures k) pin = subst (λ (p : ℕ). PinHeld l row (figuresAt + pinWords * p) pin) (sym pin-is) (h .held .cell .pins-are (i .pin) (h .held .pinned i among)) in
+      let limits : (pin .intrinsic ≤ 65535) × (pin .drive ≤ 255) = at-all (λ (q : Pin). (q .intrinsic ≤ 65535) × (q .drive ≤ 255)) (cell .pins) (i .pin) (record { bin = 0; intrinsic = 0; drive = 0 }) (omega arith, omega arith) (λ q j. (h .held .sound .pins q j .1, h .held .sound .pins q j .2)) in
       record {
-        long = h .cell .long;
+        long = h .held .cell .long;
         symbols-long = h .symbols-long;
-        k-small = omega (arith, h .few);
-        pin-small = omega (arith, pin-is, h .pinned i among, h .sound .few-pins);
+        k-small = omega (arith, h .held .few);
+        pin-small = omega (arith, pin-is, h .held .pinned i among, h .held .sound .few-pins);
         node-small = omega (arith, node-is, h .opens i among .1);
         load-small = omega (arith, held .load-is, at-all (λ (x : ℕ). x ≤ 255) (l .bins) (pin .bin) 0 (omega arith) (h .loads-small));
         intrinsic-small = omega (arith, held .intrinsic-is, limits .0);

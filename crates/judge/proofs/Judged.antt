@@ -6,7 +6,6 @@ use mathlib.Core.List.{List}
 use native.Mathlib.Omega.{arith}
 use Rattle.bits.specs.declared.Cursor.{Cursor}
 use Rattle.fields.specs.declared.Fault.{Fault}
-use Rattle.fields.specs.declared.Fault.the-variants.{Truncated, Tail, Range, Drawing, Size}
 use Rattle.fields.specs.declared.Scan.{Scan}
 use Rattle.fields.specs.declared.Scan.the-variants.{At, Refused}
 use Rattle.fields.specs.Reading.{start, place}
@@ -45,10 +44,10 @@ figures-bounded l t cs c e = go (walk l 0 (c .placed) (started t)) refl
 
     compared : (p : Point) (b : Bool) → same p (c .point) ≡ b → PointBounded (cond b (success p) (refused figuresNumber 0))
     compared p true f = unfold PointBounded in let k = same-true p (c .point) f in (omega (arith, ap (λ (q : Point). q .area) k, fits .area), omega (arith, ap (λ (q : Point). q .arrival) k, fits .arrival))
-    compared p false f = unfold PointBounded in (omega arith, omega arith, omega arith)
+    compared p false f = unfold PointBounded in (omega arith, omega arith)
 
     go : (a : Answer Point) → walk l 0 (c .placed) (started t) ≡ a → PointBounded (figures (c .point) a)
-    go (refused n k) f = unfold figures PointBounded in let r = walk-refused l 0 (c .placed) (started t) f in (omega (arith, r .number-is), omega (arith, r .number-is), omega (arith, r .place-in, fits .count))
+    go (refused n k) f = unfold figures PointBounded in let r = walk-refused l 0 (c .placed) (started t) f in (omega (arith, r .number-is), omega (arith, r .place-in, fits .count))
     go (success p) f = unfold figures in compared p (same p (c .point)) refl
 
 module _ (cs : List ℕ) (read : CoverRead) (h : CoverIs cs read) where
@@ -68,7 +67,7 @@ module _ (cs : List ℕ) (read : CoverRead) (h : CoverIs cs read) where
 
   pub cover-unread-bounded : (f : Fault) (p : ℕ) → read .scan ≡ Refused f p → PointBounded (ofCoverJudged (Judged.Refused sheetNumber p))
   unfolding PointBounded ofCoverJudged
-  cover-unread-bounded f p e = (omega arith, omega arith, omega (arith, h .near, ap place e))
+  cover-unread-bounded f p e = (omega arith, omega (arith, h .near, ap place e))
 
 -- ---- a tree and a library
 
@@ -81,9 +80,9 @@ module _ (ts : List ℕ) (read : TreeRead) (h : TreeIs ts read) where
   unfolding withTree ofCoverJudged
   tree-refused f fault p n e k = ap (λ (m : ℕ). refused m p) k ∙ ap (λ (z : Scan). withTree f (treeOf ts start .0, z)) (sym e ∙ h .scan-is)
 
-  pub tree-bounded : (fault : Fault) (p n : ℕ) → read .scan ≡ Refused fault p → n ≡ treeNumber fault → n ≤ 16 → PointBounded (ofCoverJudged (Judged.Refused n p))
-  unfolding PointBounded ofCoverJudged treeNumber
-  tree-bounded fault p n e k few = (omega (arith, k), omega (arith, few), omega (arith, h .near, ap place e))
+  pub tree-bounded : (fault : Fault) (p n : ℕ) → read .scan ≡ Refused fault p → n ≤ 16 → PointBounded (ofCoverJudged (Judged.Refused n p))
+  unfolding PointBounded ofCoverJudged
+  tree-bounded fault p n e few = (omega (arith, few), omega (arith, h .near, ap place e))
 
 module _ (ls : List ℕ) (read : LibraryRead) (h : LibraryIs ls read) (ts cs : List ℕ) where
   pub library-answered : (r : CoverJudged) (q : Cursor) → read .scan ≡ At q → ofCoverJudged r ≡ withTree (coverJudged (coverRead cs start) (libraryOf ls start .0)) (treeOf ts start) → ofCoverJudged r ≡ judgement ls ts cs
@@ -94,16 +93,9 @@ module _ (ls : List ℕ) (read : LibraryRead) (h : LibraryIs ls read) (ts cs : L
   unfolding judgement withLibrary ofCoverJudged
   library-refused fault p n e k = ap (λ (m : ℕ). refused m p) k ∙ ap (λ (z : Scan). withLibrary (coverJudged (coverRead cs start)) (libraryOf ls start .0, z) (treeOf ts start)) (sym e ∙ h .scan-is)
 
-  pub library-bounded : (fault : Fault) (p n : ℕ) → read .scan ≡ Refused fault p → n ≡ libraryNumber fault → PointBounded (ofCoverJudged (Judged.Refused n p))
+  pub library-bounded : (fault : Fault) (p n : ℕ) → read .scan ≡ Refused fault p → n ≤ 6 → PointBounded (ofCoverJudged (Judged.Refused n p))
   unfolding PointBounded ofCoverJudged
-  library-bounded fault p n e k = let b = number-bounds fault in (omega (arith, k, b .0), omega (arith, k, b .1), omega (arith, h .near, ap place e))
-    where
-      number-bounds : (f : Fault) → (1 ≤ libraryNumber f) × (libraryNumber f ≤ 255)
-      number-bounds Truncated = unfold libraryNumber in (omega arith, omega arith)
-      number-bounds Tail = unfold libraryNumber in (omega arith, omega arith)
-      number-bounds Range = unfold libraryNumber in (omega arith, omega arith)
-      number-bounds Drawing = unfold libraryNumber in (omega arith, omega arith)
-      number-bounds Size = unfold libraryNumber in (omega arith, omega arith)
+  library-bounded fault p n e few = (omega (arith, few), omega (arith, h .near, ap place e))
 
 -- What is demanded of the answer.
 pub demanded : (ls ts cs : List ℕ) (r : CoverJudged) → ofCoverJudged r ≡ judgement ls ts cs → JudgedWhereSound ls ts cs (ofCoverJudged r)

@@ -138,11 +138,7 @@ module _ {l : Library} {t : Tree} {row ss zs : List ℕ} {k : ℕ} {p : Pattern}
       entering : {walked : Walked} → Walks is walked → length is ≤ 16 → ((i : Input) → List·Memᴰ i is → i .pin < length (p .cell .pins)) → Entering l row ss walked (o .load) (o .delay) (popped r (p .cell .area)) match below
       entering walks few pinned = record {
         kept = kept-popped kept (p .cell .area);
-        walks = walks;
-        cell = h .cell;
-        sound = h .sound;
-        few = few;
-        pinned = pinned;
+        held = record { walks = walks; cell = h .cell; sound = h .sound; few = few; pinned = pinned };
         opens = λ i a. (stands-opens ss zs (i .node) (i .shape) (h .stands (nodeOf i) (in-tree i a)), omega (arith, node-ends 0 (t .shape) (in-tree i a), size-pos (i .shape), h .tree .size));
         symbols-long = h .walkable .subject .symbols-long;
         symbols-small = h .symbols-small;

@@ -15,7 +15,7 @@ use Rattle.covers.specs.Curve.{base}
 use Rattle.covers.specs.Tradeoff.{Node, nodes}
 use Rattle.overlay.specs.declared.Walked.{Walked}
 use Rattle.overlay.specs.Standing.{Stands}
-use Rattle.overlay.specs.Held.{symbolLimit, CellHeld, Walkable, Walks, Decoded}
+use Rattle.overlay.specs.Held.{symbolLimit, CellHeld, Walkable, MatchHeld, Decoded}
 use Rattle.judgement.specs.Walk.{Uncovered, Walk, comeToInputs}
 use Rattle.judgement.specs.Order.{Apart}
 use Rattle.judge.specs.declared.WalkRecord.{WalkRecord}
@@ -66,16 +66,12 @@ Opens symbol (nand s t) = symbol ≡ nandSymbol
 
 -- What a pin adds at the most: an intrinsic delay of 16 bits, and a drive times a load of 8 bits each.
 abbrev pub slowest : ℕ
-slowest = 130560
+slowest = 65535 + 255 * 255
 
 -- A match as the walk over its pattern found it, with its pattern's row, and the walk that comes to its inputs: there is room for each.
 pub record Entering (l : Library) (row ss : List ℕ) (walked : Walked) (load delay : ℕ) (r : WalkRecord) (m : Match) (w : Walk) : Type 0 where
   pub kept : Kept w r
-  pub walks : Walks (m .inputs) walked
-  pub cell : CellHeld l row (m .pattern .cell)
-  pub sound : SoundCell (length (l .bins)) (m .pattern .cell)
-  pub few : length (m .inputs) ≤ 16
-  pub pinned : (i : Input) → List·Memᴰ i (m .inputs) → i .pin < length (m .pattern .cell .pins)
+  pub held : MatchHeld l walked row m
   pub opens : (i : Input) → List·Memᴰ i (m .inputs) → Opens (getD ss (i .node) 0) (i .shape) × (i .node < 64)
   pub symbols-long : length ss ≡ 64
   pub symbols-small : (k : ℕ) → getD ss k 0 ≤ symbolLimit

@@ -2,7 +2,6 @@
 use fields::Scan;
 use overlay::Walked;
 use results::CoverRecord;
-use sheets::Limits;
 use sheets::library::LibraryRecord;
 use sheets::library::PatternRow;
 use sheets::tree::TreeRecord;

@@ -161,8 +161,10 @@ judge-demands ls ts cs c c′ e e′ =
     let said : SaidExactly cs l t (judgement ls ts cs) = subst (SaidExactly cs l t) (sym (judged-cover ls ts cs c c′ e e′)) (worth (judged cs l t)) in
     record {
       exactly = said;
-      room = λ d h. cover-reads (cover-fits (library-limits ls (sound e)) (tree-limits ts (sound e′)) h);
-      one-sheet = λ d h r. Sheet.one-sheet cs d r;
+      sheets-exactly = λ bytes p. (
+        λ e. let r = said .accepted-exactly p .0 e in (r .0, Sheet.one-sheet cs (r .0) (r .1) bytes, r .2, r .3),
+        λ r. let reads = cover-reads (cover-fits (library-limits ls (sound e)) (tree-limits ts (sound e′)) (r .2)) in said .accepted-exactly p .1 (r .0, subst (CoverReads (r .0)) (sym (r .1)) reads, r .2, r .3),
+      );
       from-map = λ output work h.
           let enough = lent-enough mapBytes output work (withLibrary (mapAnswer capacity) (library ls start) (tree ts start)) h in
           let best = map-demands ls ts output work c c′ (enough .0) (enough .1) e e′ .sheet-is cs h in

@@ -3,4 +3,3 @@ pub mod Order
 pub mod Walking
 pub mod Sheet
 pub mod Demands
-pub mod SpecimenTable

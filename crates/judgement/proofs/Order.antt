@@ -2,7 +2,7 @@
 use Prim.Native.Nat.{ℕ, _+_, _≤_, _<_}
 use mathlib.Core.Path.{_≡_, refl, sym, ap, subst, _∙_}
 use mathlib.Core.Logic.{_⊎_, ⊎-elim, _≢_}
-use mathlib.Core.Bool.{Bool, true, false, _&&_, not, cond, false≢true}
+use mathlib.Core.Bool.{Bool, true, false, not, cond, false≢true}
 use mathlib.Core.List.{List, [], _∷_, List·Memᴰ, List·Memᴰ·head, List·Memᴰ·tail}
 use mathlib.Core.Option.{Option, none, some, Option·map, Option·none-ne-some, Option·some-injective}
 use native.Mathlib.Nat.{le-refl}
@@ -85,20 +85,19 @@ module _ {low high : ℕ} {o : Uncovered} {os : List Uncovered} (r : Apart low h
 
   pub lowest-other : {n : ℕ} → n ≢ o .node → lowestAt n (o ∷ os) ≡ none
   unfolding lowestAt
-  lowest-other {n} d = first-none _ (o ∷ os) (each {P = λ q. eqb (q .node) n && not (any (λ q. ltb (q .node) n) (o ∷ os)) ≡ false} (rw (ne-eqb (o .node) n (λ e. d (sym e)))) later)
+  lowest-other {n} d = ⊎-elim low-one high-one (lt-or-le (o .node) n)
     where
-      later : (q : Uncovered) → List·Memᴰ q os → eqb (q .node) n && not (any (λ q. ltb (q .node) n) (o ∷ os)) ≡ false
-      later q m = ⊎-elim low-one high-one (lt-or-le (o .node) n)
-        where
-          and-false : (b : Bool) → b && false ≡ false
-          and-false true = refl
-          and-false false = refl
+      low-one : o .node < n → cond (any (λ q. ltb (q .node) n) (o ∷ os)) none (firstSuch (λ q. eqb (q .node) n) (o ∷ os)) ≡ none
+      low-one h = unfold any in rw (lt-ltb (o .node) n h)
 
-          low-one : o .node < n → eqb (q .node) n && not (any (λ q. ltb (q .node) n) (o ∷ os)) ≡ false
-          low-one h = unfold any in rw (lt-ltb (o .node) n h) (and-false (eqb (q .node) n))
+      always : (b : Bool) → _≡_ {A = Option Uncovered} (cond b none none) none
+      always true = refl
+      always false = refl
 
-          high-one : n ≤ o .node → eqb (q .node) n && not (any (λ q. ltb (q .node) n) (o ∷ os)) ≡ false
-          high-one h = rw (ne-eqb (q .node) n (λ e. let k = higher q m in omega arith))
+      high-one : n ≤ o .node → cond (any (λ q. ltb (q .node) n) (o ∷ os)) none (firstSuch (λ q. eqb (q .node) n) (o ∷ os)) ≡ none
+      high-one h =
+          rw (first-none (λ q. eqb (q .node) n) (o ∷ os) (each {P = λ q. eqb (q .node) n ≡ false} (ne-eqb (o .node) n (λ e. d (sym e))) (λ q m. ne-eqb (q .node) n (λ e. let k = higher q m in omega arith))))
+          (always (any (λ q. ltb (q .node) n) (o ∷ os)))
 
 -- ---- one match
 

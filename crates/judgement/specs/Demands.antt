@@ -36,10 +36,8 @@ pub record SaidExactly (cs : List ℕ) (l : Library) (t : Tree) (o : Answer Poin
 -- What is demanded of the answer o to the cover sheet cs.
 pub record JudgeDemands (ls ts cs : List ℕ) (l : Library) (t : Tree) (o : Answer Point) : Type 0 where
   pub exactly : SaidExactly cs l t o
-  -- A sheet has room for every legal cover, and says it: so the sheet of every legal cover is accepted.
-  pub room : (c : Cover) → RootCover l t c → CoverReads c (coverSheet c)
-  -- Bytes that are accepted are the sheet of the cover that they say, and no others.
-  pub one-sheet : (c : Cover) → o ≡ success (c .point) → CoverReads c cs → ((k : ℕ) → getD cs k 0 < 256) → cs ≡ coverSheet c
+  -- The same of bytes: they are accepted exactly when they are the sheet of a legal cover of the root, whose figures are the ones answered.
+  pub sheets-exactly : ((k : ℕ) → getD cs k 0 < 256) → (p : Point) → (o ≡ success p) ↔ ((c : Cover) × (cs ≡ coverSheet c) × RootCover l t c × (c .point ≡ p))
   -- Every sheet that map hands over is accepted, with its area and arrival.
   pub from-map : (output work : ℕ) → mapOutcome ls ts output work ≡ success cs → (c : Cover) × CoverReads c cs × BestCover l t c × (o ≡ success (c .point))
 

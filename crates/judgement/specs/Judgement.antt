@@ -56,5 +56,5 @@ ofPointWord w = cond (ltb w accepted) (refused (w / places) (w % places)) (succe
 
 -- The bounds that make a word say its answer.
 unfoldable pub PointBounded : Answer Point → Type 0
-PointBounded (refused number place) = (1 ≤ number) × (number ≤ 255) × (place < places)
+PointBounded (refused number place) = (number ≤ 255) × (place < places)
 PointBounded (success p) = (p .area < 2 ^ areaWidth) × (p .arrival < 2 ^ arrivalWidth)

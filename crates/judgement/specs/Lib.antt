@@ -2,5 +2,4 @@
 pub mod Walk
 pub mod Judgement
 pub mod Demands
-pub mod Specimens
 pub mod Order

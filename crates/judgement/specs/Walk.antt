@@ -1,6 +1,6 @@
 -- Document 02, Paper 1: "The list is walked from the front: each match must stand at the lowest INV or NAND still to be covered."
 use Prim.Native.Nat.{ℕ, suc, _+_}
-use mathlib.Core.Bool.{_&&_, not, cond}
+use mathlib.Core.Bool.{not, cond}
 use mathlib.Core.List.{List, [], _∷_}
 use mathlib.Core.Option.{Option, none, some, Option·map}
 use lib.ListN.{getElem?}
@@ -41,10 +41,10 @@ unfoldable pub started : Tree → Walk
 unfolding comeTo
 started t = comeTo (t .load) 0 0 (t .shape) (record { left = []; point = record { area = 0; arrival = 0 } })
 
--- What is to be covered at node n, if no lower node is still to be covered.
+-- What is to be covered at node n; none if a lower node is still to be covered.
 unfoldable pub lowestAt : ℕ → List Uncovered → Option Uncovered
 unfolding any firstSuch
-lowestAt n os = firstSuch (λ o. eqb (o .node) n && not (any (λ q. ltb (q .node) n) os)) os
+lowestAt n os = cond (any (λ o. ltb (o .node) n) os) none (firstSuch (λ o. eqb (o .node) n) os)
 
 -- What is still to be covered beside it.
 unfoldable pub others : ℕ → List Uncovered → List Uncovered

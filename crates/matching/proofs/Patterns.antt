@@ -16,11 +16,11 @@ use Rattle.sheets.specs.Layout.{tableFrom, rowWords}
 use Rattle.covers.specs.Match.{Input, Match, laid, matched, putFirst, fittingFrom, fitting}
 use Rattle.covers.proofs.Matching.{whenever}
 use Rattle.overlay.specs.declared.Walked.{Walked}
-use Rattle.overlay.specs.Held.{WalkedIs}
+use Rattle.overlay.specs.Held.{WalkedIs, MatchHeld}
 use Rattle.overlay.proofs.Patterns.{missed, hit, FromDrawing, laid-from, matched-laid, noPattern, patternAt, at-hand, row-held}
 use Rattle.matching.specs.Found.{matchWords, matchTable, matchRow}
 use Rattle.sheets.specs.Sound.{SoundCell, SoundLibrary}
-use Rattle.matching.specs.Promises.{Writable, Tried, Ready}
+use Rattle.matching.specs.Promises.{Tried, Ready}
 use Rattle.sheets.proofs.Laws.{table-append}
 use Rattle.sheets.proofs.Tables.{row-at}
 use Rattle.sheets.proofs.Patterns.{SoundPattern, sound-pattern}
@@ -36,7 +36,7 @@ module _ (l : Library) (walked : Walked) (row : List ℕ) (p : Pattern) (n : ℕ
   pub record Numbered (k : ℕ) : Type 0 where
     pub inputs : List Input
     pub fits : matched (p .drawing) n s ≡ some inputs
-    pub writable : Writable l walked row (record { number = k; pattern = p; inputs = inputs })
+    pub writable : MatchHeld l walked row (record { number = k; pattern = p; inputs = inputs })
 
   pub numbered : (k : ℕ) → walked .matched ≡ true → Numbered k
   numbered k e =

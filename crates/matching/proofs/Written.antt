@@ -14,10 +14,9 @@ use Rattle.sheets.specs.Layout.{figuresAt, pinWords, rowWords}
 use Rattle.covers.specs.Match.{Input, Match, pinAt, usable}
 use Rattle.covers.specs.Cover.{feeds}
 use Rattle.overlay.specs.declared.Walked.{Walked}
-use Rattle.overlay.specs.Held.{PinHeld, heldAt, areaAt, highestAt}
+use Rattle.overlay.specs.Held.{PinHeld, heldAt, areaAt, highestAt, MatchHeld}
 use Rattle.overlay.proofs.Patterns.{noInput, noted}
 use Rattle.matching.specs.Found.{inputsAt, inputSize, inputPlace, inputWords, inputsWords, firstIllegal, matchRow}
-use Rattle.matching.specs.Promises.{Writable}
 
 four : {a b c d a′ b′ c′ d′ : ℕ} → a ≡ a′ → b ≡ b′ → c ≡ c′ → d ≡ d′ → _≡_ {A = List ℕ} (a ∷ (b ∷ (c ∷ (d ∷ [])))) (a′ ∷ (b′ ∷ (c′ ∷ (d′ ∷ []))))
 four p q r s = cc
@@ -71,7 +70,7 @@ module _ (l : Library) where
     entryFigures k =
         getD row (figuresOf k + 0) 0 ∷ (getD row (figuresOf k + 1) 0 ∷ (getD row (figuresOf k + 2) 0 ∷ (getD row (figuresOf k + 3) 0 ∷ [])))
 
-    module _ (m : Match) (w : Writable l walked row m) where
+    module _ (m : Match) (w : MatchHeld l walked row m) where
       -- What the loop may read and write.
       pub record Entry (k : ℕ) : Type 0 where
         pub long : length row ≡ rowWords

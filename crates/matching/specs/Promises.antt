@@ -1,25 +1,17 @@
 -- What the functions of this crate are lent and what they promise, by the definitions of matches and of their rows.
-use Prim.Native.Nat.{ℕ, _≤_, _<_}
+use Prim.Native.Nat.{ℕ}
 use mathlib.Core.Path.{_≡_}
 use mathlib.Core.List.{List, List·Memᴰ}
 use lib.ListN.{length}
 use Rattle.sheets.specs.Model.{Shape, Library, Pattern, Tree}
 use Rattle.sheets.specs.Sound.{SoundDrawing, SoundCell}
-use Rattle.covers.specs.Match.{Input, Match, laid}
+use Rattle.covers.specs.Match.{laid}
 use Rattle.covers.specs.Tradeoff.{nodes}
 use Rattle.overlay.specs.declared.Walked.{Walked}
-use Rattle.overlay.specs.Held.{CellHeld, Walks, WalkedIs, Decoded}
+use Rattle.overlay.specs.Held.{CellHeld, WalkedIs, Decoded}
 use Rattle.matching.specs.Found.{matchTable}
 
 -- ---- a match
-
--- A match as the walk found it, with its pattern's row.
-pub record Writable (l : Library) (walked : Walked) (row : List ℕ) (m : Match) : Type 0 where
-  pub walks : Walks (m .inputs) walked
-  pub cell : CellHeld l row (m .pattern .cell)
-  pub sound : SoundCell (length (l .bins)) (m .pattern .cell)
-  pub few : length (m .inputs) ≤ 16
-  pub pinned : (i : Input) → List·Memᴰ i (m .inputs) → i .pin < length (m .pattern .cell .pins)
 
 -- A sound pattern as it was walked over the subtree s at node n, with its row.
 pub record Tried (l : Library) (walked : Walked) (row : List ℕ) (p : Pattern) (n : ℕ) (s : Shape) : Type 0 where

@@ -9,9 +9,10 @@ ghost use lib.ListN.{length};
 ghost use lib.Seq.{sets};
 ghost use Rattle.sheets.specs.Model.{Shape, Library, Pattern, Tree};
 ghost use Rattle.covers.specs.Match.{Match, matched, putFirst, fitting};
+ghost use Rattle.overlay.specs.Held.{MatchHeld};
 ghost use Rattle.matching.specs.Found.{matchWords, inputsAt, inputsWords, matchRow};
 ghost use Rattle.sheets.specs.Layout.{tableFrom};
-ghost use Rattle.matching.specs.Promises.{Writable, Tried, Ready};
+ghost use Rattle.matching.specs.Promises.{Tried, Ready};
 
 // A match's row: its pattern, its cell's area, the first load that is not legal and how many inputs it has, then five words for each input:
 // its node, and the load bin, the load, the intrinsic delay and the drive of its pin.
@@ -57,8 +58,8 @@ fn first_illegal(held: u32, highest: u32) -> u32
 
 // The words of a match's inputs: after an input's node, what the pattern's row says of its pin.
 fn write_inputs<'a>(table: &mut [u32], walked: Walked, row: &'a [u32])
-    requires { ⌜ (length (now table) ≡ matchWords) × ((l : Library) × ((m : Match) × Writable l walked (now row) m)) ⌝ }
-    ensures { λ r. ⌜ ((l : Library) (m : Match) → Writable l walked (now (row .entry)) m →
+    requires { ⌜ (length (now table) ≡ matchWords) × ((l : Library) × ((m : Match) × MatchHeld l walked (now row) m)) ⌝ }
+    ensures { λ r. ⌜ ((l : Library) (m : Match) → MatchHeld l walked (now (row .entry)) m →
         now (table .exit) ≡ sets (now (table .entry)) inputsAt (inputsWords l (m .pattern .cell) (m .inputs))) ⌝ }
 {
     let count = walked.count;
@@ -81,8 +82,8 @@ fn write_inputs<'a>(table: &mut [u32], walked: Walked, row: &'a [u32])
 
 // A match's row.
 fn write_row<'a>(table: &mut [u32], walked: Walked, row: &'a [u32], pattern: usize)
-    requires { ⌜ (length (now table) ≡ matchWords) × (pattern < 128) × ((l : Library) × ((m : Match) × Writable l walked (now row) m)) ⌝ }
-    ensures { λ r. ⌜ ((l : Library) (m : Match) → Writable l walked (now (row .entry)) m → m .number ≡ pattern →
+    requires { ⌜ (length (now table) ≡ matchWords) × (pattern < 128) × ((l : Library) × ((m : Match) × MatchHeld l walked (now row) m)) ⌝ }
+    ensures { λ r. ⌜ ((l : Library) (m : Match) → MatchHeld l walked (now (row .entry)) m → m .number ≡ pattern →
         now (table .exit) ≡ sets (now (table .entry)) 0 (matchRow l m)) ⌝ }
 {
     let illegal = first_illegal(row[PatternRow::HELD], row[PatternRow::HIGHEST]);

@@ -9,9 +9,9 @@ use Rattle.shapes.specs.Shape.{symbols, sizes}
 use Rattle.sheets.specs.declared.library.LibraryRecord.{LibraryRecord}
 use Rattle.sheets.specs.declared.tree.TreeRecord.{TreeRecord}
 use Rattle.sheets.specs.Model.{Shape, size, leaves, Pin, Cell, Library, Pattern, Tree}
-use Rattle.sheets.specs.Sound.{SoundLibrary, SoundTree}
+use Rattle.sheets.specs.Sound.{SoundCell, SoundLibrary, SoundTree}
 use Rattle.sheets.specs.Layout.{padded, pinWords, figuresAt, sizeAt, symbolsAt, rowWords, patternTable, libraryLaid, treeLaid}
-use Rattle.covers.specs.Match.{Input, pinAt, pinLoad}
+use Rattle.covers.specs.Match.{Input, Match, pinAt, pinLoad}
 use Rattle.overlay.specs.declared.Walked.{Walked}
 use Rattle.overlay.specs.Standing.{Subject}
 
@@ -78,6 +78,14 @@ pub record Walks (is : List Input) (r : Walked) : Type 0 where
 abbrev pub WalkedIs : Option (List Input) → Walked → Type 0
 WalkedIs none r = r .matched ≡ false
 WalkedIs (some is) r = Walks is r
+
+-- A match as the walk found it, with its pattern's row.
+pub record MatchHeld (l : Library) (walked : Walked) (row : List ℕ) (m : Match) : Type 0 where
+  pub walks : Walks (m .inputs) walked
+  pub cell : CellHeld l row (m .pattern .cell)
+  pub sound : SoundCell (length (l .bins)) (m .pattern .cell)
+  pub few : length (m .inputs) ≤ 16
+  pub pinned : (i : Input) → List·Memᴰ i (m .inputs) → i .pin < length (m .pattern .cell .pins)
 
 -- ---- a library and a tree
 

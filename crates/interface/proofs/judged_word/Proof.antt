@@ -37,7 +37,7 @@ enum-known-judged-2 c = search needs
 
 refusal-requires : tie.Need-refusal-requires
 unfolding ofCoverJudged PointBounded
-refusal-requires c κs = let h = subst Kept (c .before .judged2 .given .1) (c .before .before .before .pre) in (h .1, h .2)
+refusal-requires c κs = let h = subst Kept (c .before .judged2 .given .1) (c .before .before .before .pre) in (h .0, h .1)
 
 returns : tie.Need-returns
 unfolding ofCoverJudged pointWord

@@ -43,7 +43,7 @@ returns-2 c =
     let ls = a .library .now in
     let number = c .library-number in
     let said = library-refused ls (read .result) (read .ensures) (a .tree .now) (a .cover .now) (told .0 .0) (told .0 .1 .0) (number .result) (told .1) (number .ensures .0) in
-    (said, (demanded ls (a .tree .now) (a .cover .now) _ said, library-bounded ls (read .result) (read .ensures) (a .tree .now) (a .cover .now) (told .0 .0) (told .0 .1 .0) (number .result) (told .1) (number .ensures .0)))
+    (said, (demanded ls (a .tree .now) (a .cover .now) _ said, library-bounded ls (read .result) (read .ensures) (a .tree .now) (a .cover .now) (told .0 .0) (told .0 .1 .0) (number .result) (told .1) (number .ensures .1)))
 
 pub judge-cover-spec : {M : Type 1} → statement M
 judge-cover-spec = tie.close (tie.spec read-library-requires enum-told with-library-requires enum-known-scan library-number-requires returns returns-2)

@@ -48,7 +48,7 @@ returns-2 c =
     let ts = first .args .tree .now in
     let number = c .tree-number in (
       λ l h. tree-refused ts (read .result) (read .ensures) (coverJudged (coverRead (first .args .cover .now) start) l) (told .0 .0) (told .0 .1 .0) (number .result) (told .1) (number .ensures .0),
-      tree-bounded ts (read .result) (read .ensures) (told .0 .0) (told .0 .1 .0) (number .result) (told .1) (number .ensures .0) (number .ensures .1),
+      tree-bounded ts (read .result) (read .ensures) (told .0 .0) (told .0 .1 .0) (number .result) (told .1) (number .ensures .1),
     )
 
 pub with-library-spec : {M : Type 1} → statement M

@@ -8,8 +8,8 @@ use lib.ListN.{length, take, length-set}
 use lib.Seq.{sets, take-length}
 use Rattle.sheets.specs.Model.{Library}
 use Rattle.covers.specs.Match.{Input, Match}
+use Rattle.overlay.specs.Held.{MatchHeld}
 use Rattle.matching.specs.Found.{matchWords, inputsAt, inputsWords}
-use Rattle.matching.specs.Promises.{Writable}
 use Rattle.matching.proofs.Written.{Entry, entry, inputs-turn}
 use Rattle.matching.proofs.write_inputs.Statement.{statement}
 use Rattle.matching.proofs.write_inputs.Tie as tie
@@ -20,7 +20,7 @@ use Rattle.sheets.proofs.library.write_words.Reads as write-words-reads
 abbrev Inv-loop : tie.InvT-loop
 Inv-loop table₀ row walked count k₀ table k =
     (k ≤ count) × (length table ≡ matchWords)
-    × ((l : Library) (m : Match) → Writable l walked row m → table ≡ sets table₀ inputsAt (inputsWords l (m .pattern .cell) (take k (m .inputs))))
+    × ((l : Library) (m : Match) → MatchHeld l walked row m → table ≡ sets table₀ inputsAt (inputsWords l (m .pattern .cell) (take k (m .inputs))))
 
 abbrev μ-loop : tie.MeasureT-loop
 μ-loop table₀ row walked count k₀ table k = count - k
