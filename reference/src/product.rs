@@ -6,9 +6,6 @@ use crate::operation::Operation;
 extern "C" {
     fn treecover_judge_library(library: *const u8, library_len: usize) -> u64;
     fn treecover_judge_tree(tree: *const u8, tree_len: usize) -> u64;
-}
-
-extern "C" {
     fn treecover_judge_cover(
         library: *const u8,
         library_len: usize,

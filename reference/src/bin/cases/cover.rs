@@ -17,7 +17,7 @@ use reference::merging;
 use reference::rng::Rng;
 use reference::shape::Shape;
 use reference::shape::Step::{Inv, Leaf, Nand};
-use reference::tree::{Tree, LATEST_LEAF, LATEST_REQUIRED};
+use reference::tree::{self, Tree, LATEST_LEAF, LATEST_REQUIRED};
 use reference::verdict::Verdict;
 use std::collections::{BTreeMap, HashSet};
 
@@ -26,9 +26,10 @@ const LEAST_CASES: usize = 1_500;
 const LEAST_OF_A_KIND: usize = 20;
 const MOST_BYTES: usize = 600_000;
 
-/// The kinds of answers, as `judging::name` has them, that must each occur.
-const KINDS: [&str; 18] = [
+/// The kinds of answers, as `kind` has them, that must each occur.
+const KINDS: [&str; 19] = [
     "accepted",
+    "accepted late",
     "refused 22 torn",
     "refused 22 tail",
     "refused 23 at 0: node",
@@ -372,7 +373,7 @@ impl Covers {
     fn kinds(&self) -> BTreeMap<String, usize> {
         let mut kinds = BTreeMap::new();
         for case in &self.cases {
-            *kinds.entry(judging::name(&case.judged())).or_insert(0) += 1;
+            *kinds.entry(kind(case)).or_insert(0) += 1;
         }
         kinds
     }
@@ -410,6 +411,16 @@ fn damaged_case(rng: &mut Rng, damages: &[Damage]) -> Case {
     let problem = small_problem(rng);
     let cover = any_cover(rng, &problem);
     spoiled(rng, Draft::new(problem, cover), damages)
+}
+
+/// How a case is counted: as `judging::name` has it, late covers that are accepted by themselves.
+fn kind(case: &Case) -> String {
+    let judged = case.judged();
+    let required = tree::decode(&case.tree).map(|tree| tree.required);
+    match (&judged, required) {
+        (Ok(figures), Ok(required)) if required < figures.arrival => "accepted late".to_string(),
+        _ => judging::name(&judged),
+    }
 }
 
 /// A legal cover that misses the required time by one.
