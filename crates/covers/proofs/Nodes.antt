@@ -7,6 +7,7 @@ use mathlib.Core.Option.{Option, some, Option·none-ne-some}
 use native.Mathlib.Nat.{le-refl}
 use native.Mathlib.Omega.{arith}
 use Rattle.sheets.specs.Model.{Shape, leaf, inv, nand, size, leaves, Library}
+use Rattle.covers.specs.Crossing.{redrawn}
 use Rattle.covers.specs.Match.{Input, joined, laid, matched, Match, IsMatch}
 use Rattle.covers.specs.Tradeoff.{Node, nodes}
 use Rattle.covers.proofs.Matching.{Whenever, never, holds, whenever, implied}
@@ -48,7 +49,7 @@ fits-in (inv p) n s is e = whenever (laid-in (inv p) n s) e
 fits-in (nand p q) n s is e = whenever (laid-in (nand p q) n s) e
 
 pub input-in : {l : Library} {load n : ℕ} {s : Shape} {m : Match} → IsMatch l load n s m → (i : Input) → List·Memᴰ i (m .inputs) → List·Memᴰ (nodeOf i) (nodes n s)
-input-in {n} {s} {m} h = fits-in (m .pattern .drawing) n s (m .inputs) (h .fits)
+input-in {n} {s} {m} h = fits-in (redrawn (m .crossing) (m .pattern .drawing)) n s (m .inputs) (h .fits)
 
 -- A node of a node's subtree is a node of the tree.
 pub nodes-within : {x : Node} (n : ℕ) (s : Shape) → List·Memᴰ x (nodes n s) → {y : Node} → List·Memᴰ y (nodes (x .number) (x .shape)) → List·Memᴰ y (nodes n s)
