@@ -30,10 +30,10 @@ pub record Fit (p : Point) : Type 0 where
   pub area : p .area < areaLimit
   pub arrival : p .arrival < base
 
-module _ (most : ℕ) (symbols work found : List ℕ) (load count : ℕ) where
+module _ (most : ℕ) (symbols work rows found : List ℕ) (load count : ℕ) where
   -- The least point of the node before each instant, from the tables.
   abbrev pub bestBefore : ℕ → Option Point
-  bestBefore end = rowsBest most symbols work found load end count
+  bestBefore end = rowsBest most symbols work rows found load end count
 
   -- Every point fits a word of the work area.
   abbrev pub PointsFit : Type 0

@@ -14,35 +14,28 @@ ghost use Rattle.matching.specs.Found.{matchWords, inputsAt, inputsWords
 ghost use Rattle.sheets.specs.Layout.{tableFrom};
 ghost use Rattle.matching.specs.Promises.{Tried, Ready};
 
-// A match's row: its pattern, its cell's area, the first load that is not legal and how many inputs it has, then five words for each input:
-// its node, and the load bin, the load, the intrinsic delay and the drive of its pin.
+// A match's row: its pattern, its crossing and how many inputs it has, then two bytes for each input: the pin that it feeds, and its node.
 pub struct Row {}
 
 impl Row {
     pub const PATTERN: usize = 0;
 
-    pub const AREA: usize = 1;
+    pub const CROSSING: usize = 1;
 
-    pub const FIRST_ILLEGAL: usize = 2;
+    pub const COUNT: usize = 2;
 
-    pub const COUNT: usize = 3;
+    pub const INPUTS: usize = 3;
 
-    pub const INPUTS: usize = 4;
+    pub const INPUT: usize = 2;
 
-    pub const INPUT: usize = 5;
+    // Within an input's bytes, after its pin.
+    pub const NODE: usize = 1;
 
-    // Within an input's words, after its node.
-    pub const BIN: usize = 1;
+    pub const BYTES: usize = 16;
 
-    pub const LOAD: usize = 2;
+    pub const MATCHES: usize = 4096;
 
-    pub const INTRINSIC: usize = 3;
-
-    pub const DRIVE: usize = 4;
-
-    pub const WORDS: usize = 84;
-
-    pub const TABLE: usize = 10752;
+    pub const TABLE: usize = 65536;
 }
 
 // The first load at which a match of a cell is not legal.
