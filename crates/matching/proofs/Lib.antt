@@ -1,3 +1,3 @@
 -- The laws of `matching`, in reading order.
 pub mod Written
-pub mod Patterns
+pub mod Crossings
