@@ -136,10 +136,23 @@ placed-length (suc k) (n ∷ ns) [] xs hn hp hx = absurd (omega arith)
 placed-length (suc k) (n ∷ ns) (p ∷ ps) [] hn hp hx = absurd (omega arith)
 placed-length (suc k) (n ∷ ns) (p ∷ ps) (x ∷ xs) hn hp hx = ap suc (placed-length k ns ps xs (le-of-suc-le-suc hn) (le-of-suc-le-suc hp) (le-of-suc-le-suc hx))
 
--- A cover as the code keeps it, with room for its matches.
-module _ (r : CoverRecord) (hn : r .count ≤ length (r .nodes)) (hp : r .count ≤ length (r .patterns)) (hx : r .count ≤ length (r .crossings)) where
-  many : length (coverOf r .placed) ≡ r .count
-  many = placed-length (r .count) (r .nodes) (r .patterns) (r .crossings) hn hp hx
+pub placed-at : (count k : ℕ) (ns ps xs : List ℕ) (d : Placed) → k < count → count ≤ length ns → count ≤ length ps → count ≤ length xs →
+    getD (placedOf (take count ns) (take count ps) (take count xs)) k d ≡ record { node = getD ns k 0; pattern = getD ps k 0; crossing = getD xs k 0 }
+unfolding placedOf
+placed-at zero k ns ps xs d h hn hp hx = absurd (omega arith)
+placed-at (suc count) k [] ps xs d h hn hp hx = absurd (omega arith)
+placed-at (suc count) k (n ∷ ns) [] xs d h hn hp hx = absurd (omega arith)
+placed-at (suc count) k (n ∷ ns) (p ∷ ps) [] d h hn hp hx = absurd (omega arith)
+placed-at (suc count) zero (n ∷ ns) (p ∷ ps) (x ∷ xs) d h hn hp hx = refl
+placed-at (suc count) (suc k) (n ∷ ns) (p ∷ ps) (x ∷ xs) d h hn hp hx = placed-at count k ns ps xs d (omega arith) (omega arith) (omega arith) (omega arith)
+
+-- The arrays of a cover's record have room for its matches.
+abbrev pub Room : CoverRecord → Type 0
+Room r = (r .count ≤ length (r .nodes)) × (r .count ≤ length (r .patterns)) × (r .count ≤ length (r .crossings))
+
+module _ (r : CoverRecord) (room : Room r) where
+  pub many : length (coverOf r .placed) ≡ r .count
+  many = placed-length (r .count) (r .nodes) (r .patterns) (r .crossings) (room .0) (room .1) (room .2)
 
   pub cover-length : length (coverSheet (coverOf r)) ≡ (52 + 18 * r .count + 7) / 8
   cover-length = cover-sheet-length (coverOf r) ∙ ap (λ (k : ℕ). (52 + 18 * k + 7) / 8) many

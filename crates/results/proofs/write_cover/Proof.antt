@@ -1,9 +1,8 @@
 use borrow.Author.Needs.{needs}
 use native.Mathlib.Omega.{arith}
-use Prim.Native.Nat.{_≤_}
 use mathlib.Core.Path.{_≡_}
 use lib.ListN.{length}
-use Rattle.results.proofs.Laws.{cover-written}
+use Rattle.results.proofs.Laws.{Room, cover-written}
 use Rattle.results.proofs.write_cover.Statement.{statement}
 use Rattle.results.proofs.write_cover.Tie as tie
 use Rattle.results.proofs.write_cover.Reads as reads
@@ -13,7 +12,7 @@ use Rattle.results.proofs.clear.Reads as clear-reads
 use Rattle.results.proofs.put_matches.Reads as put-matches-reads
 
 -- the arrays have room: said at the start, because later places hold too much to search
-room : (c : tie.Start) → (c .args .cover .count ≤ length (c .args .cover .nodes)) × (c .args .cover .count ≤ length (c .args .cover .patterns)) × (c .args .cover .count ≤ length (c .args .cover .crossings))
+room : (c : tie.Start) → Room (c .args .cover)
 room c =
     let n : length (c .args .cover .nodes) ≡ 64 = search needs in
     let p : length (c .args .cover .patterns) ≡ 64 = search needs in
@@ -68,8 +67,7 @@ returns c =
     let cleared = one .before .before .before .before in
     let start = cleared .before .before .before .before .before .before in
     let a = start .args in
-    let all = room start in
-    cover-written (a .cover) (all .0) (all .1) (all .2) (a .output .now)
+    cover-written (a .cover) (room start) (a .output .now)
     (cleared .clear .last .0) (one .put .last .0) (two .put2 .last .0) (three .put3 .last .0) (done .put-matches .last .0)
     (cleared .clear .ensures) (one .put .ensures) (two .put2 .ensures) (three .put3 .ensures) (done .put-matches .ensures)
 
