@@ -73,15 +73,21 @@ module _ (d : Shape) (x : ℕ) where
 
 -- ---- the matches of a pattern
 
+put-append : (k : ℕ) (p : Pattern) (x : ℕ) (o : Option (List Input)) (ms qs : List Match) → putFirst k p x o (ms ++ qs) ≡ putFirst k p x o ms ++ qs
+unfolding putFirst
+put-append k p x none ms qs = refl
+put-append k p x (some is) ms qs = refl
+
+keep-first : (b : Bool) (a : ℕ) (ys : List ℕ) → keepIf b a ys ≡ keepIf b a [] ++ ys
+unfolding keepIf
+keep-first true a ys = refl
+keep-first false a ys = refl
+
 module _ (n : ℕ) (s : Shape) (k : ℕ) (p : Pattern) where
   under-append : (xs ys : List ℕ) → fittingUnder n s k p (xs ++ ys) ≡ fittingUnder n s k p xs ++ fittingUnder n s k p ys
   unfolding fittingUnder
   under-append [] ys = refl
-  under-append (x ∷ xs) ys = ap (putFirst k p x (matched (redrawn x (p .drawing)) n s)) (under-append xs ys) ∙ go (matched (redrawn x (p .drawing)) n s)
-    where
-      go : (o : Option (List Input)) {ms qs : List Match} → putFirst k p x o (ms ++ qs) ≡ putFirst k p x o ms ++ qs
-      go none = unfold putFirst in refl
-      go (some is) = unfold putFirst in refl
+  under-append (x ∷ xs) ys = ap (putFirst k p x (matched (redrawn x (p .drawing)) n s)) (under-append xs ys) ∙ put-append k p x (matched (redrawn x (p .drawing)) n s) (fittingUnder n s k p xs) (fittingUnder n s k p ys)
 
   -- Those under crossings from a on, so many numbers; those below x; and that under x, if there is one.
   abbrev matchesFrom : ℕ → ℕ → List Match
@@ -99,11 +105,7 @@ module _ (n : ℕ) (s : Shape) (k : ℕ) (p : Pattern) where
   -- One number more.
   from-first : (a m : ℕ) → matchesFrom a (suc m) ≡ fittingUnder n s k p (keepIf (isCrossing (p .drawing) a) a []) ++ matchesFrom (suc a) m
   unfolding counted select
-  from-first a m = ap (fittingUnder n s k p) (go (isCrossing (p .drawing) a)) ∙ under-append (keepIf (isCrossing (p .drawing) a) a []) (select (isCrossing (p .drawing)) (counted (suc a) m))
-    where
-      go : (b : Bool) {ys : List ℕ} → keepIf b a ys ≡ keepIf b a [] ++ ys
-      go true = unfold keepIf in refl
-      go false = unfold keepIf in refl
+  from-first a m = ap (fittingUnder n s k p) (keep-first (isCrossing (p .drawing) a) a (select (isCrossing (p .drawing)) (counted (suc a) m))) ∙ under-append (keepIf (isCrossing (p .drawing) a) a []) (select (isCrossing (p .drawing)) (counted (suc a) m))
 
   first-missing : (a : ℕ) → Missing a → fittingUnder n s k p (keepIf (isCrossing (p .drawing) a) a []) ≡ []
   first-missing a h = go (isCrossing (p .drawing) a) refl
@@ -111,6 +113,10 @@ module _ (n : ℕ) (s : Shape) (k : ℕ) (p : Pattern) where
       go : (b : Bool) → isCrossing (p .drawing) a ≡ b → fittingUnder n s k p (keepIf b a []) ≡ []
       go true e = unfold keepIf fittingUnder in ap (λ o. putFirst k p a o []) (h e) ∙ (unfold putFirst in refl)
       go false e = unfold keepIf fittingUnder in refl
+
+  first-kept : (a : ℕ) → isCrossing (p .drawing) a ≡ true → fittingUnder n s k p (keepIf (isCrossing (p .drawing) a) a []) ≡ matchesAt a
+  unfolding keepIf fittingUnder
+  first-kept a e = ap (λ b. fittingUnder n s k p (keepIf b a [])) e
 
   none-from : (a m : ℕ) → ((y : ℕ) → a ≤ y → y < a + m → Missing y) → matchesFrom a m ≡ []
   unfolding counted select fittingUnder
@@ -133,7 +139,7 @@ module _ (n : ℕ) (s : Shape) (k : ℕ) (p : Pattern) where
       ∙ ap (fittingUnder n s k p) (select-append test (counted 0 x) (counted x (suc m)))
       ∙ under-append (select test (counted 0 x)) (select test (counted x (suc m)))
       ∙ ap (λ r. matchesBelow x ++ r)
-      (from-first x m ∙ ap₂ _++_ (ap (λ b. fittingUnder n s k p (keepIf b x [])) e ∙ (unfold keepIf fittingUnder in refl)) (none-from (suc x) m (λ y a b. f y a (omega arith))) ∙ append-nil (matchesAt x))
+      (from-first x m ∙ ap₂ _++_ (first-kept x e) (none-from (suc x) m (λ y a b. f y a (omega arith))) ∙ append-nil (matchesAt x))
 
 -- ---- after a walk
 

@@ -1,6 +1,6 @@
 -- The next crossing.
 use borrow.Author.Needs.{needs}
-use Prim.Native.Nat.{_-_}
+use Prim.Native.Nat.{_+_, _-_, _/_, _^_, _<_}
 use native.Mathlib.Omega.{arith}
 use lib.Pow.{shr-le, shl-exact}
 use Rattle.matching.proofs.Crossings.{next-above, next-limit}
@@ -28,7 +28,12 @@ shl-result : tie.Need-shl-result
 shl-result c = search needs
 
 returns : tie.Need-returns
-returns c = let a = c .args in ?
+returns c =
+    let a = c .args in
+    let k = 5 - a .bits in
+    let low : a .crossing / 2 ^ k + 1 < 2 ^ 6 = omega (arith, shr-le (a .crossing) k) in
+    let same = shl-exact 6 k 32 low (omega arith) in
+    (same, rw same (next-above (a .crossing) k), rw same (next-limit (a .crossing) k (c .pre .0) (omega arith)))
 
 pub next-crossing-spec : {M : Type 1} → statement M
 next-crossing-spec =

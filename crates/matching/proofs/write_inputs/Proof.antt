@@ -1,5 +1,5 @@
 -- The bytes of a match's inputs. After k turns those of the first k inputs stand in the row.
-use Prim.Native.Nat.{_+_, _*_, _-_, _≤_}
+use Prim.Native.Nat.{_+_, _*_, _-_, _≤_, _<_}
 use mathlib.Core.Path.{_≡_, refl, sym, ap, _∙_}
 use mathlib.Core.List.{List}
 use native.Mathlib.Omega.{arith}
@@ -21,44 +21,56 @@ Inv-loop table₀ walked count k₀ table k =
 abbrev μ-loop : tie.MeasureT-loop
 μ-loop table₀ walked count k₀ table k = walked .count - k
 
+-- There are at most six inputs.
+few : (c : tie.In-loop Inv-loop μ-loop) → c .before .loop .k < 6
+few c = let p = c .before .before .pre .1 in omega (arith, p .1 .0 .count-is, p .1 .1, c .loop-test .taken)
+
 loop-holds : tie.Need-loop-holds Inv-loop μ-loop
-loop-holds c = ?
+loop-holds c = (omega arith, c .pre .0, λ is w h. unfold inputsBytes in refl)
 
 mul-at : tie.Need-mul-at Inv-loop μ-loop
-mul-at c = ?
+mul-at c = let f = few c in omega arith
 
 add-at : tie.Need-add-at Inv-loop μ-loop
-add-at c = ?
+add-at c = let f = few c in omega arith
 
 element-copy-out-table : tie.Need-element-copy-out-table Inv-loop μ-loop
-element-copy-out-table c = ?
+element-copy-out-table c = let f = few c in omega arith
 
 slice-write-table : tie.Need-slice-write-table Inv-loop μ-loop
-slice-write-table c = ?
+slice-write-table c = let f = few (c .before) in omega (arith, c .before .before .loop .inv .1)
 
 element-copy-out-table-2 : tie.Need-element-copy-out-table-2 Inv-loop μ-loop
-element-copy-out-table-2 c = ?
+element-copy-out-table-2 c = let f = few (c .before) in omega arith
 
 add-table : tie.Need-add-table Inv-loop μ-loop
-add-table c = ?
+add-table c = let f = few (c .before .before) in omega arith
 
 slice-write-table-2 : tie.Need-slice-write-table-2 Inv-loop μ-loop
-slice-write-table-2 c = ?
+slice-write-table-2 c = let f = few (c .before .before) in simp length-set (omega (arith, c .before .before .before .loop .inv .1))
 
 add-k : tie.Need-add-k Inv-loop μ-loop
-add-k c = ?
+add-k c = let f = few (c .before .before) in omega arith
 
 loop-less : tie.Need-loop-less Inv-loop μ-loop
-loop-less c = ?
+loop-less c = omega (arith, c .before .before .loop-test .taken)
 
 loop-again : tie.Need-loop-again Inv-loop μ-loop
-loop-again c = ?
+loop-again c =
+    let i = c .before .before .before .loop in (
+      omega (arith, c .before .before .loop-test .taken),
+      simp length-set (i .inv .1),
+      λ is w h. inputs-turn w h (i .k) (c .before .before .before .before .args .table .now) (i .table) (c .before .before .loop-test .taken) (i .inv .2 is w h),
+    )
 
 same-length : tie.Need-same-length Inv-loop μ-loop
-same-length c = ?
+same-length c = c .before .loop .inv .1 ∙ sym (c .before .before .pre .0)
 
 returns : tie.Need-returns Inv-loop μ-loop
-returns c = ?
+returns c = λ is w h.
+    let i = c .before .loop in
+    let done : i .k ≡ length is = omega (arith, w .count-is, i .inv .0, c .loop-test .left) in
+    i .inv .2 is w h ∙ ap (λ js. sets (c .before .before .args .table .now) inputsAt (inputsBytes js)) (ap (λ j. take j is) done ∙ take-length is)
 
 pub write-inputs-spec : {M : Type 1} → statement M
 write-inputs-spec =
