@@ -2,13 +2,13 @@
 use Prim.Native.Nat.{ℕ, _+_, _%_, _≤_, _<_}
 use mathlib.Core.Path.{_≡_}
 use mathlib.Core.List.{List, map}
-use lib.ListN.{length, take, drop}
+use lib.ListN.{length, getD, take, drop}
 use lib.Seq.{sets}
 use mathlib.Core.Option.{Option, none, some}
 use Rattle.covers.specs.Cover.{Point}
 use Rattle.covers.specs.Curve.{base, byDeadline, lookup, pointOf, wordOf}
-use Rattle.curves.specs.Words.{absent, areaLimit, pointLimit, stored, slot, Small}
-use Rattle.curves.specs.Best.{rowsBest}
+use Rattle.curves.specs.Words.{absent, areaLimit, pointLimit, matchLimit, stored, slot, Small}
+use Rattle.curves.specs.Best.{rowOf, patternOf, legalBest, rowsBest}
 use Rattle.curves.specs.declared.Probe.{Probe}
 use Rattle.curves.specs.declared.Probe.the-variants.{Found, Beyond}
 
@@ -30,10 +30,23 @@ pub record Fit (p : Point) : Type 0 where
   pub area : p .area < areaLimit
   pub arrival : p .arrival < base
 
+-- The least point of match j of a node before each instant, from the tables.
+abbrev pub matchBefore : ℕ → List ℕ → List ℕ → List ℕ → List ℕ → ℕ → ℕ → ℕ → Option Point
+matchBefore most symbols work rows found load j end = legalBest most symbols work (patternOf rows (rowOf found j)) (rowOf found j) load end
+
 module _ (most : ℕ) (symbols work rows found : List ℕ) (load count : ℕ) where
-  -- The least point of the node before each instant, from the tables.
+  -- The least point of all of them before each instant.
   abbrev pub bestBefore : ℕ → Option Point
   bestBefore end = rowsBest most symbols work rows found load end count
+
+  -- The word kept for each match is its least point before every instant, from `end` back, that the word is still before.
+  abbrev pub Kept : ℕ → List ℕ → Type 0
+  Kept end kept = (j : ℕ) → j < count → (e : ℕ) → e ≤ end → getD kept j 0 % base < e → Worth matchLimit e (getD kept j 0) (matchBefore most symbols work rows found load j e)
+
+  -- The least of all, and what is kept after it was found.
+  pub record Least (end : ℕ) (kept : List ℕ) (r : ℕ) : Type 0 where
+    pub least : Worth matchLimit end r (bestBefore end)
+    pub lasting : Kept end kept
 
   -- Every point fits a word of the work area.
   abbrev pub PointsFit : Type 0

@@ -1,0 +1,90 @@
+-- A point that is still in time stays.
+use mathlib.Core.Path.{_≡_, refl, ap, ap₂, subst, _∙_}
+use mathlib.Core.List.{List, [], _∷_}
+use mathlib.Core.Bool.{Bool, true, false, cond}
+use mathlib.Core.Option.{Option, none, some, Option·map}
+use mathlib.Core.Logic.{_⊎_, inl, inr}
+use borrow.Author.Tests.{lt-ltb, le-ltb}
+use Prim.Native.Nat.{ℕ, zero, suc, _-_, _%_, _≤_, _<_}
+use native.Mathlib.Omega.{arith}
+use lib.Dec.{leb}
+use lib.ListN.{length, getD, set}
+use Rattle.covers.specs.Cover.{Point, late, raised, beside, leafPoint}
+use Rattle.covers.specs.Choice.{before}
+use Rattle.covers.specs.Curve.{base, both, lookup, pointOf}
+use Rattle.covers.proofs.Basics.{lt-or-le}
+use Rattle.covers.proofs.Points.{both-carries}
+use Rattle.curves.specs.Words.{matchLimit, tableOf}
+use Rattle.curves.specs.Best.{rowOf, patternOf, rowArea, rowLegal, rowCount, inputNode, inputBin, inputLoad, rowDelay, inputBest, inputLate, inputsBest, rowBest, legalBest}
+use Rattle.curves.specs.Promises.{Worth, matchBefore, Kept}
+use Rattle.curves.proofs.Frames.{set-each}
+
+-- From a least point to that before an earlier instant: it is the same if it is still in time, and none stays none.
+data Stays (end : ℕ) : Option Point → Option Point → Type 0 where
+  absent : {o : Option Point} → o ≡ none → Stays end none o
+  point : {p : Point} {o : Option Point} → (p .arrival < end → o ≡ some p) → Stays end (some p) o
+
+lookup-stays : {end end′ : ℕ} → end′ ≤ end → (ps : List Point) → Stays end′ (lookup end ps) (lookup end′ ps)
+unfolding lookup
+lookup-stays h [] = absent refl
+lookup-stays {end} {end′} h (p ∷ ps) = go (lt-or-le (p .arrival) end) (lookup-stays h ps)
+  where
+    go : (p .arrival < end) ⊎ (end ≤ p .arrival) → Stays end′ (lookup end ps) (lookup end′ ps) → Stays end′ (lookup end (p ∷ ps)) (lookup end′ (p ∷ ps))
+    go (inl l) r = unfold lookup in rw (lt-ltb (p .arrival) end l) (point {p = p} {o = lookup end′ (p ∷ ps)} (λ t. rw (lt-ltb (p .arrival) end′ t)))
+    go (inr l) r = unfold lookup in rw (le-ltb (p .arrival) end l, le-ltb (p .arrival) end′ (omega arith)) r
+
+module _ {end : ℕ} where
+  cond-stays : (b : Bool) {o o′ u u′ : Option Point} → Stays end o o′ → Stays end u u′ → Stays end (cond b o u) (cond b o′ u′)
+  cond-stays true s r = s
+  cond-stays false s r = r
+
+  map-stays : (f : Point → Point) {left : ℕ} {o o′ : Option Point} → ((p : Point) → f p .arrival < end → p .arrival < left) → Stays left o o′ → Stays end (Option·map f o) (Option·map f o′)
+  map-stays f h (absent e) = absent (ap (Option·map f) e)
+  map-stays f h (point k) = point (λ t. ap (Option·map f) (k (h _ t)))
+
+  both-stays : {o o′ u u′ : Option Point} → Stays end o o′ → Stays end u u′ → Stays end (both o u) (both o′ u′)
+  unfolding both beside
+  both-stays {u′ = u′} (absent e) r = absent (ap (λ (q : Option Point). both q u′) e)
+  both-stays {o′ = o′} (point k) (absent e) = absent (ap (both o′) e ∙ both-carries o′ .on-none)
+  both-stays (point k) (point l) = point (λ t. ap₂ both (k (omega arith)) (l (omega arith)))
+
+module _ (most : ℕ) (symbols work : List ℕ) where
+  input-stays : {end end′ : ℕ} → end′ ≤ end → (node bin load : ℕ) → Stays end′ (inputBest most symbols work node bin load end) (inputBest most symbols work node bin load end′)
+  unfolding inputBest before lookup
+  input-stays h node bin load = cond-stays (leb 2 (getD symbols node 0)) (lookup-stays h (leafPoint (getD symbols node 0 - 2) load ∷ [])) (lookup-stays h (tableOf most work node bin))
+
+  module _ (pattern row : List ℕ) (load : ℕ) {end end′ : ℕ} (h : end′ ≤ end) where
+    inputs-stay : (n k : ℕ) → Stays end′ (inputsBest most symbols work pattern row load end k n) (inputsBest most symbols work pattern row load end′ k n)
+    unfolding inputsBest inputLate before lookup late
+    inputs-stay zero k = lookup-stays h (record { area = 0; arrival = 0 } ∷ [])
+    inputs-stay (suc n) k =
+        let d = rowDelay pattern row k load in
+        let less : end′ - d ≤ end - d = omega arith in
+        both-stays (map-stays (late d) (λ p t. omega arith) (input-stays less (inputNode pattern row k) (inputBin pattern row k) (inputLoad pattern row k))) (inputs-stay n (suc k))
+
+    match-stays : Stays end′ (legalBest most symbols work pattern row load end) (legalBest most symbols work pattern row load end′)
+    unfolding legalBest rowBest raised
+    match-stays = cond-stays (rowLegal pattern load) (map-stays (raised (rowArea pattern)) (λ p t. t) (inputs-stay (rowCount row) 0)) (absent refl)
+
+-- So a word that is right before an instant is right before every earlier one that it is still before.
+none-stays : {end : ℕ} {o : Option Point} → Stays end none o → o ≡ none
+none-stays (absent e) = e
+
+some-stays : {end : ℕ} {p : Point} {o : Option Point} → Stays end (some p) o → p .arrival < end → o ≡ some p
+some-stays (point k) = k
+
+worth-stays : {limit end end′ w : ℕ} {o o′ : Option Point} → Worth limit end w o → Stays end′ o o′ → w % base < end′ → Worth limit end′ w o′
+unfolding pointOf
+worth-stays {end′ = end′} {o′ = o′} g s t = record {
+  missing = λ z. none-stays (subst (λ (q : Option Point). Stays end′ q o′) (g .missing z) s);
+  point = λ n. some-stays (subst (λ (q : Option Point). Stays end′ q o′) (g .point n) s) t;
+  small = g .small;
+  intime = λ n. t;
+}
+
+-- The word of one match more, or one anew.
+pub kept-set : (most : ℕ) (symbols work rows found : List ℕ) (load n m end : ℕ) (kept : List ℕ) (j w : ℕ) → j < length kept → ((k : ℕ) → k < m → (k ≡ j → ⊥) → k < n) →
+    Kept most symbols work rows found load n end kept → Worth matchLimit end w (matchBefore most symbols work rows found load j end) → Kept most symbols work rows found load m end (set kept j w)
+kept-set most symbols work rows found load n m end kept j w l b k g i h =
+    set-each (λ i x. (e : ℕ) → e ≤ end → x % base < e → Worth matchLimit e x (matchBefore most symbols work rows found load i e)) kept j w l
+    (λ e le t. worth-stays g (match-stays most symbols work (patternOf rows (rowOf found j)) (rowOf found j) load le) t) i (λ n. k i (b i h n))
