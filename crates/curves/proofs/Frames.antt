@@ -10,8 +10,8 @@ use native.Mathlib.Decide.{ℕ-discrete}
 use native.Mathlib.Nat.{add-zero, eq-or-lt-of-le}
 use native.Mathlib.Omega.{arith}
 use lib.ListN.{length, getD, take, drop, set, length-append, length-map}
-use lib.Dec.{leb, ltb}
-use lib.Seq.{sets, sets-eq, getD-set-other, getD-set-same, take-all, take-at, take-append-add, take-set-le, drop-at, drop-set-lt, drop-set-add, length-take-le, set-out}
+use lib.Dec.{leb}
+use lib.Seq.{sets, sets-eq, getD-set-other, getD-set-same, take-all, take-at, take-append-add, take-set-le, drop-at, drop-set-lt, drop-set-add, length-take-le}
 use Rattle.fields.proofs.Lists.{sets-append}
 use Rattle.covers.specs.Cover.{Point, late, raised, leafPoint}
 use Rattle.covers.specs.Choice.{before, lesser}
@@ -81,8 +81,8 @@ module _ (most : ℕ) (symbols work work′ : List ℕ) (at : ℕ) (a : AgreeFro
   pub rows-same : (end : ℕ) → rowsBest most symbols work rows found load end n ≡ rowsBest most symbols work′ rows found load end n
   rows-same end = rows-upto end n (omega arith)
 
-  pub kept-same : (end : ℕ) (kept : List ℕ) → Kept most symbols work rows found load n end kept → Kept most symbols work′ rows found load n end kept
-  kept-same end kept k j l e h t = subst (Worth matchLimit e (getD kept j 0)) (match-same j l e) (k j l e h t)
+  pub kept-same : {end : ℕ} {kept : List ℕ} → Kept most symbols work rows found load n end kept → Kept most symbols work′ rows found load n end kept
+  kept-same {kept = kept} k = record { lasts = λ j l e h t. subst (Worth matchLimit e (getD kept j 0)) (match-same j l e) (k .lasts j l e h t) }
 
 -- ---- a curve, point by point
 
@@ -126,7 +126,7 @@ module _ {most : ℕ} {symbols work rows found : List ℕ} {load count at k end 
       ∙ curve-other most work at j (map wordOf (g .points)) (λ z. absurd (omega arith)) (omega (arith, length-map (g .points) wordOf, g .many, g .few))
 
   pub growing-kept : Kept most symbols work′ rows found load count end kept
-  growing-kept = kept-same most symbols work work′ at (λ j le. sym (agrees j le)) rows found load count above end kept (g .lasting)
+  growing-kept = kept-same most symbols work work′ at (λ j le. sym (agrees j le)) rows found load count above (g .lasting)
 
   -- The next point, if there is one.
   step : (o : Option Point) → rowsBest most symbols work′ rows found load end count ≡ o →
@@ -170,7 +170,7 @@ module _ {most : ℕ} {symbols work rows found : List ℕ} {load count at k end 
               ∙ ap (sets work (slot most at)) (sym (map-append wordOf (g .points) (pointOf w ∷ [])));
           small = small-set work′ (slot most at + k) w l (g .small) (omega (arith, fit end (pointOf w) now .area));
           bounded = omega (arith, g .bounded);
-          lasting = λ j h e le. kept-same most symbols work′ work at agrees rows found load count above end kept′ (o .lasting) j h e (omega arith);
+          lasting = record { lasts = λ j h e le. kept-same most symbols work′ work at agrees rows found load count above (o .lasting) .lasts j h e (omega arith) };
         }
 
 -- ---- a curve that was stored

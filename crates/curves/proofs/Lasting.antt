@@ -82,9 +82,10 @@ worth-stays {end′ = end′} {o′ = o′} g s t = record {
   intime = λ n. t;
 }
 
--- The word of one match more, or one anew.
-pub kept-set : (most : ℕ) (symbols work rows found : List ℕ) (load n m end : ℕ) (kept : List ℕ) (j w : ℕ) → j < length kept → ((k : ℕ) → k < m → (k ≡ j → ⊥) → k < n) →
-    Kept most symbols work rows found load n end kept → Worth matchLimit end w (matchBefore most symbols work rows found load j end) → Kept most symbols work rows found load m end (set kept j w)
-kept-set most symbols work rows found load n m end kept j w l b k g i h =
-    set-each (λ i x. (e : ℕ) → e ≤ end → x % base < e → Worth matchLimit e x (matchBefore most symbols work rows found load i e)) kept j w l
-    (λ e le t. worth-stays g (match-stays most symbols work (patternOf rows (rowOf found j)) (rowOf found j) load le) t) i (λ n. k i (b i h n))
+-- The word of one match more, or one anew; and a word that is still in time.
+pub kept-set : {most : ℕ} {symbols work rows found : List ℕ} {load n m end : ℕ} {kept : List ℕ} → Kept most symbols work rows found load n end kept → (j w : ℕ) → j < length kept →
+    ((k : ℕ) → k < m → (k ≡ j → ⊥) → k < n) → Worth matchLimit end w (matchBefore most symbols work rows found load j end) → Kept most symbols work rows found load m end (set kept j w)
+kept-set {most} {symbols} {work} {rows} {found} {load} {end = end} {kept = kept} k j w l b g = record {
+  lasts = λ i h. set-each (λ i x. (e : ℕ) → e ≤ end → x % base < e → Worth matchLimit e x (matchBefore most symbols work rows found load i e)) kept j w l
+      (λ e le t. worth-stays g (match-stays most symbols work (patternOf rows (rowOf found j)) (rowOf found j) load le) t) i (λ n. k .lasts i (b i h n));
+}

@@ -21,7 +21,7 @@ use Rattle.curves.specs.Words.{absent, areaLimit, pointLimit, matchLimit
 use Rattle.overlay.specs.Held.{heldAt, highestAt}
 use Rattle.matching.specs.Found.{matchBytes}
 use Rattle.curves.specs.Best.{rowOf, patternOf, rowArea, rowCount, rowLegal, inputNode, inputBin, inputLoad, inputIntrinsic, inputDrive, rowDelay, inputBest, inputLate, inputsBest, rowBest, legalBest, rowsBest, Sources, Tables, RowKnown, Matches}
-use Rattle.curves.specs.Promises.{Worth, matchBefore}
+use Rattle.curves.specs.Promises.{Worth, matchBefore, Kept}
 
 -- ---- words
 
@@ -174,35 +174,35 @@ module _ {most : ℕ} {pattern row symbols work : List ℕ} (t : Tables most pat
 
   -- ---- a match: its inputs one after another
 
-  -- After k of n inputs, which are side by side the point p.
-  module _ (k n : ℕ) (p : Point) where
-    abbrev pub After : Type 0
-    After = rest 0 n ≡ both (some p) (rest k (n - k))
+  abbrev many : ℕ
+  many = rowCount row
 
-    next : k < n → (o : Option Point) → one k ≡ o → both (some p) (rest k (n - k)) ≡ both (some p) (both o (rest (k + 1) (n - (k + 1))))
+  -- After k inputs, which are side by side the point p.
+  module _ (k : ℕ) (p : Point) (i : rest 0 many ≡ both (some p) (rest k (many - k))) where
+    next : k < many → (o : Option Point) → one k ≡ o → rest 0 many ≡ both (some p) (both o (rest (k + 1) (many - (k + 1))))
     unfolding inputsBest
-    next h o e = rw (one-less n k h, add-one, ← e)
+    next h o e = i ∙ rw (one-less many k h, add-one, ← e)
 
-    pub match-turn : k < n → After → (w : ℕ) → one k ≡ some (pointOf w) →
-        rest 0 n ≡ both (some (record { area = p .area + w / base; arrival = max (p .arrival) (w % base) })) (rest (k + 1) (n - (k + 1)))
+    pub match-turn : k < many → (w : ℕ) → one k ≡ some (pointOf w) →
+        rest 0 many ≡ both (some (record { area = p .area + w / base; arrival = max (p .arrival) (w % base) })) (rest (k + 1) (many - (k + 1)))
     unfolding both beside pointOf
-    match-turn h i w e = i ∙ next h (some (pointOf w)) e ∙ sym (both-assoc (some p) (some (pointOf w)) (rest (k + 1) (n - (k + 1))))
+    match-turn h w e = next h (some (pointOf w)) e ∙ sym (both-assoc (some p) (some (pointOf w)) (rest (k + 1) (many - (k + 1))))
 
-    pub match-stops : k < n → After → one k ≡ none → n ≡ rowCount row → Worth matchLimit end absent all
+    pub match-stops : k < many → one k ≡ none → Worth matchLimit end absent all
     unfolding rowBest both
-    match-stops h i e en = worth-none matchLimit end all (rw (← en, i, next h none e))
+    match-stops h e = worth-none matchLimit end all (rw (next h none e))
 
-    pub match-worth : n ≤ k → After → n ≡ rowCount row → p .area ≤ 6 * areaLimit → p .arrival < end → end ≤ base → Worth matchLimit end ((rowArea pattern + p .area) * base + p .arrival) all
+    pub match-worth : many ≤ k → p .area ≤ 6 * areaLimit → p .arrival < end → end ≤ base → Worth matchLimit end ((rowArea pattern + p .area) * base + p .arrival) all
     unfolding rowBest raised pointOf inputsBest both beside before
-    match-worth h i en hp ht he =
+    match-worth h hp ht he =
         let a = rowArea pattern in
         let w = (a + p .area) * base + p .arrival in
         let small : a ≤ 65535 = t .safe .area in
         let high : w / base ≡ a + p .area = omega arith in
         let low : w % base ≡ p .arrival = omega arith in
-        let done : n - k ≡ 0 = omega arith in
-        let whole : rest 0 n ≡ some p = i ∙ rw (done, lt-ltb 0 end (omega arith)) (ap {B = Option Point} some (point-path (omega arith) (omega arith))) in
-        worth-point matchLimit end w all (omega arith) (omega arith) (omega arith) (rw (← en, whole) (ap {B = Option Point} some (sym (point-path high low))))
+        let done : many - k ≡ 0 = omega arith in
+        let whole : rest 0 many ≡ some p = i ∙ rw (done, lt-ltb 0 end (omega arith)) (ap {B = Option Point} some (point-path (omega arith) (omega arith))) in
+        worth-point matchLimit end w all (omega arith) (omega arith) (omega arith) (rw whole (ap {B = Option Point} some (sym (point-path high low))))
 
   nothing : (n k : ℕ) → end ≡ 0 → rest k n ≡ none
   unfolding inputsBest before
@@ -273,11 +273,11 @@ module _ (limit end v w : ℕ) (o o′ : Option Point) (fits : limit ≤ absent)
 
 -- ---- the rows of a node
 
-pub rows-turn : (most : ℕ) (symbols work rows found : List ℕ) (load end j v w : ℕ) → Worth matchLimit end v (rowsBest most symbols work rows found load end j) →
-    Worth matchLimit end w (matchBefore most symbols work rows found load j end) → Worth matchLimit end (min v w) (rowsBest most symbols work rows found load end (j + 1))
+pub rows-turn : {most : ℕ} {symbols work rows found : List ℕ} {load count end : ℕ} {kept : List ℕ} → Kept most symbols work rows found load count end kept → (j v w : ℕ) →
+    Worth matchLimit end v (rowsBest most symbols work rows found load end j) → Worth matchLimit end w (matchBefore most symbols work rows found load j end) →
+    Worth matchLimit end (min v w) (rowsBest most symbols work rows found load end (j + 1))
 unfolding rowsBest
-rows-turn most symbols work rows found load end j v w a b =
-    rw add-one (lesser-word matchLimit end v w (rowsBest most symbols work rows found load end j) (matchBefore most symbols work rows found load j end) (omega arith) a b)
+rows-turn {end = end} k j v w a b = rw add-one (lesser-word matchLimit end v w _ _ (omega arith) a b)
 
 -- What reading one of the matches requires.
 pub row-ready : {most : ℕ} {rows found : List ℕ} {count : ℕ} {symbols work : List ℕ} → Matches most rows found count symbols work → (j : ℕ) → j < count →

@@ -40,8 +40,8 @@ module _ (most : ℕ) (symbols work rows found : List ℕ) (load count : ℕ) wh
   bestBefore end = rowsBest most symbols work rows found load end count
 
   -- The word kept for each match is its least point before every instant, from `end` back, that the word is still before.
-  abbrev pub Kept : ℕ → List ℕ → Type 0
-  Kept end kept = (j : ℕ) → j < count → (e : ℕ) → e ≤ end → getD kept j 0 % base < e → Worth matchLimit e (getD kept j 0) (matchBefore most symbols work rows found load j e)
+  pub record Kept (end : ℕ) (kept : List ℕ) : Type 0 where
+    pub lasts : (j : ℕ) → j < count → (e : ℕ) → e ≤ end → getD kept j 0 % base < e → Worth matchLimit e (getD kept j 0) (matchBefore most symbols work rows found load j e)
 
   -- The least of all, and what is kept after it was found.
   pub record Least (end : ℕ) (kept : List ℕ) (r : ℕ) : Type 0 where

@@ -8,7 +8,7 @@ ghost use lib.ListN.{length, drop};
 ghost use Rattle.covers.specs.Curve.{base, lookup};
 ghost use Rattle.matching.specs.Found.{matchBytes};
 ghost use Rattle.curves.specs.Words.{pointLimit, matchLimit, stored, curveAt, Small, WorkArea};
-ghost use Rattle.curves.specs.Best.{rowOf, patternOf, inputBest, inputLate, rowBest, legalBest, rowsBest, InputSafe, Sources, Tables, RowKnown, Matches, Above};
+ghost use Rattle.curves.specs.Best.{rowOf, patternOf, inputBest, inputLate, rowBest, legalBest, InputSafe, Sources, Tables, RowKnown, Matches, Above};
 ghost use Rattle.curves.specs.Promises.{Probed, Worth, PointsFit, Kept, Least, CurveStored};
 
 // The word for no point; how many curves a node has: one for each load bin; and how many words of a curve are tested in a straight line.
@@ -352,8 +352,9 @@ pub fn curve(
     requires { ⌜ PointsFit (target .most) (now symbols) (now work) (now rows) (now found) (target .load) count ⌝ }
     ensures { λ r. ⌜ CurveStored (target .most) (now (symbols .entry)) (now (work .entry)) (now (rows .entry)) (now (found .entry)) (target .load) count (target .at) (now (work .exit)) r ⌝ }
 {
+    let at = target.at;
     let most = target.most;
-    let first = (most + 1) * target.at;
+    let first = (most + 1) * at;
     keep_all(rows, found, count, symbols, work, kept, target);
     let mut end = Limits::TIMES;
     let mut k = 0;

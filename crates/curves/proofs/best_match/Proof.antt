@@ -1,14 +1,12 @@
 use native.Mathlib.Omega.{arith}
-use Prim.Native.Nat.{ℕ, _+_, _-_, _*_, _/_, _≤_, _<_}
+use Prim.Native.Nat.{_-_, _*_, _≤_, _<_}
 use native.Mathlib.Nat.{sub-zero}
-use mathlib.Core.Path.{_≡_, refl, sym, ap, subst, _∙_}
+use mathlib.Core.Path.{_≡_, sym, _∙_}
 use mathlib.Core.Option.{some}
-use Rattle.covers.specs.Cover.{Point}
-use Rattle.covers.specs.Curve.{base, both}
+use Rattle.covers.specs.Curve.{both}
 use Rattle.covers.proofs.Points.{both-nothing}
-use Rattle.curves.specs.Words.{areaLimit, matchLimit}
-use Rattle.curves.specs.Best.{rowArea, rowCount, inputsBest, rowBest}
-use Rattle.curves.specs.Promises.{Worth}
+use Rattle.curves.specs.Words.{areaLimit}
+use Rattle.curves.specs.Best.{rowCount, inputsBest}
 use Rattle.curves.proofs.Laws.{match-never, match-stops, match-turn, match-worth}
 use Rattle.curves.proofs.best_match.Statement.{statement}
 use Rattle.curves.proofs.best_match.Tie as tie
@@ -25,9 +23,6 @@ abbrev μ-loop : tie.MeasureT-loop
 returns : tie.Need-returns Inv-loop μ-loop
 returns c = let s = c .before .before .before .before .before in match-never (s .pre .0) (s .args .load) (s .args .end) (c .if1 .taken)
 
-cast-count : tie.Need-cast-count Inv-loop μ-loop
-cast-count c = omega (arith, c .before .before .before .before .before .before .pre .0 .safe .few)
-
 loop-holds : tie.Need-loop-holds Inv-loop μ-loop
 loop-holds c = (omega arith, omega arith, omega (arith, c .before .if1 .left), sym (both-nothing _ ∙ rw sub-zero))
 
@@ -40,10 +35,7 @@ returns-2 : tie.Need-returns-2 Inv-loop μ-loop
 returns-2 c =
     let s = c .before .before .before .before .before .before .before .before .before .before in
     let i = c .before .before .before .loop in
-    match-stops (s .pre .0) (s .args .load) (s .args .end) (i .k) (rowCount (s .args .row .now)) (record { area = i .area; arrival = i .arrival }) (c .before .before .loop-test .taken) (i .inv .3) (c .before .input-word .ensures .missing (c .if2 .taken)) refl
-
-add-area : tie.Need-add-area Inv-loop μ-loop
-add-area c = omega (arith, c .before .input-word .ensures .small (c .if2 .left), c .before .before .before .loop .inv .1, c .before .before .before .before .before .before .before .before .before .before .pre .0 .safe .few)
+    match-stops (s .pre .0) (s .args .load) (s .args .end) (i .k) (record { area = i .area; arrival = i .arrival }) (i .inv .3) (c .before .before .loop-test .taken) (c .before .input-word .ensures .missing (c .if2 .taken))
 
 loop-again : tie.Need-loop-again Inv-loop μ-loop
 loop-again c =
@@ -51,14 +43,14 @@ loop-again c =
     let i = c .before .before .before .before .loop in
     let g = c .before .before .input-word .ensures in
     let z = c .before .if2 .left in
-    let turn = match-turn (s .pre .0) (s .args .load) (s .args .end) (i .k) (rowCount (s .args .row .now)) (record { area = i .area; arrival = i .arrival }) (c .before .before .before .loop-test .taken) (i .inv .3) (c .before .before .input-word .result) (g .point z) in
+    let turn = match-turn (s .pre .0) (s .args .load) (s .args .end) (i .k) (record { area = i .area; arrival = i .arrival }) (i .inv .3) (c .before .before .before .loop-test .taken) (c .before .before .input-word .result) (g .point z) in
     (omega arith, omega (arith, g .small z, i .inv .1), omega (arith, g .intime z, i .inv .2, c .later .ensures), rw (c .later .ensures) turn)
 
 returns-3 : tie.Need-returns-3 Inv-loop μ-loop
 returns-3 c =
     let s = c .before .before .before .before .before .before .before .before .before .before in
     let i = c .before .before .before .loop in
-    rw (c .wide .ensures) (match-worth (s .pre .0) (s .args .load) (s .args .end) (i .k) (rowCount (s .args .row .now)) (record { area = i .area; arrival = i .arrival }) (c .before .before .loop-test .left) (i .inv .3) refl (omega (arith, s .pre .0 .safe .few, i .inv .1)) (i .inv .2) (s .pre .1 .1))
+    rw (c .wide .ensures) (match-worth (s .pre .0) (s .args .load) (s .args .end) (i .k) (record { area = i .area; arrival = i .arrival }) (i .inv .3) (c .before .before .loop-test .left) (omega (arith, s .pre .0 .safe .few, i .inv .1)) (i .inv .2) (s .pre .1 .1))
 
 pub best-match-spec : {M : Type 1} → statement M
 best-match-spec =
@@ -68,11 +60,11 @@ best-match-spec =
     μ-loop
     returns
     (λ c. omega arith)
-    cast-count
+    (λ c. omega (arith, c .before .before .before .before .before .before .pre .0 .safe .few))
     loop-holds
     input-word-requires
     returns-2
-    add-area
+    (λ c. omega (arith, c .before .input-word .ensures .small (c .if2 .left), c .before .before .before .loop .inv .1, c .before .before .before .before .before .before .before .before .before .before .pre .0 .safe .few))
     (λ c κs. omega arith)
     (λ c. omega arith)
     (λ c. omega arith)

@@ -12,9 +12,6 @@ returns c =
     let w = c .before .input-best in
     input-missing (s .pre .0) (s .args .load) (s .args .end) (s .args .k) (d .result) (l .result) (w .result) (d .ensures .0) (l .ensures) (w .ensures) (c .if1 .taken)
 
-add-result : tie.Need-add-result
-add-result c = omega (arith, c .before .input-best .ensures .small (c .if1 .left), c .before .before .before .before .before .before .delay .ensures .1)
-
 returns-2 : tie.Need-returns-2
 returns-2 c =
     let s = c .before .before .before .before .before .before .before .before .before .before .before .before .before .before in
@@ -52,5 +49,5 @@ input-word-spec =
     (λ c κs. search needs)
     (λ c κs. search needs)
     returns
-    add-result
+    (λ c. omega (arith, c .before .input-best .ensures .small (c .if1 .left), c .before .before .before .before .before .before .delay .ensures .1))
     returns-2)

@@ -14,21 +14,6 @@ within : (c : tie.After-shared-slice-known5) → let a = c .before .before .befo
     rowWords * (getD (take (matchBytes * a .j + matchBytes - matchBytes * a .j) (drop (matchBytes * a .j) (a .found .now))) 0 0 + 1) ≤ length (a .rows .now)
 within c = simp add-sub-cancel-left (c .before .before .before .before .before .before .pre .0 .0 .known)
 
-cast-from : tie.Need-cast-from
-cast-from c = omega (arith, within c)
-
-mul-from : tie.Need-mul-from
-mul-from c = omega (arith, within c)
-
-add-pattern : tie.Need-add-pattern
-add-pattern c = omega (arith, within c)
-
-mul-pattern : tie.Need-mul-pattern
-mul-pattern c = omega (arith, within c)
-
-part-pattern-end : tie.Need-part-pattern-end
-part-pattern-end c = omega (arith, within c)
-
 legal-match-requires : tie.Need-legal-match-requires
 legal-match-requires c κs =
     let s = c .before .before .before .before .before .before .before in
@@ -48,12 +33,12 @@ match-best-spec =
     (λ c. search needs)
     (λ c. search needs)
     (λ c. search needs)
-    cast-from
-    mul-from
-    add-pattern
-    mul-pattern
+    (λ c. omega (arith, within c))
+    (λ c. omega (arith, within c))
+    (λ c. omega (arith, within c))
+    (λ c. omega (arith, within c))
     (λ c. search needs)
     (λ c. search needs)
-    part-pattern-end
+    (λ c. omega (arith, within c))
     legal-match-requires
     returns)
