@@ -20,7 +20,7 @@ use Rattle.covers.specs.Curve.{Filled, curve, gates}
 use Rattle.covers.proofs.Basics.{lt-or-le, at-all, true-any, false-any}
 use Rattle.covers.proofs.Matching.{size-pos}
 use Rattle.covers.proofs.Tradeoffs.{leaf-tradeoffs}
-use Rattle.covers.proofs.Nodes.{root-in}
+use Rattle.covers.proofs.Nodes.{node-at, root-in}
 use Rattle.covers.proofs.Ascending.{ascending-range, ascending-unique}
 use Rattle.covers.proofs.Overfull.{nodes-ascend, overfull-named, LastOf, nowhere, at, highest-unique}
 use Rattle.covers.proofs.Filling.{filled-start, filled-next}

@@ -4,7 +4,11 @@ use mathlib.Core.List.{List, [], _∷_}
 use lib.ListN.{length}
 use Rattle.covers.specs.Match.{Input, Match}
 
--- How many bytes a row has, and a table with a row for each of 32 crossings of 128 patterns.
+-- A node may have a match for each of 32 crossings of 128 patterns.
+abbrev pub matchMost : ℕ
+matchMost = 4096
+
+-- How many bytes a row has, and a table with a row for each of them.
 abbrev pub matchBytes : ℕ
 matchBytes = 16
 
