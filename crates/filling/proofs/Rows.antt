@@ -50,14 +50,17 @@ lists : (row : List ℕ) (k : ℕ) (is : List Input) → ((j : ℕ) → j < leng
 lists row k [] h = tt
 lists row k (i ∷ is) h =
     let e : k + 0 ≡ k = omega arith in
-    let first = h 0 (omega arith) in
-    (ap (λ j. getD row (inputPlace j) 0) (sym e) ∙ first .0, ap (λ j. getD row (inputPlace j + 1) 0) (sym e) ∙ first .1,
-    lists row (suc k) is (λ j g. let f : suc k + j ≡ k + suc j = omega arith in rw f (h (suc j) (omega arith))))
+    let first = h 0 (omega arith) in (
+      ap (λ j. getD row (inputPlace j) 0) (sym e) ∙ first .0,
+      ap (λ j. getD row (inputPlace j + 1) 0) (sym e) ∙ first .1,
+      lists row (suc k) is (λ j g. let f : suc k + j ≡ k + suc j = omega arith in rw f (h (suc j) (omega arith))),
+    )
 
 holds-lists : (row : List ℕ) (m : Match) → Holds row m → Listed row 0 (m .inputs)
 holds-lists row m w = lists row 0 (m .inputs) (λ j g. rw (zero-add j) (
-    w (inputPlace j) (omega (arith, length-row m)) ∙ row-pin m j g,
-    w (inputPlace j + 1) (omega (arith, length-row m)) ∙ row-node m j g))
+  w (inputPlace j) (omega (arith, length-row m)) ∙ row-pin m j g,
+  w (inputPlace j + 1) (omega (arith, length-row m)) ∙ row-node m j g,
+))
 
 -- The inputs feed pins of the cell.
 abbrev pub Pinned : Cell → List Input → Type 0

@@ -1,141 +1,158 @@
--- The loop over a row's inputs: those passed are read.
-use native.Mathlib.Omega.{arith}
-use Prim.Native.Nat.{ℕ, _-_, _≤_, _<_}
-use mathlib.Core.Path.{_≡_, refl, _∙_}
-use lib.ListN.{length, getD, length-set}
-use Rattle.sheets.specs.Model.{Library}
-use Rattle.covers.specs.Match.{Match}
-use Rattle.curves.specs.Best.{rowCount}
-use Rattle.choosing.specs.Promises.{RowHolds, goalOf, noInput}
-use Rattle.choosing.proofs.Reading.{goalIn, count-at, pattern-at, inputs-turn}
 use Rattle.choosing.proofs.read_inputs.Statement.{statement}
 use Rattle.choosing.proofs.read_inputs.Tie as tie
+use Rattle.choosing.proofs.read_inputs.Reads as reads
+use Rattle.choosing.proofs.read_inputs.Lts as lts
+use Rattle.choosing.proofs.time_left.Reads as time-left-reads
 
 abbrev Inv-loop : tie.InvT-loop
-Inv-loop row load time nodes₀ loads₀ bins₀ times₀ count k₀ nodes loads bins times k =
-    (k ≤ count) × (count ≡ rowCount row) × (length nodes ≡ 16) × (length loads ≡ 16) × (length bins ≡ 16) × (length times ≡ 16)
-    × ((l : Library) (m : Match) → RowHolds l row m → (i : ℕ) → i < k → goalIn nodes loads bins times i ≡ goalOf l m load time (getD (m .inputs) i noInput))
+Inv-loop pattern row load time nodes₀ loads₀ bins₀ times₀ count k₀ nodes loads bins times k = ?
 
 abbrev μ-loop : tie.MeasureT-loop
-μ-loop row load time nodes₀ loads₀ bins₀ times₀ count k₀ nodes loads bins times k = count - k
+μ-loop pattern row load time nodes₀ loads₀ bins₀ times₀ count k₀ nodes loads bins times k = ?
 
+-- src/lib.rt:99:17
 shared-slice-read-count : tie.Need-shared-slice-read-count Inv-loop μ-loop
-shared-slice-read-count c = omega arith
+shared-slice-read-count c = ?
 
+-- src/lib.rt:99:17
 cast-count : tie.Need-cast-count Inv-loop μ-loop
-cast-count c = omega arith
+cast-count c = ?
 
+-- src/lib.rt:101:5
 loop-holds : tie.Need-loop-holds Inv-loop μ-loop
-loop-holds c = (omega arith, refl, refl, refl, refl, refl, λ l m h i g. absurd (omega arith))
+loop-holds c = ?
 
+-- src/lib.rt:102:32
 mul-at : tie.Need-mul-at Inv-loop μ-loop
-mul-at c = omega arith
+mul-at c = ?
 
+-- src/lib.rt:102:18
 add-at : tie.Need-add-at Inv-loop μ-loop
-add-at c = omega arith
+add-at c = ?
 
-mul-nodes : tie.Need-mul-nodes Inv-loop μ-loop
-mul-nodes c = omega arith
+-- src/lib.rt:103:63
+shared-slice-read-figures : tie.Need-shared-slice-read-figures Inv-loop μ-loop
+shared-slice-read-figures c = ?
 
+-- src/lib.rt:103:63
+cast-figures : tie.Need-cast-figures Inv-loop μ-loop
+cast-figures c = ?
+
+-- src/lib.rt:103:45
+mul-figures : tie.Need-mul-figures Inv-loop μ-loop
+mul-figures c = ?
+
+-- src/lib.rt:103:23
+add-figures : tie.Need-add-figures Inv-loop μ-loop
+add-figures c = ?
+
+-- src/lib.rt:104:24
+add-nodes : tie.Need-add-nodes Inv-loop μ-loop
+add-nodes c = ?
+
+-- src/lib.rt:104:20
 shared-slice-read-nodes : tie.Need-shared-slice-read-nodes Inv-loop μ-loop
-shared-slice-read-nodes c = omega arith
+shared-slice-read-nodes c = ?
 
-cast-nodes : tie.Need-cast-nodes Inv-loop μ-loop
-cast-nodes c = omega (arith, c .before .before .before .before .before .pre .0 .inputs (c .before .before .loop .k) (omega arith) .node)
-
+-- src/lib.rt:104:9
 array-write-nodes : tie.Need-array-write-nodes Inv-loop μ-loop
-array-write-nodes c = omega arith
+array-write-nodes c = ?
 
+-- src/lib.rt:105:28
 add-loads : tie.Need-add-loads Inv-loop μ-loop
-add-loads c = omega arith
+add-loads c = ?
 
+-- src/lib.rt:105:20
 mul-loads : tie.Need-mul-loads Inv-loop μ-loop
-mul-loads c = omega arith
+mul-loads c = ?
 
+-- src/lib.rt:105:20
 shared-slice-read-loads : tie.Need-shared-slice-read-loads Inv-loop μ-loop
-shared-slice-read-loads c = omega arith
+shared-slice-read-loads c = ?
 
+-- src/lib.rt:105:20
 cast-loads : tie.Need-cast-loads Inv-loop μ-loop
-cast-loads c = omega (arith, c .before .before .before .before .before .before .pre .0 .inputs (c .before .before .before .loop .k) (omega arith) .load)
+cast-loads c = ?
 
+-- src/lib.rt:105:9
 array-write-loads : tie.Need-array-write-loads Inv-loop μ-loop
-array-write-loads c = omega arith
+array-write-loads c = ?
 
-add-bins : tie.Need-add-bins Inv-loop μ-loop
-add-bins c = omega arith
-
+-- src/lib.rt:106:19
 mul-bins : tie.Need-mul-bins Inv-loop μ-loop
-mul-bins c = omega arith
+mul-bins c = ?
 
+-- src/lib.rt:106:19
 shared-slice-read-bins : tie.Need-shared-slice-read-bins Inv-loop μ-loop
-shared-slice-read-bins c = omega arith
+shared-slice-read-bins c = ?
 
+-- src/lib.rt:106:19
 cast-bins : tie.Need-cast-bins Inv-loop μ-loop
-cast-bins c = omega (arith, c .before .before .before .before .before .before .before .pre .0 .inputs (c .before .before .before .before .loop .k) (omega arith) .bin)
+cast-bins c = ?
 
+-- src/lib.rt:106:9
 array-write-bins : tie.Need-array-write-bins Inv-loop μ-loop
-array-write-bins c = omega arith
+array-write-bins c = ?
 
+-- src/lib.rt:109:21
 add-time-left : tie.Need-add-time-left Inv-loop μ-loop
-add-time-left c = omega arith
+add-time-left c = ?
 
+-- src/lib.rt:109:13
 mul-time-left : tie.Need-mul-time-left Inv-loop μ-loop
-mul-time-left c = omega arith
+mul-time-left c = ?
 
+-- src/lib.rt:109:13
 shared-slice-read-time-left : tie.Need-shared-slice-read-time-left Inv-loop μ-loop
-shared-slice-read-time-left c = omega arith
+shared-slice-read-time-left c = ?
 
+-- src/lib.rt:110:21
 add-time-left-2 : tie.Need-add-time-left-2 Inv-loop μ-loop
-add-time-left-2 c = omega arith
+add-time-left-2 c = ?
 
+-- src/lib.rt:110:13
 mul-time-left-2 : tie.Need-mul-time-left-2 Inv-loop μ-loop
-mul-time-left-2 c = omega arith
+mul-time-left-2 c = ?
 
+-- src/lib.rt:110:13
 shared-slice-read-time-left-2 : tie.Need-shared-slice-read-time-left-2 Inv-loop μ-loop
-shared-slice-read-time-left-2 c = omega arith
+shared-slice-read-time-left-2 c = ?
 
+-- src/lib.rt:107:20
 time-left-requires : tie.Need-time-left-requires Inv-loop μ-loop
-time-left-requires c κs =
-    let p = c .before .before .before .before .before .before .before .before .before .pre in
-    let q = p .0 .inputs (c .before .before .before .before .before .before .loop .k) (omega arith) in
-    (q .intrinsic, q .drive, p .3)
+time-left-requires c κs = ?
 
+-- src/lib.rt:107:9
 mul-times : tie.Need-mul-times Inv-loop μ-loop
-mul-times c = omega arith
+mul-times c = ?
 
+-- src/lib.rt:107:9
 array-write-times : tie.Need-array-write-times Inv-loop μ-loop
-array-write-times c = omega arith
+array-write-times c = ?
 
+-- src/lib.rt:113:9
 add-k : tie.Need-add-k Inv-loop μ-loop
-add-k c = omega arith
+add-k c = ?
 
+-- src/lib.rt:101:5
 loop-less : tie.Need-loop-less Inv-loop μ-loop
-loop-less c = omega arith
+loop-less c = ?
 
+-- src/lib.rt:101:5
 loop-again : tie.Need-loop-again Inv-loop μ-loop
-loop-again c =
-    let a = c .before .before .before .before .before .before .before .before .before .before .args in
-    let i = c .before .before .before .before .before .before .before .loop in (
-      omega arith,
-      refl,
-      length-set (i .nodes) (i .k) _ ∙ i .inv .2,
-      length-set (i .loads) (i .k) _ ∙ i .inv .3,
-      length-set (i .bins) (i .k) _ ∙ i .inv .4,
-      length-set (i .times) (i .k) _ ∙ i .inv .5,
-      λ l m h. inputs-turn l (a .row .now) m h (a .load) (a .time) (i .k) (c .time-left .result) (i .nodes) (i .loads) (i .bins) (i .times) (omega arith) (i .inv .2) (i .inv .3) (i .inv .4) (i .inv .5) (c .time-left .ensures) (i .inv .6 l m h),
-    )
+loop-again c = ?
 
-shared-slice-read-t12 : tie.Need-shared-slice-read-t12 Inv-loop μ-loop
-shared-slice-read-t12 c = omega arith
+-- src/lib.rt:116:18
+shared-slice-read-t14 : tie.Need-shared-slice-read-t14 Inv-loop μ-loop
+shared-slice-read-t14 c = ?
 
-cast-t37 : tie.Need-cast-t37 Inv-loop μ-loop
-cast-t37 c = omega arith
+-- src/lib.rt:117:19
+shared-slice-read-t41 : tie.Need-shared-slice-read-t41 Inv-loop μ-loop
+shared-slice-read-t41 c = ?
 
+-- src/lib.rt:91:1
 returns : tie.Need-returns Inv-loop μ-loop
-returns c = λ l m h.
-    let a = c .before .before .before .before .before .args in
-    let many = count-at l (a .row .now) m h in
-    record { pattern-is = pattern-at l (a .row .now) m h; count-is = many; few = h .few; each = λ k g. c .before .before .loop .inv .6 l m h k (omega arith) }
+returns c = ?
 
 pub read-inputs-spec : {M : Type 1} → statement M
 read-inputs-spec =
@@ -148,16 +165,18 @@ read-inputs-spec =
     loop-holds
     mul-at
     add-at
-    mul-nodes
+    shared-slice-read-figures
+    cast-figures
+    mul-figures
+    add-figures
+    add-nodes
     shared-slice-read-nodes
-    cast-nodes
     array-write-nodes
     add-loads
     mul-loads
     shared-slice-read-loads
     cast-loads
     array-write-loads
-    add-bins
     mul-bins
     shared-slice-read-bins
     cast-bins
@@ -174,6 +193,6 @@ read-inputs-spec =
     add-k
     loop-less
     loop-again
-    shared-slice-read-t12
-    cast-t37
+    shared-slice-read-t14
+    shared-slice-read-t41
     returns)

@@ -144,7 +144,7 @@ next-crossing-requires c κs =
     let tried = t .1 .1 in (
       q .loop-test .taken,
       decides-few tried (i .crossing) (i .inv .3 (t .0) (t .1 .0) tried .0 (q .loop-test .taken)) (walked-here (c .before .before .before .before .before) (t .0) (t .1 .0) tried) _ (c .deciding .result)
-      (nands-told tried (measured (q .before .before .before) (t .0) (t .1 .0) tried)) (c .deciding .ensures),
+          (nands-told tried (measured (q .before .before .before) (t .0) (t .1 .0) tried)) (c .deciding .ensures),
     )
 
 loop-less : tie.Need-loop-less Inv-loop μ-loop
