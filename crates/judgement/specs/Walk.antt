@@ -76,7 +76,7 @@ unfoldable pub step : Library → Walk → Placed → Option Walk
 unfolding placedAt lowestAt
 step l w x = placedAt l w x (lowestAt (x .node) (w .left))
 
--- "23 for the first match that is misplaced or not legal, or a list that ends early or late."
+-- "23 for the first match that is misplaced or not legal, or a list that ends early or late", and "where a bit is wrong".
 abbrev pub matchNumber : ℕ
 matchNumber = 23
 
