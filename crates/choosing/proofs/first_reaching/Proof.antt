@@ -26,7 +26,7 @@ add-match-best c = omega arith
 
 match-best-requires : tie.Need-match-best-requires Inv-loop μ-loop
 match-best-requires c κs =
-    let p = c .before .before .before .before .before .pre in
+    let p = c .before .before .before .before .before .before .pre in
     (row-ready (p .0) (c .before .loop .j) (omega arith), (p .0 .sources, (p .1 .0, omega arith)))
 
 add-j : tie.Need-add-j Inv-loop μ-loop
@@ -41,10 +41,10 @@ loop-again c =
     (omega arith, λ k h. go k (lt-or-le k (i .j)) h)
   where
     go : (k : ℕ) → (k < c .before .before .before .loop .j) ⊎ (c .before .before .before .loop .j ≤ k) → k < c .before .before .before .loop .j + 1 →
-        let a = c .before .before .before .before .before .before .before .args in Reaches (a .most) (a .symbols .now) (a .work .now) (a .rows .now) (a .load) (a .w) (rowOf (a .found .now) k) → ⊥
+        let a = c .before .before .before .before .before .before .before .before .args in Reaches (a .most) (a .symbols .now) (a .work .now) (a .rows .now) (a .load) (a .w) (rowOf (a .found .now) k) → ⊥
     go k (inl l) h = c .before .before .before .loop .inv .1 k l
     go k (inr l) h =
-        let a = c .before .before .before .before .before .before .before .args in
+        let a = c .before .before .before .before .before .before .before .before .args in
         let e : c .before .before .before .loop .j ≡ k = omega arith in
         subst (λ (q : ℕ). Reaches (a .most) (a .symbols .now) (a .work .now) (a .rows .now) (a .load) (a .w) (rowOf (a .found .now) q) → ⊥) e
         (unreached (a .w) (c .before .match-best .result) (a .w % base + 1) _ (omega arith) (c .before .match-best .ensures) (c .if1 .left))
@@ -58,7 +58,7 @@ returns-2 : tie.Need-returns-2 Inv-loop μ-loop
 returns-2 c =
     let i = c .before .before .before .loop in
     let w = c .before .match-best in
-    let a = c .before .before .before .before .before .before .before .args in
+    let a = c .before .before .before .before .before .before .before .before .args in
     record { within = i .inv .0; before = i .inv .1; here = λ h. reached (a .w) (w .result) (a .w % base + 1) _ (omega arith) (w .ensures) (c .if1 .taken) }
 
 pub first-reaching-spec : {M : Type 1} → statement M

@@ -1,3 +1,16 @@
+-- The loop over a row's inputs: those passed are read.
+use native.Mathlib.Omega.{arith}
+use Prim.Native.Nat.{ℕ, _-_, _≤_, _<_}
+use mathlib.Core.Path.{_≡_, refl, _∙_}
+use mathlib.Core.List.{List}
+use lib.ListN.{length, getD, length-set}
+use Rattle.sheets.specs.Model.{Library}
+use Rattle.sheets.specs.Layout.{rowWords}
+use Rattle.covers.specs.Match.{Match}
+use Rattle.matching.specs.Found.{matchBytes}
+use Rattle.curves.specs.Best.{rowCount, InputSafe}
+use Rattle.choosing.specs.Promises.{RowHolds, goalOf, noInput}
+use Rattle.choosing.proofs.Reading.{goalIn, count-at, pattern-at, crossing-at, inputs-turn}
 use Rattle.choosing.proofs.read_inputs.Statement.{statement}
 use Rattle.choosing.proofs.read_inputs.Tie as tie
 use Rattle.choosing.proofs.read_inputs.Reads as reads
@@ -5,154 +18,157 @@ use Rattle.choosing.proofs.read_inputs.Lts as lts
 use Rattle.choosing.proofs.time_left.Reads as time-left-reads
 
 abbrev Inv-loop : tie.InvT-loop
-Inv-loop pattern row load time nodes₀ loads₀ bins₀ times₀ count k₀ nodes loads bins times k = ?
+Inv-loop pattern row load time nodes₀ loads₀ bins₀ times₀ count k₀ nodes loads bins times k =
+    (k ≤ count) × (count ≡ rowCount row) × (length nodes ≡ 6) × (length loads ≡ 6) × (length bins ≡ 6) × (length times ≡ 6)
+    × ((l : Library) (m : Match) → RowHolds l pattern row m → (i : ℕ) → i < k → goalIn nodes loads bins times i ≡ goalOf l m load time (getD (m .inputs) i noInput))
 
 abbrev μ-loop : tie.MeasureT-loop
-μ-loop pattern row load time nodes₀ loads₀ bins₀ times₀ count k₀ nodes loads bins times k = ?
+μ-loop pattern row load time nodes₀ loads₀ bins₀ times₀ count k₀ nodes loads bins times k = count - k
 
--- src/lib.rt:99:17
+-- What the loop may read and write.
+record Near (pattern row : List ℕ) (k : ℕ) : Type 0 where
+  pattern-long : length pattern ≡ rowWords
+  row-long : length row ≡ matchBytes
+  few : k < 6
+  safe : InputSafe pattern row k
+
+near : (c : tie.In-loop Inv-loop μ-loop) → let a = c .before .before .before .before .before .args in Near (a .pattern .now) (a .row .now) (c .before .loop .k)
+near c =
+    let p = c .before .before .before .before .before .pre in
+    let a = c .before .before .before .before .before .args in
+    let below : c .before .loop .k < rowCount (a .row .now) = omega (arith, c .loop-test .taken, c .before .loop .inv .1) in
+    record { pattern-long = p .1; row-long = p .2; few = omega (arith, p .0 .few, c .loop-test .taken, c .before .loop .inv .1); safe = p .0 .inputs (c .before .loop .k) below }
+
 shared-slice-read-count : tie.Need-shared-slice-read-count Inv-loop μ-loop
-shared-slice-read-count c = ?
+shared-slice-read-count c = omega (arith, c .before .before .before .pre .2)
 
--- src/lib.rt:99:17
 cast-count : tie.Need-cast-count Inv-loop μ-loop
-cast-count c = ?
+cast-count c = omega (arith, c .before .before .before .pre .0 .few)
 
--- src/lib.rt:101:5
 loop-holds : tie.Need-loop-holds Inv-loop μ-loop
-loop-holds c = ?
+loop-holds c = (omega arith, refl, refl, refl, refl, refl, λ l m h i g. absurd (omega arith))
 
--- src/lib.rt:102:32
 mul-at : tie.Need-mul-at Inv-loop μ-loop
-mul-at c = ?
+mul-at c = let b = near (c) in omega arith
 
--- src/lib.rt:102:18
 add-at : tie.Need-add-at Inv-loop μ-loop
-add-at c = ?
+add-at c = let b = near (c) in omega arith
 
--- src/lib.rt:103:63
 shared-slice-read-figures : tie.Need-shared-slice-read-figures Inv-loop μ-loop
-shared-slice-read-figures c = ?
+shared-slice-read-figures c = let b = near (c .before) in omega arith
 
--- src/lib.rt:103:63
 cast-figures : tie.Need-cast-figures Inv-loop μ-loop
-cast-figures c = ?
+cast-figures c = let b = near (c .before) in omega (arith, b .safe .pin)
 
--- src/lib.rt:103:45
 mul-figures : tie.Need-mul-figures Inv-loop μ-loop
-mul-figures c = ?
+mul-figures c = let b = near (c .before) in omega (arith, b .safe .pin)
 
--- src/lib.rt:103:23
 add-figures : tie.Need-add-figures Inv-loop μ-loop
-add-figures c = ?
+add-figures c = let b = near (c .before) in omega (arith, b .safe .pin)
 
--- src/lib.rt:104:24
 add-nodes : tie.Need-add-nodes Inv-loop μ-loop
-add-nodes c = ?
+add-nodes c = let b = near (c .before) in omega arith
 
--- src/lib.rt:104:20
 shared-slice-read-nodes : tie.Need-shared-slice-read-nodes Inv-loop μ-loop
-shared-slice-read-nodes c = ?
+shared-slice-read-nodes c = let b = near (c .before .before) in omega arith
 
--- src/lib.rt:104:9
 array-write-nodes : tie.Need-array-write-nodes Inv-loop μ-loop
-array-write-nodes c = ?
+array-write-nodes c = let b = near (c .before .before) in omega arith
 
--- src/lib.rt:105:28
 add-loads : tie.Need-add-loads Inv-loop μ-loop
-add-loads c = ?
+add-loads c = let b = near (c .before .before) in omega (arith, b .safe .pin)
 
--- src/lib.rt:105:20
 mul-loads : tie.Need-mul-loads Inv-loop μ-loop
-mul-loads c = ?
+mul-loads c = let b = near (c .before .before) in omega (arith, b .safe .pin)
 
--- src/lib.rt:105:20
 shared-slice-read-loads : tie.Need-shared-slice-read-loads Inv-loop μ-loop
-shared-slice-read-loads c = ?
+shared-slice-read-loads c = let b = near (c .before .before .before) in omega (arith, b .safe .pin)
 
--- src/lib.rt:105:20
 cast-loads : tie.Need-cast-loads Inv-loop μ-loop
-cast-loads c = ?
+cast-loads c = let b = near (c .before .before .before) in omega (arith, b .safe .load)
 
--- src/lib.rt:105:9
 array-write-loads : tie.Need-array-write-loads Inv-loop μ-loop
-array-write-loads c = ?
+array-write-loads c = let b = near (c .before .before .before) in omega arith
 
--- src/lib.rt:106:19
 mul-bins : tie.Need-mul-bins Inv-loop μ-loop
-mul-bins c = ?
+mul-bins c = let b = near (c .before .before .before) in omega (arith, b .safe .pin)
 
--- src/lib.rt:106:19
 shared-slice-read-bins : tie.Need-shared-slice-read-bins Inv-loop μ-loop
-shared-slice-read-bins c = ?
+shared-slice-read-bins c = let b = near (c .before .before .before .before) in omega (arith, b .safe .pin)
 
--- src/lib.rt:106:19
 cast-bins : tie.Need-cast-bins Inv-loop μ-loop
-cast-bins c = ?
+cast-bins c = let b = near (c .before .before .before .before) in omega (arith, b .safe .bin)
 
--- src/lib.rt:106:9
 array-write-bins : tie.Need-array-write-bins Inv-loop μ-loop
-array-write-bins c = ?
+array-write-bins c = let b = near (c .before .before .before .before) in omega arith
 
--- src/lib.rt:109:21
 add-time-left : tie.Need-add-time-left Inv-loop μ-loop
-add-time-left c = ?
+add-time-left c = let b = near (c .before .before .before .before) in omega (arith, b .safe .pin)
 
--- src/lib.rt:109:13
 mul-time-left : tie.Need-mul-time-left Inv-loop μ-loop
-mul-time-left c = ?
+mul-time-left c = let b = near (c .before .before .before .before) in omega (arith, b .safe .pin)
 
--- src/lib.rt:109:13
 shared-slice-read-time-left : tie.Need-shared-slice-read-time-left Inv-loop μ-loop
-shared-slice-read-time-left c = ?
+shared-slice-read-time-left c = let b = near (c .before .before .before .before .before) in omega (arith, b .safe .pin)
 
--- src/lib.rt:110:21
 add-time-left-2 : tie.Need-add-time-left-2 Inv-loop μ-loop
-add-time-left-2 c = ?
+add-time-left-2 c = let b = near (c .before .before .before .before .before) in omega (arith, b .safe .pin)
 
--- src/lib.rt:110:13
 mul-time-left-2 : tie.Need-mul-time-left-2 Inv-loop μ-loop
-mul-time-left-2 c = ?
+mul-time-left-2 c = let b = near (c .before .before .before .before .before) in omega (arith, b .safe .pin)
 
--- src/lib.rt:110:13
 shared-slice-read-time-left-2 : tie.Need-shared-slice-read-time-left-2 Inv-loop μ-loop
-shared-slice-read-time-left-2 c = ?
+shared-slice-read-time-left-2 c = let b = near (c .before .before .before .before .before .before) in omega (arith, b .safe .pin)
 
--- src/lib.rt:107:20
 time-left-requires : tie.Need-time-left-requires Inv-loop μ-loop
-time-left-requires c κs = ?
+time-left-requires c κs = let q = near (c .before .before .before .before .before .before) .safe in (q .intrinsic, q .drive, c .before .before .before .before .before .before .before .before .before .before .before .pre .3)
 
--- src/lib.rt:107:9
 mul-times : tie.Need-mul-times Inv-loop μ-loop
-mul-times c = ?
+mul-times c = let b = near (c .before .before .before .before .before .before .before) in omega arith
 
--- src/lib.rt:107:9
 array-write-times : tie.Need-array-write-times Inv-loop μ-loop
-array-write-times c = ?
+array-write-times c = let b = near (c .before .before .before .before .before .before .before) in omega arith
 
--- src/lib.rt:113:9
 add-k : tie.Need-add-k Inv-loop μ-loop
-add-k c = ?
+add-k c = let b = near (c .before .before .before .before .before .before .before) in omega arith
 
--- src/lib.rt:101:5
 loop-less : tie.Need-loop-less Inv-loop μ-loop
-loop-less c = ?
+loop-less c = omega (arith, c .before .before .before .before .before .before .before .loop-test .taken)
 
--- src/lib.rt:101:5
 loop-again : tie.Need-loop-again Inv-loop μ-loop
-loop-again c = ?
+loop-again c =
+    let q = c .before .before .before .before .before .before .before in
+    let a = q .before .before .before .before .before .args in
+    let i = q .before .loop in (
+      omega (arith, q .loop-test .taken),
+      i .inv .1,
+      length-set (i .nodes) (i .k) _ ∙ i .inv .2,
+      length-set (i .loads) (i .k) _ ∙ i .inv .3,
+      length-set (i .bins) (i .k) _ ∙ i .inv .4,
+      length-set (i .times) (i .k) _ ∙ i .inv .5,
+      λ l m h.
+          inputs-turn l (a .pattern .now) (a .row .now) m h (a .load) (a .time) (i .k) (c .time-left .result) (i .nodes) (i .loads) (i .bins) (i .times) (omega (arith, q .loop-test .taken, i .inv .1)) (i .inv .2) (i .inv .3) (i .inv .4) (i .inv .5)
+          (c .time-left .ensures) (i .inv .6 l m h),
+    )
 
--- src/lib.rt:116:18
 shared-slice-read-t14 : tie.Need-shared-slice-read-t14 Inv-loop μ-loop
-shared-slice-read-t14 c = ?
+shared-slice-read-t14 c = omega (arith, c .before .before .before .before .before .before .pre .2)
 
--- src/lib.rt:117:19
 shared-slice-read-t41 : tie.Need-shared-slice-read-t41 Inv-loop μ-loop
-shared-slice-read-t41 c = ?
+shared-slice-read-t41 c = omega (arith, c .before .before .before .before .before .before .before .pre .2)
 
--- src/lib.rt:91:1
 returns : tie.Need-returns Inv-loop μ-loop
-returns c = ?
+returns c = λ l m h.
+    let a = c .before .before .before .before .before .before .before .args in
+    let i = c .before .before .before .loop in
+    let many = count-at l (a .pattern .now) (a .row .now) m h in
+    record {
+      pattern-is = pattern-at l (a .pattern .now) (a .row .now) m h;
+      crossing-is = crossing-at l (a .pattern .now) (a .row .now) m h;
+      count-is = many;
+      few = h .few;
+      each = λ k g. i .inv .6 l m h k (omega (arith, many, c .before .before .loop-test .left, i .inv .1));
+    }
 
 pub read-inputs-spec : {M : Type 1} → statement M
 read-inputs-spec =
