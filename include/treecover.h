@@ -30,7 +30,7 @@ extern "C" {
  */
 
 /* The least lengths of an output in bytes and of a work area in words. */
-#define TREECOVER_MAP_OUTPUT 109
+#define TREECOVER_MAP_OUTPUT 149
 #define TREECOVER_LIST_OUTPUT 179
 #define TREECOVER_WORK 8192
 
