@@ -17,11 +17,10 @@ use Rattle.covers.specs.Cover.{Point, late, raised, leafPoint}
 use Rattle.covers.specs.Choice.{before, lesser}
 use Rattle.covers.proofs.Basics.{lt-or-le}
 use Rattle.covers.specs.Curve.{base, both, byDeadline, chained, lookup, pointOf, wordOf}
-use Rattle.covers.proofs.Points.{point-path}
 use Rattle.curves.specs.Words.{absent, pointLimit, matchLimit, stored, slot, curveAt, Small, AgreeFrom}
 use Rattle.curves.specs.Best.{rowOf, patternOf, rowArea, rowLegal, rowCount, inputNode, inputBin, inputLoad, rowDelay, inputBest, inputLate, inputsBest, rowBest, legalBest, rowsBest, Above}
-use Rattle.curves.specs.Promises.{Worth, matchBefore, bestBefore, nodePoints, PointsFit, Kept, Least, CurveStored, Fit}
-use Rattle.curves.proofs.Laws.{word-point, apart, part-word}
+use Rattle.curves.specs.Promises.{Worth, matchBefore, Rising, AllRising, bestBefore, nodePoints, PointsFit, Kept, Least, CurveStored, Fit}
+use Rattle.curves.proofs.Laws.{word-point, point-word, apart, part-word}
 
 -- ---- the other curves
 
@@ -82,7 +81,17 @@ module _ (most : ℕ) (symbols work work′ : List ℕ) (at : ℕ) (a : AgreeFro
   rows-same end = rows-upto end n (omega arith)
 
   pub kept-same : {end : ℕ} {kept : List ℕ} → Kept most symbols work rows found load n end kept → Kept most symbols work′ rows found load n end kept
-  kept-same {kept = kept} k = record { lasts = λ j l e h t. subst (Worth matchLimit e (getD kept j 0)) (match-same j l e) (k .lasts j l e h t) }
+  kept-same {kept = kept} k = record {
+    lasts = λ j l e h t. subst (Worth matchLimit e (getD kept j 0)) (match-same j l e) (k .lasts j l e h t);
+    bounds = λ j l e h p q. k .bounds j l e h p (match-same j l e ∙ q);
+  }
+
+  pub rising-same : AllRising most symbols work rows found load n → AllRising most symbols work′ rows found load n
+  rising-same r j l = record {
+    intime = λ end p q. r j l .intime end p (match-same j l end ∙ q);
+    small = λ end p q. r j l .small end p (match-same j l end ∙ q);
+    rises = λ end end′ h p q. let z = r j l .rises end end′ h p (match-same j l end ∙ q) in (z .0, sym (match-same j l end′) ∙ z .1, z .2);
+  }
 
 -- ---- a curve, point by point
 
@@ -124,6 +133,9 @@ module _ {most : ℕ} {symbols work rows found : List ℕ} {load count at k end 
   agrees j le =
       ap (λ (q : List ℕ). curveAt most q j) (g .laid)
       ∙ curve-other most work at j (map wordOf (g .points)) (λ z. absurd (omega arith)) (omega (arith, length-map (g .points) wordOf, g .many, g .few))
+
+  pub growing-rising : AllRising most symbols work rows found load count → AllRising most symbols work′ rows found load count
+  growing-rising = rising-same most symbols work work′ at (λ j le. sym (agrees j le)) rows found load count above
 
   pub growing-kept : Kept most symbols work′ rows found load count end kept
   growing-kept = kept-same most symbols work work′ at (λ j le. sym (agrees j le)) rows found load count above (g .lasting)
@@ -168,16 +180,12 @@ module _ {most : ℕ} {symbols work rows found : List ℕ} {load count at k end 
               ∙ ap (λ (i : ℕ). set (sets work (slot most at) (map wordOf (g .points))) (slot most at + i) (wordOf (pointOf w))) (sym (length-map (g .points) wordOf ∙ g .many))
               ∙ sym (sets-append work (slot most at) (map wordOf (g .points)) (wordOf (pointOf w) ∷ []))
               ∙ ap (sets work (slot most at)) (sym (map-append wordOf (g .points) (pointOf w ∷ [])));
-          small = small-set work′ (slot most at + k) w l (g .small) (omega (arith, fit end (pointOf w) now .area));
+          small = small-set work′ (slot most at + k) w l (g .small) (omega (arith, fit .fit end (pointOf w) now .area));
           bounded = omega (arith, g .bounded);
-          lasting = record { lasts = λ j h e le. kept-same most symbols work′ work at agrees rows found load count above (o .lasting) .lasts j h e (omega arith) };
+          lasting = let k = kept-same most symbols work′ work at agrees rows found load count above (o .lasting) in record { lasts = λ j h e le. k .lasts j h e (omega arith); bounds = λ j h e le. k .bounds j h e (omega arith) };
         }
 
 -- ---- a curve that was stored
-
-fit-back : (p : Point) → Fit p → pointOf (wordOf p) ≡ p
-unfolding wordOf pointOf
-fit-back p f = point-path (omega (arith, f .arrival)) (omega (arith, f .arrival))
 
 fit-word : (p : Point) → Fit p → wordOf p ≡ 0 → ⊥
 unfolding wordOf
@@ -189,7 +197,7 @@ stored-words [] [] f z = refl
 stored-words [] (x ∷ zs) f z = rw (eq-eqb x 0 z)
 stored-words (p ∷ ps) zs f z =
     let fit = f p (List·Memᴰ·head refl) in
-    rw (ne-eqb (wordOf p) 0 (fit-word p fit)) (ap₂ (λ (x : Point) (xs : List Point). x ∷ xs) (fit-back p fit) (stored-words ps zs (λ q m. f q (List·Memᴰ·tail m)) z))
+    rw (ne-eqb (wordOf p) 0 (fit-word p fit)) (ap₂ (λ (x : Point) (xs : List Point). x ∷ xs) (point-word p (fit .arrival)) (stored-words ps zs (λ q m. f q (List·Memᴰ·tail m)) z))
 
 -- Points stored in a curve of zeros, with a word to spare.
 pub curve-laid : (most : ℕ) (work : List ℕ) (i : ℕ) (ps : List Point) → ((k : ℕ) → getD (curveAt most work i) k 0 ≡ 0) → length ps ≤ most → slot most i + (most + 1) ≤ length work →

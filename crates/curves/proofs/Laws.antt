@@ -29,6 +29,15 @@ pub word-point : (w : ℕ) → wordOf (pointOf w) ≡ w
 unfolding wordOf pointOf
 word-point w = div-add-mod' w base
 
+pub point-word : (p : Point) → p .arrival < base → pointOf (wordOf p) ≡ p
+unfolding wordOf pointOf
+point-word p h = point-path (omega arith) (omega arith)
+
+-- In a word, the arrival stands below the base.
+pub word-arrival : (p : Point) → p .arrival < base → wordOf p % base ≡ p .arrival
+unfolding wordOf
+word-arrival p h = omega arith
+
 -- A word that is in use, and one that is not.
 pub worth-point : (limit end w : ℕ) (o : Option Point) → w < limit → w < absent → w % base < end → o ≡ some (pointOf w) → Worth limit end w o
 worth-point limit end w o h l t e = record { missing = λ z. absurd (omega arith); point = λ n. e; small = λ n. h; intime = λ n. t }
@@ -239,6 +248,11 @@ word-order v w h = go (lt-or-le (v / base) (w / base))
     go : (v / base < w / base) ⊎ (w / base ≤ v / base) → Leq (record { area = v / base; arrival = v % base }) (record { area = w / base; arrival = w % base })
     go (inl l) = smaller l
     go (inr l) = earlier (omega arith) (omega arith)
+
+pub point-order : {p q : Point} → Leq p q → p .arrival < base → wordOf p ≤ wordOf q
+unfolding wordOf
+point-order (smaller l) h = omega arith
+point-order (earlier e l) h = omega arith
 
 module _ (limit end v w : ℕ) (o o′ : Option Point) (fits : limit ≤ absent) (a : Worth limit end v o) (b : Worth limit end w o′) where
   -- The later one is the lesser word.

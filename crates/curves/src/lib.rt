@@ -9,7 +9,7 @@ ghost use Rattle.covers.specs.Curve.{base, lookup};
 ghost use Rattle.matching.specs.Found.{matchBytes};
 ghost use Rattle.curves.specs.Words.{pointLimit, matchLimit, stored, curveAt, Small, WorkArea};
 ghost use Rattle.curves.specs.Best.{rowOf, patternOf, inputBest, inputLate, rowBest, legalBest, InputSafe, Sources, Tables, RowKnown, Matches, Above};
-ghost use Rattle.curves.specs.Promises.{Probed, Worth, PointsFit, Kept, Least, CurveStored};
+ghost use Rattle.curves.specs.Promises.{Probed, Worth, AllRising, PointsFit, Kept, Least, CurveStored};
 
 // The word for no point; how many curves a node has: one for each load bin; and how many words of a curve are tested in a straight line.
 pub struct Words {}
@@ -291,6 +291,7 @@ fn keep_all(
 )
     requires { ⌜ Matches (target .most) (now rows) (now found) count (now symbols) (now work) ⌝ }
     requires { ⌜ (target .load ≤ 255) × (count ≤ length (now kept)) ⌝ }
+    requires { ⌜ AllRising (target .most) (now symbols) (now work) (now rows) (now found) (target .load) count ⌝ }
     ensures { λ r. ⌜ Kept (target .most) (now (symbols .entry)) (now (work .entry)) (now (rows .entry)) (now (found .entry)) (target .load) count base (now (kept .exit)) ⌝ }
 {
     let load = target.load;
@@ -302,8 +303,8 @@ fn keep_all(
     }
 }
 
-// The least point before `end` of the first `count` matches. A match's kept point that is still in time stays its least; only the others are
-// worked out again.
+// The least point before `end` of the first `count` matches. A match's point only rises as the instant falls: one whose kept point is no less
+// than the least so far is passed over, and one that is still in time stays; only the others are worked out again.
 fn best(
     rows: &[u32],
     found: &[u8],
@@ -316,6 +317,7 @@ fn best(
 ) -> u64
     requires { ⌜ Matches (target .most) (now rows) (now found) count (now symbols) (now work) ⌝ }
     requires { ⌜ (target .load ≤ 255) × (end ≤ base) × (count ≤ length (now kept)) ⌝ }
+    requires { ⌜ AllRising (target .most) (now symbols) (now work) (now rows) (now found) (target .load) count ⌝ }
     requires { ⌜ Kept (target .most) (now symbols) (now work) (now rows) (now found) (target .load) count end (now kept) ⌝ }
     ensures { λ r. ⌜ Least (target .most) (now (symbols .entry)) (now (work .entry)) (now (rows .entry)) (now (found .entry)) (target .load) count end (now (kept .exit)) r ⌝ }
 {
@@ -325,11 +327,13 @@ fn best(
     let mut j = 0;
     while j < count {
         let mut w = kept[j];
-        if end <= w % Limits::TIMES {
-            w = match_best(rows, found, j, symbols, work, most, load, end);
-            kept[j] = w;
+        if w < least {
+            if end <= w % Limits::TIMES {
+                w = match_best(rows, found, j, symbols, work, most, load, end);
+                kept[j] = w;
+            }
+            least = lower(least, w);
         }
-        least = lower(least, w);
         j += 1;
     }
     least

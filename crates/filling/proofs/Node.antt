@@ -1,9 +1,9 @@
 -- One node of the decoded tree: what its symbol says, its found rows, which are safe to read, and the least points and the curve read from the tables, which are those of its covers.
 use mathlib.Core.Path.{_≡_, refl, sym, ap, subst, fun-ext, _∙_}
 use mathlib.Core.Logic.{_⊎_, inl, inr, ⊎-elim}
-use mathlib.Core.Bool.{false}
+use mathlib.Core.Bool.{Bool, true, false, cond}
 use mathlib.Core.List.{List, [], map, List·Memᴰ}
-use mathlib.Core.Option.{Option, some, Option·none-ne-some, Option·some-injective}
+use mathlib.Core.Option.{Option, none, some, Option·none-ne-some}
 use Prim.Native.Nat.{ℕ, suc, _+_, _-_, _*_, _≤_, _<_}
 use native.Mathlib.Omega.{arith}
 use lib.ListN.{length, getD, take, drop}
@@ -11,20 +11,22 @@ use Rattle.sheets.specs.Model.{Shape, leaf, inv, nand, size, leaves, Pin, Cell,
 use Rattle.sheets.specs.Layout.{tableFrom, rowWords, figuresAt, pinWords}
 use Rattle.sheets.specs.Sound.{SoundCell, SoundLibrary}
 use Rattle.covers.specs.Crossing.{redrawn}
-use Rattle.covers.specs.Match.{Input, Match, fitting, matches, pinAt, pinLoad}
+use Rattle.covers.specs.Match.{Input, Match, legal, fitting, matches, pinAt, pinLoad}
 use Rattle.covers.specs.Cover.{Point, Cover, feeds, raised, topped, IsCover, bare, matching}
-use Rattle.covers.specs.Enumeration.{covers}
+use Rattle.covers.specs.Enumeration.{matchCovers, gateCovers, covers, allBelow}
 use Rattle.covers.specs.Choice.{least}
 use Rattle.covers.specs.Tradeoff.{Node}
-use Rattle.covers.specs.Curve.{Filled, base, byDeadline, curve, gates}
-use Rattle.covers.proofs.Basics.{at-below, at-value, at-all}
-use Rattle.covers.proofs.Least.{In, LeastOf, absent, found as reached, least-is}
+use Rattle.covers.specs.Curve.{Filled, base, byDeadline, curve, gates, wordOf}
+use Rattle.covers.proofs.Basics.{at-below, at-value, at-all, in-select, in-flatMap}
+use Rattle.covers.proofs.Least.{In, IsLeast, least-is, least-some, least-rises}
 use Rattle.covers.proofs.Matching.{size-pos, fitting-are, fits-inside, spread-in}
 use Rattle.covers.proofs.Nodes.{nodeOf, fits-in, nodes-within, leaves-within}
 use Rattle.covers.proofs.Bounds.{numbered-cell, area-bound, arrive-before}
 use Rattle.covers.proofs.Relation.{covers-are}
 use Rattle.covers.proofs.Curve.{curve-found}
-use Rattle.covers.proofs.Filling.{best-from-table}
+use Rattle.covers.proofs.Deadline.{bestMatch}
+use Rattle.covers.proofs.Unroll.{gate-covers}
+use Rattle.covers.proofs.Filling.{fromTable, best-from-table, match-from-table}
 use Rattle.covers.proofs.FromSheets.{limited, binned}
 use Rattle.fields.proofs.Lists.{at-mem}
 use Rattle.overlay.specs.Standing.{Stands, Subject}
@@ -38,10 +40,10 @@ use Rattle.matching.proofs.Patterns.{SoundMatch, fitting-sound, fitting-few, ma
 use Rattle.sheets.proofs.Tables.{length-table}
 use Rattle.curves.specs.Words.{tableOf, WorkArea}
 use Rattle.curves.specs.Best.{rowOf, patternOf, rowCount, InputSafe, RowKnown, Sources, Matches, Above, rowsBest}
-use Rattle.curves.specs.Promises.{bestBefore, nodePoints, PointsFit, Fit}
-use Rattle.curves.proofs.Laws.{part-word}
+use Rattle.curves.specs.Promises.{matchBefore, Rising, bestBefore, nodePoints, PointsFit, Fit}
+use Rattle.curves.proofs.Laws.{part-word, point-order}
 use Rattle.overlay.proofs.Symbols.{symbols-small}
-use Rattle.filling.proofs.Rows.{Heads, Headed, Holds, Found, rows-are-best}
+use Rattle.filling.proofs.Rows.{Heads, Headed, Holds, Found, legal-row, rows-are-best}
 
 -- ---- a node
 
@@ -227,16 +229,59 @@ module _ {l : Library} {t : Tree} {rows ss zs : List ℕ} {n : ℕ} {found₀ : 
     timely : (c : Cover) → In (covers l load n s) c → c .point .arrival < base
     timely c k = omega (arith, arrive-before (limited sound) (t .shape) (g .decoded .tree .size) (g .decoded .tree .leaves) (g .here) light c k)
 
+    cover-fits : (c : Cover) → In (covers l load n s) c → Fit (c .point)
+    cover-fits c k =
+        let legal-cover = covers-are l load n s k in
+        let bound = area-bound (limited sound) legal-cover light (omega (arith, here g .ends)) (λ x j. g .decoded .tree .leaves x (leaves-within 0 (t .shape) (g .here) j)) in
+        record { some-area = cover-area sound legal-cover gate; area = omega arith; arrival = timely c k }
+
+    -- The covers with one of the matches on top, and that its points rise.
+    module _ (j : ℕ) (h : j < count) where
+      abbrev matchOnly : List Cover
+      matchOnly = matchCovers (allBelow l) load n (matchAt j)
+
+      module _ (allowed : legal (matchAt j .pattern .cell) load ≡ true) where
+        match-legal : List·Memᴰ (matchAt j) (matches l load n s)
+        unfolding matches
+        match-legal = in-select (λ m. legal (m .pattern .cell) load) (fitting l n s) (match-in j h) allowed
+
+        before-is : (end : ℕ) → matchBefore most ss work rows found load j end ≡ least end matchOnly
+        before-is end =
+            legal-row (found-at j h) most work load end ∙ ap (λ (b : Bool). cond b (bestMatch (fromTable l (tableOf most work)) load end (matchAt j)) none) allowed
+            ∙ match-from-table l (binned sound) (t .shape) (tableOf most work) n s filled (g .here) load end match-legal
+
+        among : (c : Cover) → In matchOnly c → In (covers l load n s) c
+        unfolding gateCovers
+        among c k = subst (λ cs. In cs c) (sym (gate-covers l load n s gate)) (in-flatMap (matchCovers (allBelow l) load n) match-legal k)
+
+        least-fits : {end : ℕ} {p : Point} → IsLeast end (In matchOnly) p → Fit p
+        least-fits f = subst Fit (f .point) (cover-fits (f .cover) (among (f .cover) (f .among)))
+
+        legal-rises : Rising most ss work rows found load j
+        unfolding wordOf
+        legal-rises = record {
+          intime = λ end p e. least-some (least-is end matchOnly) (sym (before-is end) ∙ e) .intime;
+          small = λ end p e. let f = least-fits (least-some (least-is end matchOnly) (sym (before-is end) ∙ e)) in omega (arith, f .area, f .arrival);
+          rises = λ end end′ less p e.
+              let z = least-rises less matchOnly (sym (before-is end) ∙ e) in
+              (z .0, before-is end′ ∙ z .1, point-order (z .2) (least-fits (least-some (least-is end′ matchOnly) (z .1)) .arrival));
+        }
+
+      match-rises : Rising most ss work rows found load j
+      match-rises = go (legal (matchAt j .pattern .cell) load) refl
+        where
+          go : (b : Bool) → legal (matchAt j .pattern .cell) load ≡ b → Rising most ss work rows found load j
+          go true e = legal-rises e
+          go false e =
+              let never : (end : ℕ) (p : Point) → matchBefore most ss work rows found load j end ≡ some p → ⊥ =
+              λ end p q. Option·none-ne-some p (sym (legal-row (found-at j h) most work load end ∙ ap (λ (b : Bool). cond b (bestMatch (fromTable l (tableOf most work)) load end (matchAt j)) none) e) ∙ q) in
+              record { intime = λ end p q. absurd (never end p q); small = λ end p q. absurd (never end p q); rises = λ end end′ less p q. absurd (never end p q) }
+
     pub points-fit : PointsFit most ss work rows found load count
-    points-fit end p e = go (least-is end (covers l load n s)) (sym (best-is-least end) ∙ e)
-      where
-        go : {o : Option Point} → LeastOf end (In (covers l load n s)) o → o ≡ some p → Fit p
-        go (absent a) q = absurd (Option·none-ne-some p q)
-        go (reached {p = r} c) q =
-            let same : c .cover .point ≡ p = c .point ∙ Option·some-injective r p q in
-            let legal-cover = covers-are l load n s (c .among) in
-            let bound = area-bound (limited sound) legal-cover light (omega (arith, here g .ends)) (λ x j. g .decoded .tree .leaves x (leaves-within 0 (t .shape) (g .here) j)) in
-            subst Fit same (record { some-area = cover-area sound legal-cover gate; area = omega arith; arrival = timely (c .cover) (c .among) })
+    points-fit = record {
+      fit = λ end p e. let f = least-some (least-is end (covers l load n s)) (sym (best-is-least end) ∙ e) in subst Fit (f .point) (cover-fits (f .cover) (f .among));
+      rising = match-rises;
+    }
 
     pub curve-is-found : nodePoints most ss work rows found load count ≡ take (most + 1) (curve (covers l load n s))
     curve-is-found = ap (λ (best : ℕ → Option Point). byDeadline (most + 1) best base) (fun-ext best-is-least) ∙ curve-found (most + 1) base (covers l load n s) timely

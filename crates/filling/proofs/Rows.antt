@@ -132,6 +132,13 @@ pub record Found (l : Library) (rows symbols row : List ℕ) (m : Match) : Type 
   pub pinned : Pinned (m .pattern .cell) (m .inputs)
   pub headed : Headed symbols (m .inputs)
 
+-- The least point of its row is the match's, if it is legal.
+pub legal-row : {l : Library} {rows symbols row : List ℕ} {m : Match} → Found l rows symbols row m → (most : ℕ) (work : List ℕ) (load end : ℕ) →
+    legalBest most symbols work (patternOf rows row) row load end ≡ cond (legal (m .pattern .cell) load) (bestMatch (fromTable l (tableOf most work)) load end m) none
+unfolding legalBest
+legal-row {l} {rows} {symbols} {row} {m} f most work load end =
+    ap₂ (λ (b : Bool) (o : Option Point). cond b o none) (legal-is (f .held) load) (row-is-match most l symbols work (patternOf rows row) row m load end (f .held) (f .holds) (f .pinned) (f .headed))
+
 -- All rows of a node's matches: the least point of the legal ones.
 module _ (most : ℕ) (l : Library) (symbols work rows found : List ℕ) (load end : ℕ) (ms : List Match) (d : Match)
     (founds : (j : ℕ) → j < length ms → Found l rows symbols (rowOf found j) (getD ms j d)) where
@@ -142,12 +149,8 @@ module _ (most : ℕ) (l : Library) (symbols work rows found : List ℕ) (load e
   best = bestOf (fromTable l (tableOf most work)) load end
 
   one-row : (j : ℕ) → j < length ms → let m = getD ms j d in legalBest most symbols work (patternOf rows (rowOf found j)) (rowOf found j) load end ≡ best (select allowed (m ∷ []))
-  unfolding legalBest bestOf lesser select keepIf
-  one-row j h =
-      let m = getD ms j d in
-      let f = founds j h in
-      ap₂ (λ (b : Bool) (o : Option Point). cond b o none) (legal-is (f .held) load) (row-is-match most l symbols work (patternOf rows (rowOf found j)) (rowOf found j) m load end (f .held) (f .holds) (f .pinned) (f .headed))
-      ∙ go (allowed m)
+  unfolding bestOf lesser select keepIf
+  one-row j h = legal-row (founds j h) most work load end ∙ go (allowed (getD ms j d))
     where
       go : (b : Bool) → cond b (bestMatch (fromTable l (tableOf most work)) load end (getD ms j d)) none ≡ best (keepIf b (getD ms j d) [])
       go true = unfold bestOf in sym (lesser-none (bestMatch (fromTable l (tableOf most work)) load end (getD ms j d)))

@@ -14,7 +14,7 @@ use Rattle.curves.specs.Words.{curveAt, tableOf, stored, AgreeFrom, ZeroBelow, 
 use Rattle.curves.specs.Best.{rowsBest, Matches}
 use Rattle.curves.specs.Promises.{bestBefore, nodePoints, PointsFit, CurveStored}
 use Rattle.curves.proofs.Laws.{slot-within, matches-in}
-use Rattle.curves.proofs.Frames.{curve-other, curve-laid, rows-same, deadline-all, deadline-few}
+use Rattle.curves.proofs.Frames.{curve-other, curve-laid, rows-same, rising-same, deadline-all, deadline-few}
 use Rattle.filling.specs.declared.Turn.{Turn}
 use Rattle.filling.specs.Promises.{loadAt, firstCurve, nextCurve, pointsUnder, NodeReady, NodeFilled}
 
@@ -62,7 +62,10 @@ module _ {symbols work₀ rows found : List ℕ} {count : ℕ} {turn : Turn} (re
     same-points i = ap (λ (f : ℕ → Option Point). byDeadline (most + 1) f base) (fun-ext (done-same (loadAt turn i)))
 
     pub done-fit : (i : ℕ) → i < turn .bins .count → PointsFit most symbols work rows found (loadAt turn i) count
-    done-fit i h e p q = ready .fit i h e p (sym (done-same (loadAt turn i) e) ∙ q)
+    done-fit i h = record {
+      fit = λ e p q. ready .fit i h .fit e p (sym (done-same (loadAt turn i) e) ∙ q);
+      rising = rising-same most symbols work₀ work (firstCurve turn + 3) (λ j l. sym (d .agree j (omega arith))) rows found (loadAt turn i) count (ready .above) (ready .fit i h .rising);
+    }
 
     pub done-matches : Matches most rows found count symbols work
     done-matches = matches-in (ready .matches) (d .curves)
@@ -103,7 +106,7 @@ module _ {symbols work₀ rows found : List ℕ} {count : ℕ} {turn : Turn} (re
           let at = firstCurve turn + b in
           ap (λ (q : List ℕ). tableOf most q (turn .node) b) (laid ∙ ap (λ (q : List Point). sets work ((most + 1) * at) (map wordOf q)) (take-all most (wanted b) few))
           ∙ curve-laid most work at (wanted b) (d .zero at (omega arith)) few (slot-within (d .curves) at (omega (arith, ready .node, ready .few-bins)) .1)
-          (deadline-all (most + 1) (bestBefore most symbols work₀ rows found (loadAt turn b) count) base (ready .fit b hb)))
+          (deadline-all (most + 1) (bestBefore most symbols work₀ rows found (loadAt turn b) count) base (ready .fit b hb .fit)))
       curve-is i (inr l) m laid others = λ few. ap stored (others (firstCurve turn + i) (λ e. absurd (omega arith))) ∙ d .stored-are i (omega arith) m few
 
   pub done-all : {work points : List ℕ} → DoneTo 0 work points → NodeFilled symbols work₀ rows found count turn work (record { points = points })

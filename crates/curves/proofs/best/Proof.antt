@@ -8,7 +8,7 @@ use Rattle.curves.specs.Words.{matchLimit}
 use Rattle.curves.specs.Best.{rowsBest}
 use Rattle.curves.specs.Promises.{Worth, Kept}
 use Rattle.curves.proofs.Laws.{worth-none, rows-turn, row-ready}
-use Rattle.curves.proofs.Lasting.{kept-set}
+use Rattle.curves.proofs.Lasting.{passed-over, worth-top, kept-set}
 use Rattle.curves.proofs.best.Statement.{statement}
 use Rattle.curves.proofs.best.Tie as tie
 
@@ -20,21 +20,34 @@ abbrev μ-loop : tie.MeasureT-loop
 
 loop-holds : tie.Need-loop-holds Inv-loop μ-loop
 unfolding rowsBest
-loop-holds c = let s = c .before .before .before .before .before in (omega arith, refl, s .pre .1 .1, worth-none matchLimit (s .args .end) none refl)
+loop-holds c = let s = c .before .before .before .before .before in (omega arith, refl, s .pre .1 .1 .1, worth-none matchLimit (s .args .end) none refl)
 
 match-best-requires : tie.Need-match-best-requires Inv-loop μ-loop
-match-best-requires c κs = let p = c .before .before .before .before .before .before .before .before .before .pre in (row-ready (p .0) (c .before .before .before .loop .j) (c .before .before .loop-test .taken), (p .0 .sources, (p .1 .0 .0, p .1 .0 .1)))
+match-best-requires c κs =
+    let q = c .before .before .before in
+    let p = q .before .before .before .before .before .before .before .pre in
+    (row-ready (p .0) (q .before .loop .j) (q .loop-test .taken), (p .0 .sources, (p .1 .0 .0, p .1 .0 .1)))
 
 loop-again : tie.Need-loop-again Inv-loop μ-loop
 loop-again c =
-    let i = c .before .before .before .before .loop in
+    let q = c .before .before in
+    let i = q .before .loop in
+    let s = q .before .before .before .before .before .before .before in
     let k = i .inv .2 in
-    let more = c .before .before .before .loop-test .taken in
+    let rising = s .pre .1 .1 .0 (i .j) (q .loop-test .taken) in
     let turn = rows-turn k (i .j) (i .least) in
+    let word = getD (i .kept) (i .j) 0 in
     ⊎-elim
-    (λ s. rw (c .lower .ensures, s .2, s .3) (omega arith, simp length-set (i .inv .1), kept-set k (i .j) (s .1 .result) (omega arith) (λ k l n. l) (s .1 .ensures), turn (s .1 .result) (i .inv .3) (s .1 .ensures)))
-    (λ s. rw (c .lower .ensures, s .1, s .2) (omega arith, i .inv .1, k, turn (getD (i .kept) (i .j) 0) (i .inv .3) (k .lasts (i .j) more _ (omega arith) (s .0 .left))))
-    (c .before .if1 .came)
+    (λ t.
+    rw (t .3, t .4, t .2 .ensures)
+    (⊎-elim
+    (λ u. rw (u .2, u .3) (omega arith, simp length-set (i .inv .1), kept-set k (i .j) (u .1 .result) rising (omega arith) (λ k l n. l) (u .1 .ensures), turn (u .1 .result) (i .inv .3) (u .1 .ensures)))
+    (λ u. rw (u .1, u .2) (omega arith, i .inv .1, k, turn word (i .inv .3) (k .lasts (i .j) (q .loop-test .taken) _ (omega arith) (u .0 .left))))
+    (t .1 .came)))
+    (λ t.
+    let z = passed-over rising (s .args .end) (i .least) word (s .pre .1 .0 .1) (worth-top (omega arith) (i .inv .3)) (t .0 .left) (k .bounds (i .j) (q .loop-test .taken) (s .args .end) (omega arith)) in
+    rw (t .1, t .2) (omega arith, i .inv .1, k, rw (z .2) at (turn (z .0) (i .inv .3) (z .1))))
+    (c .if1 .came)
 
 returns : tie.Need-returns Inv-loop μ-loop
 returns c =

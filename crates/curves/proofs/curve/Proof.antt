@@ -4,7 +4,7 @@ use mathlib.Core.Path.{_≡_, refl, _∙_}
 use lib.ListN.{length, length-set}
 use Rattle.curves.specs.Words.{slot}
 use Rattle.curves.proofs.Laws.{SlotWithin, slot-within, matches-in}
-use Rattle.curves.proofs.Frames.{Growing, growing-start, growing-kept, growing-next, growing-done, growing-over}
+use Rattle.curves.proofs.Frames.{Growing, growing-start, growing-rising, growing-kept, growing-next, growing-done, growing-over}
 use Rattle.curves.proofs.curve.Statement.{statement}
 use Rattle.curves.proofs.curve.Tie as tie
 
@@ -26,7 +26,7 @@ mul-first : tie.Need-mul-first Inv-loop μ-loop
 mul-first c = record { fits = omega (arith, within (c .before .before .before .before .before) .0) }
 
 keep-all-requires : tie.Need-keep-all-requires Inv-loop μ-loop
-keep-all-requires c κs = let p = c .before .before .before .before .before .before .before .pre in (p .0, (p .1 .0 .1, p .1 .0 .2))
+keep-all-requires c κs = let p = c .before .before .before .before .before .before .before .pre in (p .0, ((p .1 .0 .1, p .1 .0 .2), p .1 .1 .1 .rising))
 
 loop-holds : tie.Need-loop-holds Inv-loop μ-loop
 loop-holds c =
@@ -40,7 +40,7 @@ best-requires c κs =
     let i = c .before .before .before .loop in
     let g = i .inv .2 in
     let area = p .0 .sources .curves in
-    (matches-in (p .0) (record { bounded = area .bounded; room = omega (arith, area .room, i .inv .0); small = g .small }), ((p .1 .0 .1, g .bounded, omega (arith, i .inv .1, p .1 .0 .2)), growing-kept g (p .1 .1 .0)))
+    (matches-in (p .0) (record { bounded = area .bounded; room = omega (arith, area .room, i .inv .0); small = g .small }), ((p .1 .0 .1, g .bounded, omega (arith, i .inv .1, p .1 .0 .2)), (growing-rising g (p .1 .1 .0) (p .1 .1 .1 .rising), growing-kept g (p .1 .1 .0))))
 
 returns : tie.Need-returns Inv-loop μ-loop
 returns c = growing-done (c .before .before .before .before .before .before .before .loop .inv .2) (c .before .before .before .before .before .before .before .before .before .before .before .before .before .before .before .before .before .before .pre .1 .1 .0) (c .before .before .before .best .ensures) (c .if1 .taken)

@@ -16,16 +16,16 @@ abbrev μ-loop : tie.MeasureT-loop
 μ-loop rows found count symbols work kept₀ load most j₀ kept j = count - j
 
 loop-holds : tie.Need-loop-holds Inv-loop μ-loop
-loop-holds c = (omega arith, refl, record { lasts = λ j l. absurd (omega arith) })
+loop-holds c = (omega arith, refl, record { lasts = λ j l. absurd (omega arith); bounds = λ j l. absurd (omega arith) })
 
 match-best-requires : tie.Need-match-best-requires Inv-loop μ-loop
-match-best-requires c κs = let p = c .before .before .before .before .before .before .before .pre in (row-ready (p .0) (c .before .loop .j) (c .loop-test .taken), (p .0 .sources, (p .1 .0, omega arith)))
+match-best-requires c κs = let p = c .before .before .before .before .before .before .before .pre in (row-ready (p .0) (c .before .loop .j) (c .loop-test .taken), (p .0 .sources, (p .1 .0 .0, omega arith)))
 
 loop-again : tie.Need-loop-again Inv-loop μ-loop
-loop-again c = let i = c .before .before .loop in (omega arith, simp length-set (i .inv .1), kept-set (i .inv .2) (i .j) (c .match-best .result) (omega arith) (λ k l n. omega arith) (c .match-best .ensures))
+loop-again c = let i = c .before .before .loop in let p = c .before .before .before .before .before .before .before .before .pre in (omega arith, simp length-set (i .inv .1), kept-set (i .inv .2) (i .j) (c .match-best .result) (p .1 .1 (i .j) (c .before .loop-test .taken)) (omega arith) (λ k l n. omega arith) (c .match-best .ensures))
 
 returns : tie.Need-returns Inv-loop μ-loop
-returns c = record { lasts = λ j l. c .before .loop .inv .2 .lasts j (omega (arith, c .loop-test .left)) }
+returns c = let k = c .before .loop .inv .2 in record { lasts = λ j l. k .lasts j (omega (arith, c .loop-test .left)); bounds = λ j l. k .bounds j (omega (arith, c .loop-test .left)) }
 
 pub keep-all-spec : {M : Type 1} → statement M
 keep-all-spec =
