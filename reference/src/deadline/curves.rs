@@ -95,7 +95,8 @@ impl<'a> Curves<'a> {
     }
 
     /// The same. A match whose last point still arrives before the bound keeps it: what is least
-    /// before a time and arrives before an earlier one is least before that one too.
+    /// before a time and arrives before an earlier one is least before that one too. A match whose
+    /// last point is not below the least so far is passed over: its points only rise.
     fn fill_kept(&mut self, slot: usize, load: u64, matches: &mut Matches) -> bool {
         let Matches { found, last } = matches;
         last.clear();
@@ -104,10 +105,12 @@ impl<'a> Curves<'a> {
         for count in 0..STRIDE {
             let mut least = ABSENT;
             for (word, found) in last.iter_mut().zip(found.iter()) {
-                if *word % TIMES >= bound {
-                    *word = self.reach(found, load, bound);
+                if *word < least {
+                    if *word % TIMES >= bound {
+                        *word = self.reach(found, load, bound);
+                    }
+                    least = least.min(*word);
                 }
-                least = least.min(*word);
             }
             self.slots[slot][count] = least;
             if least == ABSENT {
