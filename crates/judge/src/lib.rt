@@ -1,5 +1,6 @@
 // The judge of covers that others hand in: the three sheets are read, the listed matches walked from the front, and the stated figures compared.
 use fields::Scan;
+use overlay::Crossing;
 use overlay::Extents;
 use overlay::Walked;
 use results::CoverRecord;
@@ -41,13 +42,6 @@ impl Numbers {
     pub const MATCH: u32 = 23;
 
     pub const FIGURES: u32 = 24;
-}
-
-// How many crossing numbers there are: five bits, the first the highest.
-pub struct Crossing {}
-
-impl Crossing {
-    pub const NUMBERS: u32 = 32;
 }
 
 // How far a walk has come: the area of the matches and the latest arrival, at the root, of the leaves so far; and the first `count` places

@@ -1,5 +1,6 @@
 // Which patterns match at a node of the subject tree, and under which crossings. They are found once for a node, and serve every load and every
 // deadline.
+use overlay::Crossing;
 use overlay::Extents;
 use overlay::Walked;
 use sheets::library::PatternRow;
@@ -114,7 +115,7 @@ fn find_crossings<'a>(
     let nands = words[0] as usize / Extents::NAND;
     let mut found = count;
     let mut crossing: u32 = 0;
-    while crossing < 32 {
+    while crossing < Crossing::NUMBERS {
         let walked = overlay::walk(row, extents, crossing, symbols, sizes, n);
         let at = Row::BYTES * found;
         found += write_match(&mut table[at..at + Row::BYTES], walked, pattern, crossing);

@@ -9,6 +9,13 @@ ghost use Rattle.covers.specs.Curve.{base};
 ghost use Rattle.overlay.specs.Standing.{extent, Extending, DrawingHeld, Measured};
 ghost use Rattle.overlay.specs.Held.{symbolLimit, Passable, passed, resumed, Walkable, WalkIs};
 
+// How many crossing numbers there are: five bits, the first the highest.
+pub struct Crossing {}
+
+impl Crossing {
+    pub const NUMBERS: u32 = 32;
+}
+
 // How far each node of a drawing reaches, in preorder: how many nodes stand under it, itself included, and 32 times how many of them are NANDs.
 pub struct Extents {
     pub words: [u8; 16],
