@@ -36,12 +36,12 @@ run say more than times. Processor: $(lscpu | awk -F': *' '/^Model name/ { print
 ## Map and the judges
 
 The proved map through the C interface; the same algorithm in plain Rust (\`reference/src/deadline\`), which works every point out anew (\`plain\`) or keeps a match's last point
-while it is in time (\`plain_kept\`); the separate implementation, which merges whole curves (\`merging\`)$([ "$features" = product ] || echo '; and the static library of the delivery before (`before`)'). All built for release, on the same bytes,
+while it is in time, and passes over a match whose last point is not below the least so far (\`plain_kept\`); the separate implementation, which merges whole curves (\`merging\`)$([ "$features" = product ] || echo '; and the static library of the delivery before (`before`)'). All built for release, on the same bytes,
 taking turns in one run (medians of 31 rounds), each answer compared with the expected sheet$([ "$features" = product ] || echo ' (of `before` area and arrival)'). A ratio is the product's time over the other's. \`typical\` is a usual
 problem; \`chain\` and \`comb\` are the worst that were found before inputs could be exchanged; \`deep\` has nearly nothing to find and the deepest choice; \`full\` and \`crosscomb\` have many crossings.
 
-The bars that we set: on chain and comb no more instructions than before inputs could be exchanged; on full and crosscomb at most 1.25 times plain Rust with both savings
-(crossings that are ruled out together, points that are kept: \`plain_kept\`); faster than merging on every row but deep.
+The bars that we set: on chain and comb no more instructions than before inputs could be exchanged; on full and crosscomb at most 1.25 times plain Rust with all savings
+(crossings that are ruled out together, points that are kept, matches that are passed over: \`plain_kept\`); faster than merging on every row but deep.
 
 \`\`\`
 $("$bench")

@@ -17,27 +17,35 @@ use Rattle.covers.specs.Specimens.{Case, pin, cover, case, INV}
 abbrev three : Shape
 three = inv (nand (nand (leaf 0) (inv (leaf 1))) (nand (leaf 2) (leaf 3)))
 
--- A crossing number and what it makes of that drawing.
+-- NANDs 0 to 4 in preorder: two in the first branch, two in the second.
+abbrev five : Shape
+five = nand (nand (nand (leaf 0) (leaf 1)) (leaf 2)) (nand (leaf 3) (nand (leaf 4) (leaf 5)))
+
+-- A drawing, a crossing number and what it makes of the drawing.
 pub record Redrawing : Type 0 where
+  pub drawing : Shape
   pub crossing : ℕ
   pub result : Shape
 
-abbrev makes : ℕ → Shape → Redrawing
-makes x d = record { crossing = x; result = d }
+abbrev makes : Shape → ℕ → Shape → Redrawing
+makes d x e = record { drawing = d; crossing = x; result = e }
 
 -- The first bit is the highest, and NAND 1 is the first branch in every redrawing, also where it stands second.
 abbrev pub redrawings : List Redrawing
 redrawings =
-    makes 0 three
-    ∷ makes 16 (inv (nand (nand (leaf 2) (leaf 3)) (nand (leaf 0) (inv (leaf 1)))))
-    ∷ makes 8 (inv (nand (nand (inv (leaf 1)) (leaf 0)) (nand (leaf 2) (leaf 3))))
-    ∷ makes 4 (inv (nand (nand (leaf 0) (inv (leaf 1))) (nand (leaf 3) (leaf 2))))
-    ∷ makes 24 (inv (nand (nand (leaf 2) (leaf 3)) (nand (inv (leaf 1)) (leaf 0))))
-    ∷ makes 20 (inv (nand (nand (leaf 3) (leaf 2)) (nand (leaf 0) (inv (leaf 1)))))
+    makes three 0 three
+    ∷ makes three 16 (inv (nand (nand (leaf 2) (leaf 3)) (nand (leaf 0) (inv (leaf 1)))))
+    ∷ makes three 8 (inv (nand (nand (inv (leaf 1)) (leaf 0)) (nand (leaf 2) (leaf 3))))
+    ∷ makes three 4 (inv (nand (nand (leaf 0) (inv (leaf 1))) (nand (leaf 3) (leaf 2))))
+    ∷ makes three 24 (inv (nand (nand (leaf 2) (leaf 3)) (nand (inv (leaf 1)) (leaf 0))))
+    ∷ makes three 20 (inv (nand (nand (leaf 3) (leaf 2)) (nand (leaf 0) (inv (leaf 1)))))
+    ∷ makes five 2 (nand (nand (nand (leaf 0) (leaf 1)) (leaf 2)) (nand (nand (leaf 4) (leaf 5)) (leaf 3)))
+    ∷ makes five 1 (nand (nand (nand (leaf 0) (leaf 1)) (leaf 2)) (nand (leaf 3) (nand (leaf 5) (leaf 4))))
+    ∷ makes five 31 (nand (nand (nand (leaf 5) (leaf 4)) (leaf 3)) (nand (leaf 2) (nand (leaf 1) (leaf 0))))
     ∷ []
 
 abbrev pub Redrawings : Type 0
-Redrawings = map (λ r. redrawn (r .crossing) three) redrawings ≡ map (λ r. r .result) redrawings
+Redrawings = map (λ r. redrawn (r .crossing) (r .drawing)) redrawings ≡ map (λ r. r .result) redrawings
 
 -- The crossings of drawings with no NAND, one and three: unused bits are 0.
 abbrev pub Crossings : Type 0

@@ -49,8 +49,8 @@ module _ (most : ℕ) (symbols work rows found : List ℕ) (load count : ℕ) wh
   abbrev pub AllRising : Type 0
   AllRising = (j : ℕ) → j < count → Rising most symbols work rows found load j
 
-  -- The word kept for each match is its least point before every instant, from `end` back, that the word is still before, and is no greater than
-  -- any later one's.
+  -- The word kept for each match, before every instant from `end` back: where the word is still in time, it is the match's least point there, or
+  -- says that there is none; and the match's least point there is never below it.
   pub record Kept (end : ℕ) (kept : List ℕ) : Type 0 where
     pub lasts : (j : ℕ) → j < count → (e : ℕ) → e ≤ end → getD kept j 0 % base < e → Worth matchLimit e (getD kept j 0) (matchBefore most symbols work rows found load j e)
     pub bounds : (j : ℕ) → j < count → (e : ℕ) → e ≤ end → (p : Point) → matchBefore most symbols work rows found load j e ≡ some p → getD kept j 0 ≤ wordOf p

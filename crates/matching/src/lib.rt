@@ -84,7 +84,7 @@ fn next_crossing(crossing: u32, bits: usize) -> u32
     ((crossing >> unused) + 1) << unused
 }
 
-// How many bits of a crossing decide what the walk found: all that there are for a match.
+// How many bits of a crossing decide what the walk found: after a match, those of all the pattern's NANDs.
 fn deciding(walked: Walked, nands: usize) -> usize
     ensures { λ r. ⌜ r ≡ cond (walked .matched) nands (walked .used) ⌝ }
 {

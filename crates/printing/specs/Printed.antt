@@ -81,11 +81,11 @@ unfoldable pub printed : List ℕ → List ℕ
 unfolding spoiled spoiledLine mapText statedLength
 printed input = cond (spoiled input) spoiledLine (mapText (take (statedLength input) (drop 2 input)) (drop (2 + statedLength input) input))
 
--- How many bytes the longest text takes: that of a cover of 63 matches.
+-- So many bytes are enough for every text: 25 for the first line and 13 for each of 63 matches.
 abbrev pub longestText : ℕ
 longestText = 844
 
--- What is put into a text that is lent `room` bytes: nothing if they are fewer than the longest text takes.
+-- What is put into a text that is lent `room` bytes: nothing if they are fewer than these.
 unfoldable pub printedWithin : (room : ℕ) → List ℕ → List ℕ
 unfolding printed
 printedWithin room input = cond (leb longestText room) (printed input) []

@@ -14,7 +14,7 @@ use compact::{Compact, Subject};
 use curves::{Curves, ABSENT, TIMES};
 
 /// Whether each point of a curve is worked out anew from every match, or a match keeps its last
-/// point as long as that is in time.
+/// point as long as that is in time, and is passed over while it is not below the least so far.
 #[derive(Clone, Copy, PartialEq, Eq, Debug)]
 pub enum Variant {
     Plain,
