@@ -4,9 +4,9 @@
 set -euo pipefail
 log=$1
 features=product
-who="product plain merging"
+who="product plain plain_kept merging"
 [ -z "${TREECOVER_BEFORE_DIR:-}" ] || { features=before; who="$who before"; }
-rows="typical chain comb deep"
+rows="typical chain comb deep full crosscomb"
 scratch=$(mktemp -d)
 trap 'rm -rf "$scratch"' EXIT
 
@@ -35,22 +35,25 @@ run say more than times. Processor: $(lscpu | awk -F': *' '/^Model name/ { print
 
 ## Map and the judges
 
-The proved map through the C interface; the same algorithm in plain Rust (\`plain\`: \`reference/src/deadline\`); the separate implementation, which merges
-whole curves (\`merging\`)$([ "$features" = product ] || echo '; and the static library of the delivery before (`before`)'). All built for release, on the same bytes, taking turns in one run (medians of 31 rounds), each
-answer compared with the expected sheet. A ratio is the product's time over the other's. \`typical\` is a usual problem; \`chain\` and \`comb\` are the worst that were found;
-\`deep\` has nearly nothing to find and the deepest choice. The bar that we set is 1.25 times plain Rust, and faster than merging, on typical, chain and comb.
+The proved map through the C interface; the same algorithm in plain Rust (\`reference/src/deadline\`), which works every point out anew (\`plain\`) or keeps a match's last point
+while it is in time, and passes over a match whose last point is not below the least so far (\`plain_kept\`); the separate implementation, which merges whole curves (\`merging\`)$([ "$features" = product ] || echo '; and the static library of the delivery before (`before`)'). All built for release, on the same bytes,
+taking turns in one run (medians of 31 rounds), each answer compared with the expected sheet$([ "$features" = product ] || echo ' (of `before` area and arrival)'). A ratio is the product's time over the other's. \`typical\` is a usual
+problem; \`chain\` and \`comb\` are the worst that were found before inputs could be exchanged; \`deep\` has nearly nothing to find and the deepest choice; \`full\` and \`crosscomb\` have many crossings.
+
+The bars that we set: on chain and comb no more instructions than before inputs could be exchanged; on full and crosscomb at most 1.25 times plain Rust with all savings
+(crossings that are ruled out together, points that are kept, matches that are passed over: \`plain_kept\`); faster than merging on every row but deep.
 
 \`\`\`
 $("$bench")
 \`\`\`
 
-Instructions for one map, by callgrind. Bytes made zero by one repeated instruction count once for each byte: some 180,000 in every row.
+Instructions for one map, by callgrind. Bytes made zero by one repeated instruction count once for each byte: for the product some 250,000 in every row.
 
 | row |$(printf ' %s |' $who)
 |---|$(printf -- '---|%.0s' $who)
 $(for row in $rows; do printf '| %s |' "$row"; for w in $who; do printf ' %s |' "$(instructions "$w" "$row")"; done; echo; done)
 
-The greatest stack, by massif, in bytes, of which main and the benchmark have a small part. The bar that we set is 256 KB.
+The greatest stack, by massif, in bytes, of which main and the benchmark have a small part. The bar that we set is 512 KB.
 
 | row | map | judge of its cover |
 |---|---|---|

@@ -11,7 +11,7 @@ extern "C" {
 /*
  * Each function reads the bytes that it is lent, keeps no pointer and never fails otherwise than by its answer.
  * What has length 0 may have any pointer. Output and work area must not overlap each other or the sheets, and the work area
- * is aligned as uint64_t. A call takes up to 256 KB of stack.
+ * is aligned as uint64_t. A call takes up to 512 KB of stack.
  *
  * A refusal is number * 2^32 + place; a success has 0 above bit 31, but an accepted cover has the highest bit set. The numbers:
  *    1  output or work area too short; place 0
@@ -25,12 +25,13 @@ extern "C" {
  *    7  more than 31 trade-offs at a node under a load considered there; place: the highest-numbered such node
  *    8  map: no cover arrives by the required time; list: the root has no cover; place 0
  *   22  the cover sheet ends before or inside a field, or has a bad tail; place as for 2 or 3
- *   23  a match is misplaced or not legal; place: its position from 0; or the list ends early; place: the match count
+ *   23  a match is misplaced or not legal, or its crossing is wrong; place: its position from 0; or the list ends early; place: the
+ *       match count
  *   24  the stated area or arrival is not that of the cover listed; place 0
  */
 
 /* The least lengths of an output in bytes and of a work area in words. */
-#define TREECOVER_MAP_OUTPUT 109
+#define TREECOVER_MAP_OUTPUT 149
 #define TREECOVER_LIST_OUTPUT 179
 #define TREECOVER_WORK 8192
 
@@ -44,8 +45,9 @@ uint64_t treecover_judge_library(const uint8_t *library, size_t library_len);
 uint64_t treecover_judge_tree(const uint8_t *tree, size_t tree_len);
 
 /*
- * Finds the smallest cover of the tree that arrives by its required time, and the earliest of that area. Answers how many
- * bytes of the output the cover sheet takes; the bytes after them are as they were. A refusal leaves the whole output as it was.
+ * Finds the smallest cover of the tree that arrives by its required time, and the earliest of that area; the inputs of a pattern's
+ * NANDs may be exchanged, and a match's crossing says which are. Answers how many bytes of the output the cover sheet takes; the
+ * bytes after them are as they were. A refusal leaves the whole output as it was.
  *
  * The first TREECOVER_WORK words of the work area are zero after a success and after refusals 7 and 8, words beyond are as
  * they were, and other refusals touch none. What output and work area hold before the call does not matter.

@@ -1,8 +1,8 @@
 //! Map and list by listing every legal cover one by one: for small trees only.
 
-use crate::cover::{Cover, Pair};
+use crate::cover::{Cover, Pair, Placed};
 use crate::library::Library;
-use crate::matching::{matches_at, Match};
+use crate::matching::{matches_by_node, redrawings, Match};
 use crate::merging::MOST_TRADE_OFFS;
 use crate::refusal::{Refusal, NO_COVER, OVERFULL};
 use crate::shape::Node;
@@ -23,7 +23,7 @@ impl<'a> Listing<'a> {
     /// `None` if a node has more than `most` covers under some load.
     pub fn new(library: &'a Library, tree: &'a Tree, most: u64) -> Option<Self> {
         let count = tree.shape.nodes.len();
-        let matches = (0..count).map(|node| matches_at(library, &tree.shape, node)).collect();
+        let matches = matches_by_node(&redrawings(library), &tree.shape);
         let mut listing = Listing { library, tree, matches, covers: vec![Vec::new(); count] };
         if listing.counts().iter().flatten().any(|&covers| covers > most) {
             return None;
@@ -101,7 +101,7 @@ impl<'a> Listing<'a> {
 
     /// Every cover that begins with one match.
     fn covers_from(&self, node: usize, load: u32, found: &Match) -> Vec<Cover> {
-        let mut covers = vec![Cover { area: found.cell.area, arrival: 0, matches: vec![(node, found.pattern)] }];
+        let mut covers = vec![Cover { area: found.cell.area, arrival: 0, matches: vec![found.placed(node)] }];
         for input in &found.inputs {
             let choices = &self.covers[input.node][found.bin(input)];
             let delay = found.delay(input, load);
@@ -119,7 +119,8 @@ impl<'a> Listing<'a> {
         }
     }
 
-    /// Document 01's choice, sentence by sentence, under a load given by its position.
+    /// Document 01's choice, sentence by sentence, and of a pattern's crossings the lowest, under a load
+    /// given by its position.
     fn choose(&self, node: usize, load: usize, time: u32) -> Option<Cover> {
         let mut covers: Vec<&Cover> = self.covers[node][load].iter().filter(|cover| cover.arrival <= time).collect();
         let area = covers.iter().map(|cover| cover.area).min()?;
@@ -128,18 +129,20 @@ impl<'a> Listing<'a> {
         covers.retain(|cover| cover.arrival == arrival);
         let mut matches = Vec::new();
         if !self.tree.shape.is_leaf(node) {
-            let pattern = covers.iter().map(|cover| cover.matches[0].1).min()?;
-            matches = self.choose_inputs(node, load, arrival, pattern)?;
+            let pattern = covers.iter().map(|cover| cover.matches[0].pattern).min()?;
+            covers.retain(|cover| cover.matches[0].pattern == pattern);
+            let crossing = covers.iter().map(|cover| cover.matches[0].crossing).min()?;
+            matches = self.choose_inputs(load, arrival, Placed { node, pattern, crossing })?;
         }
         Some(Cover { area, arrival, matches })
     }
 
-    /// The match of `pattern` and the matches chosen for its inputs, ascending by node.
-    fn choose_inputs(&self, node: usize, load: usize, arrival: u32, pattern: usize) -> Option<Vec<(usize, usize)>> {
-        let mut matches = vec![(node, pattern)];
-        let found = self.matches[node].iter().find(|found| found.pattern == pattern)?;
+    /// A match and the matches chosen for its inputs, ascending by node.
+    fn choose_inputs(&self, load: usize, arrival: u32, placed: Placed) -> Option<Vec<Placed>> {
+        let mut matches = vec![placed];
+        let found = self.matches[placed.node].iter().find(|found| found.placed(placed.node) == placed)?;
         for input in &found.inputs {
-            let time = arrival.checked_sub(found.delay(input, self.loads(node)[load]))?;
+            let time = arrival.checked_sub(found.delay(input, self.loads(placed.node)[load]))?;
             matches.extend(self.choose(input.node, found.bin(input), time)?.matches);
         }
         matches.sort();

@@ -11,12 +11,26 @@ pub struct Pair {
     pub area: u32,
 }
 
-/// Matches are pairs of node and pattern, ascending by node.
+/// A match as a cover sheet states it.
+#[derive(Clone, Copy, PartialEq, Eq, PartialOrd, Ord, Hash, Debug)]
+pub struct Placed {
+    pub node: usize,
+    pub pattern: usize,
+    pub crossing: u32,
+}
+
+impl Placed {
+    pub fn new(node: usize, pattern: usize, crossing: u32) -> Placed {
+        Placed { node, pattern, crossing }
+    }
+}
+
+/// Matches are ascending by node.
 #[derive(Clone, PartialEq, Eq, Debug)]
 pub struct Cover {
     pub area: u32,
     pub arrival: u32,
-    pub matches: Vec<(usize, usize)>,
+    pub matches: Vec<Placed>,
 }
 
 impl Cover {
@@ -25,9 +39,10 @@ impl Cover {
         writer.put(self.area, 22);
         writer.put(self.arrival, 24);
         writer.put(self.matches.len() as u32, 6);
-        for &(node, pattern) in &self.matches {
-            writer.put(node as u32, 6);
-            writer.put(pattern as u32, 7);
+        for placed in &self.matches {
+            writer.put(placed.node as u32, 6);
+            writer.put(placed.pattern as u32, 7);
+            writer.put(placed.crossing, 5);
         }
         writer.finish()
     }
@@ -51,7 +66,8 @@ pub fn decode(bytes: &[u8]) -> Result<Cover, Refusal> {
     for _ in 0..sheet.any(6)?.value {
         let node = sheet.any(6)?.value;
         let pattern = sheet.any(7)?.value;
-        matches.push((node as usize, pattern as usize));
+        let crossing = sheet.any(5)?.value;
+        matches.push(Placed::new(node as usize, pattern as usize, crossing));
     }
     sheet.end()?;
     Ok(Cover { area, arrival, matches })

@@ -3,11 +3,11 @@
 use crate::cover::Pair;
 use std::iter::Peekable;
 
-/// A trade-off and the lowest pattern that reaches it (at a leaf, 0).
+/// A trade-off and the first match that reaches it, by its position among those of the node (at a leaf, 0).
 #[derive(Clone, Copy, PartialEq, Eq, Debug)]
 pub struct Point {
     pub pair: Pair,
-    pub pattern: usize,
+    pub first: usize,
 }
 
 /// Trade-offs, arrivals rising and areas falling. Empty if there is no cover.
@@ -19,8 +19,8 @@ pub struct Curve {
 type Points<'a> = Peekable<std::slice::Iter<'a, Point>>;
 
 impl Curve {
-    pub fn single(arrival: u32, area: u32, pattern: usize) -> Curve {
-        Curve { points: vec![Point { pair: Pair { arrival, area }, pattern }] }
+    pub fn single(arrival: u32, area: u32, first: usize) -> Curve {
+        Curve { points: vec![Point { pair: Pair { arrival, area }, first }] }
     }
 
     /// The last point that arrives by `time`: of those in time it has the least area.
@@ -30,7 +30,7 @@ impl Curve {
     }
 
     /// Both together: the later arrival and the sum of the areas, with this curve's
-    /// pattern, after the other has been delayed.
+    /// match, after the other has been delayed.
     pub fn join(&self, other: &Curve, delay: u32) -> Curve {
         let mut joined = Vec::with_capacity(self.points.len() + other.points.len());
         let (mut here, mut there) = (self.points.iter().peekable(), other.points.iter().peekable());
@@ -47,13 +47,13 @@ impl Curve {
             }
             if let (Some(left), Some(right)) = (left, right) {
                 let area = left.pair.area + right.pair.area;
-                joined.push(Point { pair: Pair { arrival, area }, pattern: left.pattern });
+                joined.push(Point { pair: Pair { arrival, area }, first: left.first });
             }
         }
         Curve { points: joined }
     }
 
-    /// The trade-offs among the points of both; of equal points the lower pattern's stays.
+    /// The trade-offs among the points of both; of equal points the earlier match's stays.
     pub fn unite(&mut self, other: Curve) {
         let mut united: Vec<Point> = Vec::with_capacity(self.points.len() + other.points.len());
         let (mut here, mut there) = (self.points.iter().peekable(), other.points.iter().peekable());
@@ -70,9 +70,9 @@ impl Curve {
     }
 }
 
-/// The first of the points that come next: the earlier, the smaller, the lower pattern's.
+/// The first of the points that come next: the earlier, the smaller, the earlier match's.
 fn next_of<'a>(here: &mut Points<'a>, there: &mut Points<'a>) -> Option<&'a Point> {
-    let rank = |point: &&Point| (point.pair, point.pattern);
+    let rank = |point: &&Point| (point.pair, point.first);
     match (here.peek().map(rank), there.peek().map(rank)) {
         (Some(left), Some(right)) if right < left => there.next(),
         (None, _) => there.next(),
@@ -89,9 +89,9 @@ fn earlier(one: Option<u32>, other: Option<u32>) -> Option<u32> {
 mod tests {
     use super::*;
 
-    fn curve(pairs: &[(u32, u32)], pattern: usize) -> Curve {
+    fn curve(pairs: &[(u32, u32)], first: usize) -> Curve {
         let mut curve = Curve::default();
-        pairs.iter().for_each(|&(arrival, area)| curve.unite(Curve::single(arrival, area, pattern)));
+        pairs.iter().for_each(|&(arrival, area)| curve.unite(Curve::single(arrival, area, first)));
         curve
     }
 
@@ -104,7 +104,7 @@ mod tests {
         let mut both = curve(&[(1, 9), (4, 6), (8, 2)], 3);
         both.unite(curve(&[(1, 10), (3, 6), (8, 2), (9, 2), (10, 1)], 2));
         assert_eq!(pairs(&both), [(1, 9), (3, 6), (8, 2), (10, 1)]);
-        assert_eq!(both.points.iter().map(|point| point.pattern).collect::<Vec<_>>(), [3, 2, 2, 2]);
+        assert_eq!(both.points.iter().map(|point| point.first).collect::<Vec<_>>(), [3, 2, 2, 2]);
     }
 
     #[test]

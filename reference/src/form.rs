@@ -29,6 +29,7 @@ pub enum Role {
     MatchCount,
     MatchNode,
     MatchPattern,
+    MatchCrossing,
 }
 
 impl Role {
@@ -54,6 +55,7 @@ impl Role {
             Role::Hold => 1,
             Role::PinBin | Role::Code => 2,
             Role::BinCount | Role::PinCount | Role::PatternCount | Role::PinNumber => 3,
+            Role::MatchCrossing => 5,
             Role::MatchCount | Role::MatchNode => 6,
             Role::CellCount | Role::MatchPattern => 7,
             Role::BinLoad | Role::HighestLoad | Role::Drive | Role::RootLoad => 8,
@@ -100,9 +102,10 @@ impl Form {
         form.push(Role::CoverArea, cover.area);
         form.push(Role::CoverArrival, cover.arrival);
         form.push(Role::MatchCount, cover.matches.len() as u32);
-        for &(node, pattern) in &cover.matches {
-            form.push(Role::MatchNode, node as u32);
-            form.push(Role::MatchPattern, pattern as u32);
+        for placed in &cover.matches {
+            form.push(Role::MatchNode, placed.node as u32);
+            form.push(Role::MatchPattern, placed.pattern as u32);
+            form.push(Role::MatchCrossing, placed.crossing);
         }
         form
     }

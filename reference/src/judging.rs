@@ -1,7 +1,8 @@
 //! The judge of covers: the list is walked with the set of nodes still to be covered, and the
 //! figures are then worked out from the leaves up, over the matches taken.
 
-use crate::cover::{self, Cover, Pair};
+use crate::cover::{self, Cover, Pair, Placed};
+use crate::crossing::{crossings, redrawn, unused_bits};
 use crate::library::{self, Library};
 use crate::matching::{inputs_at, Match};
 use crate::refusal::{Refusal, COVER_FIGURES, COVER_MATCH, COVER_SHEET, TAIL};
@@ -16,12 +17,30 @@ pub enum Wrong {
     Node,
     /// Its number is not that of a pattern.
     Number,
-    /// Its pattern does not match there.
+    /// Its pattern does not match there under any crossing.
     Shape,
     /// Its cell is held.
     Held,
     /// It drives more than its cell's highest load.
     Load,
+    /// Its pattern matches there, but under other crossings only.
+    Crossing,
+    /// A bit is set that its pattern has no NAND for.
+    UnusedBit,
+}
+
+impl Wrong {
+    fn word(self) -> &'static str {
+        match self {
+            Wrong::Node => "node",
+            Wrong::Number => "number",
+            Wrong::Shape => "shape",
+            Wrong::Held => "held",
+            Wrong::Load => "load",
+            Wrong::Crossing => "crossing",
+            Wrong::UnusedBit => "unused bit",
+        }
+    }
 }
 
 /// Why a cover is not accepted.
@@ -72,8 +91,8 @@ pub fn name(judged: &Judged) -> String {
         Fault::Before(_) => String::new(),
         Fault::Torn(_) => " torn".to_string(),
         Fault::Tail(_) => " tail".to_string(),
-        Fault::Match(0, wrong) => format!(" at 0: {wrong:?}").to_lowercase(),
-        Fault::Match(_, wrong) => format!(" later: {wrong:?}").to_lowercase(),
+        Fault::Match(0, wrong) => format!(" at 0: {}", wrong.word()),
+        Fault::Match(_, wrong) => format!(" later: {}", wrong.word()),
         Fault::Unfinished(0) => " without matches".to_string(),
         Fault::Unfinished(_) => " at the match count".to_string(),
         Fault::Figures { area: false, .. } => " arrival".to_string(),
@@ -94,8 +113,8 @@ pub fn judge(library: &[u8], tree: &[u8], cover: &[u8]) -> Judged {
 /// Judges a cover of a sound tree by a sound library.
 pub fn check(library: &Library, tree: &Tree, cover: &Cover) -> Judged {
     let mut walk = Walk::begin(library, tree);
-    for (position, &(node, pattern)) in cover.matches.iter().enumerate() {
-        walk.take(node, pattern).map_err(|wrong| Fault::Match(position, wrong))?;
+    for (position, &placed) in cover.matches.iter().enumerate() {
+        walk.take(placed).map_err(|wrong| Fault::Match(position, wrong))?;
     }
     if !walk.uncovered.is_empty() {
         return Err(Fault::Unfinished(cover.matches.len()));
@@ -133,31 +152,39 @@ impl<'a> Walk<'a> {
     }
 
     /// The next match of the list.
-    fn take(&mut self, node: usize, pattern: usize) -> Result<(), Wrong> {
+    fn take(&mut self, placed: Placed) -> Result<(), Wrong> {
         let load = match self.uncovered.first_key_value() {
-            Some((&lowest, &load)) if lowest == node => load,
+            Some((&lowest, &load)) if lowest == placed.node => load,
             _ => return Err(Wrong::Node),
         };
-        let found = self.legal_match(node, pattern, load)?;
-        self.uncovered.remove(&node);
+        let found = self.legal_match(placed, load)?;
+        self.uncovered.remove(&placed.node);
         for input in &found.inputs {
             self.uncover(input.node, self.library.bins[found.bin(input)]);
         }
-        self.taken.insert(node, (found, load));
+        self.taken.insert(placed.node, (found, load));
         Ok(())
     }
 
-    fn legal_match(&self, node: usize, pattern: usize, load: u32) -> Result<Match<'a>, Wrong> {
+    fn legal_match(&self, placed: Placed, load: u32) -> Result<Match<'a>, Wrong> {
+        let Placed { node, pattern, crossing } = placed;
         let (cell, shape) = self.library.patterns().nth(pattern).ok_or(Wrong::Number)?;
-        let inputs = inputs_at(shape, self.shape, node).ok_or(Wrong::Shape)?;
-        let found = Match { pattern, cell, inputs };
-        if cell.held {
-            Err(Wrong::Held)
-        } else if !found.is_legal(load) {
-            Err(Wrong::Load)
-        } else {
-            Ok(found)
+        let inputs_under = |crossing| inputs_at(&redrawn(shape, crossing), self.shape, node);
+        let inputs = inputs_under(crossing);
+        if inputs.is_none() && crossings(shape).all(|other| inputs_under(other).is_none()) {
+            return Err(Wrong::Shape);
         }
+        if cell.held {
+            return Err(Wrong::Held);
+        }
+        if load > cell.highest_load {
+            return Err(Wrong::Load);
+        }
+        let inputs = inputs.ok_or(Wrong::Crossing)?;
+        if crossing & unused_bits(shape) != 0 {
+            return Err(Wrong::UnusedBit);
+        }
+        Ok(Match { pattern, crossing, cell, inputs })
     }
 
     fn area(&self) -> u32 {

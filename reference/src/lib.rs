@@ -4,6 +4,7 @@
 pub mod bits;
 pub mod brute;
 pub mod cover;
+pub mod crossing;
 pub mod curve;
 pub mod deadline;
 pub mod form;

@@ -1,5 +1,8 @@
-//! Where patterns stand on the subject tree.
+//! Where patterns stand on the subject tree: every redrawing of every pattern is written out as
+//! a shape of its own, and matches as drawn.
 
+use crate::cover::Placed;
+use crate::crossing::{crossings, redrawn};
 use crate::library::{Cell, Library};
 use crate::shape::{Node, Shape};
 
@@ -10,9 +13,18 @@ pub struct Input {
     pub node: usize,
 }
 
-/// A pattern of a cell that is not held, standing at some node.
+/// A pattern of a cell that is not held, as it is under one of its crossings.
+pub struct Redrawing<'a> {
+    pub pattern: usize,
+    pub crossing: u32,
+    pub cell: &'a Cell,
+    pub shape: Shape,
+}
+
+/// A redrawing that stands at some node, with its inputs in the order of the tree.
 pub struct Match<'a> {
     pub pattern: usize,
+    pub crossing: u32,
     pub cell: &'a Cell,
     pub inputs: Vec<Input>,
 }
@@ -33,21 +45,38 @@ impl Match<'_> {
     pub fn bin(&self, input: &Input) -> usize {
         self.cell.pins[input.pin].bin as usize
     }
+
+    pub fn placed(&self, node: usize) -> Placed {
+        Placed { node, pattern: self.pattern, crossing: self.crossing }
+    }
 }
 
-/// Every match at a node, ascending by pattern.
-pub fn matches_at<'a>(library: &'a Library, tree: &Shape, node: usize) -> Vec<Match<'a>> {
-    let stand = |(pattern, (cell, shape)): (usize, (&'a Cell, &'a Shape))| {
-        let inputs = if cell.held { None } else { inputs_at(shape, tree, node) };
-        inputs.map(|inputs| Match { pattern, cell, inputs })
+/// Every redrawing, ascending by pattern and for each pattern by crossing.
+pub fn redrawings(library: &Library) -> Vec<Redrawing<'_>> {
+    let mut redrawings = Vec::new();
+    for (pattern, (cell, shape)) in library.patterns().enumerate().filter(|(_, (cell, _))| !cell.held) {
+        let redraw = |crossing| Redrawing { pattern, crossing, cell, shape: redrawn(shape, crossing) };
+        redrawings.extend(crossings(shape).map(redraw));
+    }
+    redrawings
+}
+
+/// Every match by node, each node's in the order of the redrawings.
+pub fn matches_by_node<'a>(redrawings: &[Redrawing<'a>], tree: &Shape) -> Vec<Vec<Match<'a>>> {
+    (0..tree.nodes.len()).map(|node| matches_at(redrawings, tree, node)).collect()
+}
+
+fn matches_at<'a>(redrawings: &[Redrawing<'a>], tree: &Shape, node: usize) -> Vec<Match<'a>> {
+    let stand = |&Redrawing { pattern, crossing, cell, ref shape }: &Redrawing<'a>| {
+        inputs_at(shape, tree, node).map(|inputs| Match { pattern, crossing, cell, inputs })
     };
-    library.patterns().enumerate().filter_map(stand).collect()
+    redrawings.iter().filter_map(stand).collect()
 }
 
-/// The inputs of a pattern that stands at a node, in drawn order; `None` if it does not stand there.
-pub fn inputs_at(pattern: &Shape, tree: &Shape, node: usize) -> Option<Vec<Input>> {
+/// The inputs of a shape that stands at a node, in drawn order; `None` if it does not stand there.
+pub fn inputs_at(shape: &Shape, tree: &Shape, node: usize) -> Option<Vec<Input>> {
     let mut inputs = Vec::new();
-    stands(pattern, 0, tree, node, &mut inputs).then_some(inputs)
+    stands(shape, 0, tree, node, &mut inputs).then_some(inputs)
 }
 
 /// Whether the pattern from one of its nodes on has the tree's shape from `node` on.

@@ -17,7 +17,7 @@ impl Operation {
     /// The least length of the output, in bytes.
     pub fn least_output(self) -> usize {
         match self {
-            Operation::Map => 109,
+            Operation::Map => 149,
             Operation::List => 179,
         }
     }

@@ -1,6 +1,6 @@
 //! What treecover reads and prints.
 
-use crate::cover::Cover;
+use crate::cover::{Cover, Placed};
 use crate::library::{self, Library};
 use crate::refusal::Refusal;
 use crate::{merging, tree};
@@ -37,11 +37,12 @@ fn mapped(library: &[u8], tree: &[u8]) -> Result<String, Refusal> {
     Ok(cover_text(&library, &cover))
 }
 
-/// `cover`, area, arrival and match count, and a line of node, cell and pattern for each match.
+/// `cover`, area, arrival and match count, and a line of node, cell, pattern and crossing for each match.
 fn cover_text(library: &Library, cover: &Cover) -> String {
     let cells: Vec<usize> =
         library.cells.iter().enumerate().flat_map(|(number, cell)| vec![number; cell.patterns.len()]).collect();
     let head = format!("cover {} {} {}\n", cover.area, cover.arrival, cover.matches.len());
-    let line = |&(node, pattern): &(usize, usize)| format!("{node} {} {pattern}\n", cells[pattern]);
+    let line =
+        |&Placed { node, pattern, crossing }: &Placed| format!("{node} {} {pattern} {crossing}\n", cells[pattern]);
     head + &cover.matches.iter().map(line).collect::<String>()
 }

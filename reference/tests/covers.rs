@@ -1,12 +1,13 @@
 //! The judge of covers on hand-made sheets, against listing every cover, and on what map hands over.
 
 use reference::brute::Listing;
-use reference::cover::{self, Cover, Pair};
+use reference::cover::{self, Cover, Pair, Placed};
+use reference::crossing::CROSSINGS;
 use reference::form::Form;
 use reference::generate::covers::damage::{any_case, spoiled, IN_COVER};
 use reference::generate::covers::draw::{any_cover, Draw};
 use reference::generate::covers::Draft;
-use reference::generate::parts::{chain, tree};
+use reference::generate::parts::{cell, chain, pin, tree, INVERTER, NAND};
 use reference::generate::problem::{any_style, problem, small_style, Problem};
 use reference::generate::specimen;
 use reference::judging::{check, judge, name, Fault};
@@ -14,11 +15,13 @@ use reference::library::Library;
 use reference::merging;
 use reference::operation::{Lent, Operation};
 use reference::rng::Rng;
-use reference::shape::Step::{Leaf, Nand};
+use reference::shape::Node;
+use reference::shape::Step::{Inv, Leaf, Nand};
 use reference::tree::Tree;
 use reference::verdict::Verdict;
 use std::collections::BTreeSet;
 
+/// Nodes and patterns, as drawn.
 type Matches<'a> = &'a [(usize, usize)];
 
 /// Area 2, arrival 5, one match of pattern 1 at node 0.
@@ -46,9 +49,21 @@ fn and_tree(root_load: u32) -> Tree {
     tree(root_load, 0, &chain(1, &[Nand, Leaf(0), Leaf(0)]))
 }
 
-/// Judges a list of matches with the figures area and arrival.
+/// Judges a list of matches as drawn with the figures area and arrival.
 fn judged(library: &Library, tree: &Tree, area: u32, arrival: u32, matches: Matches) -> String {
-    let sheet = Cover { area, arrival, matches: matches.to_vec() }.sheet();
+    let crossed: Vec<(usize, usize, u32)> = matches.iter().map(|&(node, pattern)| (node, pattern, 0)).collect();
+    judged_crossed(library, tree, (area, arrival), &crossed)
+}
+
+/// The same for nodes, patterns and crossings.
+fn judged_crossed(
+    library: &Library,
+    tree: &Tree,
+    (area, arrival): (u32, u32),
+    matches: &[(usize, usize, u32)],
+) -> String {
+    let placed = |&(node, pattern, crossing): &(usize, usize, u32)| Placed { node, pattern, crossing };
+    let sheet = Cover { area, arrival, matches: matches.iter().map(placed).collect() }.sheet();
     verdict(&Form::of_library(library).bytes(), &Form::of_tree(tree).bytes(), &sheet).line()
 }
 
@@ -107,6 +122,60 @@ fn held_cells_and_high_loads_are_named() {
     assert_eq!(of(&library, 1, 10, &[(0, 3)]), "refused 23 0");
 }
 
+/// A NAND with a slow second pin, one with an inverter at its second input, and an inverter.
+fn uneven_library() -> Library {
+    let mut nand = cell(2, 9, pin(0, 1, 0), NAND);
+    nand.pins[1] = pin(0, 5, 0);
+    let inverted = cell(3, 9, pin(0, 2, 0), &[Nand, Leaf(0), Inv, Leaf(1)]);
+    Library { bins: vec![1], cells: vec![nand, inverted, cell(1, 9, pin(0, 1, 0), INVERTER)] }
+}
+
+#[test]
+fn a_crossing_exchanges_the_pins() {
+    let library = uneven_library();
+    let nand = tree(1, 0, &[Nand, Leaf(10), Leaf(0)]);
+    let of = |arrival, crossing| judged_crossed(&library, &nand, (2, arrival), &[(0, 0, crossing)]);
+    assert_eq!(of(11, 0), "accepted 2 11");
+    assert_eq!(of(15, 16), "accepted 2 15");
+    assert_eq!(of(15, 0), "refused 24 0");
+    assert_eq!(of(11, 16), "refused 24 0");
+    for crossing in (0..CROSSINGS).filter(|crossing| ![0, 16].contains(crossing)) {
+        assert_eq!(of(11, crossing), "refused 23 0", "{crossing}");
+        assert_eq!(of(15, crossing), "refused 23 0", "{crossing}");
+    }
+}
+
+/// Pattern 1 stands there with its inverter first, so only exchanged; the inverters have no NAND.
+#[test]
+fn a_crossing_that_does_not_match_is_named() {
+    let library = uneven_library();
+    let inverted = tree(1, 0, &[Inv, Nand, Inv, Leaf(4), Leaf(0)]);
+    let of = |figures, matches| judged_crossed(&library, &inverted, figures, matches);
+    assert_eq!(of((4, 7), &[(0, 2, 0), (1, 1, 16)]), "accepted 4 7");
+    assert_eq!(of((4, 7), &[(0, 2, 0), (1, 1, 0)]), "refused 23 1");
+    assert_eq!(of((4, 7), &[(0, 2, 0), (1, 1, 24)]), "refused 23 1");
+    assert_eq!(of((4, 7), &[(0, 2, 0), (1, 1, 17)]), "refused 23 1");
+    assert_eq!(of((4, 7), &[(0, 2, 16), (1, 1, 16)]), "refused 23 0");
+    assert_eq!(of((4, 7), &[(0, 2, 1), (1, 1, 16)]), "refused 23 0");
+    assert_eq!(of((4, 7), &[(0, 2, 16), (1, 1, 0)]), "refused 23 0");
+    assert_eq!(of((4, 7), &[(0, 2, 0), (1, 0, 0), (2, 2, 0)]), "accepted 4 7");
+    assert_eq!(of((4, 11), &[(0, 2, 0), (1, 0, 16), (2, 2, 0)]), "accepted 4 11");
+    assert_eq!(of((4, 11), &[(0, 2, 0), (1, 0, 16), (2, 2, 2)]), "refused 23 2");
+}
+
+/// Five NANDs: the tree is the drawing under crossing 19, and of all crossings only that one matches.
+#[test]
+fn one_crossing_of_32_matches() {
+    let five = [Nand, Inv, Nand, Leaf(3), Inv, Nand, Inv, Leaf(0), Leaf(5), Nand, Nand, Leaf(1), Inv, Leaf(4), Leaf(2)];
+    let library = Library { bins: vec![1], cells: vec![cell(9, 9, pin(0, 2, 0), &five)] };
+    let turned =
+        [Nand, Nand, Leaf(0), Nand, Inv, Leaf(0), Leaf(0), Inv, Nand, Leaf(0), Inv, Nand, Inv, Leaf(0), Leaf(0)];
+    for crossing in 0..CROSSINGS {
+        let judged = judged_crossed(&library, &tree(1, 0, &turned), (9, 2), &[(0, 0, crossing)]);
+        assert_eq!(judged, if crossing == 19 { "accepted 9 2" } else { "refused 23 0" }, "{crossing}");
+    }
+}
+
 /// A tree of one leaf has the cover without a match alone.
 #[test]
 fn a_leaf_needs_no_match() {
@@ -123,16 +192,17 @@ fn a_torn_sheet_and_a_tail_are_named() {
     let (library, tree) = specimen_sheets(&specimen::tree_b());
     let refused = |cover: &[u8]| verdict(&library, &tree, cover).line();
     let torn = [0, 0, 0, 22, 22, 22, 46, 52, 58];
+    assert_eq!(CASE_B.len(), torn.len());
     for (length, place) in torn.into_iter().enumerate() {
         assert_eq!(refused(&CASE_B[..length]), format!("refused 22 {place}"));
     }
-    for bit in 0..7 {
+    for bit in 0..2 {
         let mut tailed = CASE_B;
         tailed[8] |= 1 << bit;
-        assert_eq!(refused(&tailed), "refused 22 65");
+        assert_eq!(refused(&tailed), "refused 22 70");
     }
     for more in [&[0][..], &[1], &[0, 0]] {
-        assert_eq!(refused(&[&CASE_B, more].concat()), "refused 22 65");
+        assert_eq!(refused(&[&CASE_B, more].concat()), "refused 22 70");
     }
 }
 
@@ -140,14 +210,15 @@ fn a_torn_sheet_and_a_tail_are_named() {
 #[test]
 fn faults_are_said_in_order() {
     let (library, tree) = specimen_sheets(&specimen::tree_b());
-    let wrong = Cover { area: 9, arrival: 9, matches: vec![(1, 1)] }.sheet();
+    let stating = |node, pattern| Cover { area: 9, arrival: 9, matches: vec![Placed::new(node, pattern, 0)] }.sheet();
+    let wrong = stating(1, 1);
     let tailed = [wrong.as_slice(), &[0]].concat();
     let line = |library: &[u8], tree: &[u8], cover: &[u8]| verdict(library, tree, cover).line();
     assert_eq!(line(&library[..1], &tree[..1], &tailed), "refused 2 3");
     assert_eq!(line(&library, &tree[..1], &tailed), "refused 12 8");
-    assert_eq!(line(&library, &tree, &tailed), "refused 22 65");
+    assert_eq!(line(&library, &tree, &tailed), "refused 22 70");
     assert_eq!(line(&library, &tree, &wrong), "refused 23 0");
-    let untrue = Cover { area: 9, arrival: 9, matches: vec![(0, 1)] }.sheet();
+    let untrue = stating(0, 1);
     assert_eq!(line(&library, &tree, &untrue), "refused 24 0");
     assert_eq!(line(&[], &[], &[]), "refused 2 0");
     assert_eq!(line(&library, &[], &[]), "refused 12 0");
@@ -159,7 +230,8 @@ fn a_written_cover_is_read_back() {
     let mut rng = Rng::new(31);
     for _ in 0..2_000 {
         let count = rng.between(0, 63);
-        let matches = (0..count).map(|_| (rng.below(64), rng.below(128))).collect();
+        let any = |_| Placed::new(rng.below(64), rng.below(128), rng.below(32) as u32);
+        let matches = (0..count).map(any).collect();
         let written = Cover { area: rng.value(0, (1 << 22) - 1), arrival: rng.value(0, (1 << 24) - 1), matches };
         let sheet = written.sheet();
         assert_eq!(sheet, Form::of_cover(&written).bytes());
@@ -168,23 +240,34 @@ fn a_written_cover_is_read_back() {
 }
 
 /// The covers of a problem, as matches, area and arrival.
-fn listed(listing: &Listing) -> BTreeSet<(Vec<(usize, usize)>, u32, u32)> {
+fn listed(listing: &Listing) -> BTreeSet<(Vec<Placed>, u32, u32)> {
     listing.covers().iter().map(|cover| (cover.matches.clone(), cover.area, cover.arrival)).collect()
 }
 
 /// Every list with up to `most` matches of `choices`.
-fn every_list(choices: Matches, most: usize) -> Vec<Vec<(usize, usize)>> {
+fn every_list(choices: &[Placed], most: usize) -> Vec<Vec<Placed>> {
     let mut level = vec![vec![]];
     let mut lists = level.clone();
     for _ in 0..most {
-        let longer = |list: &Vec<(usize, usize)>| choices.iter().map(|&next| [list, &[next][..]].concat()).collect();
+        let longer = |list: &Vec<Placed>| choices.iter().map(|&next| [list, &[next][..]].concat()).collect();
         level = level.iter().flat_map::<Vec<_>, _>(longer).collect();
         lists.extend(level.iter().cloned());
     }
     lists
 }
 
-/// On tiny problems every list of matches there is, one longer than any cover.
+/// Every node and pattern and one more, under some crossings.
+fn choices(library: &Library, tree: &Tree, crossings: &[u32]) -> Vec<Placed> {
+    let mut choices = Vec::new();
+    for node in 0..=tree.shape.nodes.len() {
+        for pattern in 0..=library.pattern_count() {
+            choices.extend(crossings.iter().map(|&crossing| Placed { node, pattern, crossing }));
+        }
+    }
+    choices
+}
+
+/// On tiny problems every list of matches there is under some crossings, one longer than any cover.
 #[test]
 fn exactly_the_legal_covers_are_accepted() {
     let mut rng = Rng::new(32);
@@ -192,15 +275,15 @@ fn exactly_the_legal_covers_are_accepted() {
     while problems < 300 {
         let style = small_style(&mut rng);
         let Problem { library, tree } = problem(&mut rng, style);
-        let nodes = tree.shape.nodes.len();
-        let gates = (0..nodes).filter(|&node| !tree.shape.is_leaf(node)).count();
-        let choices: Vec<(usize, usize)> =
-            (0..=nodes).flat_map(|node| (0..=library.pattern_count()).map(move |pattern| (node, pattern))).collect();
-        if gates > 3 || choices.len().pow(gates as u32 + 1) > 30_000 {
+        let gates = tree.shape.nodes.iter().filter(|node| !matches!(node, Node::Leaf(_))).count();
+        let crossings = if gates < 2 { vec![0, 1, 2, 4, 8, 16, 24, 31] } else { vec![0, 16] };
+        let choices = choices(&library, &tree, &crossings);
+        if gates == 0 || gates > 3 || choices.len().pow(gates as u32 + 1) > 50_000 {
             continue;
         }
         let listing = Listing::new(&library, &tree, 2_000).expect("few covers");
-        let legal = listed(&listing);
+        let mut legal = listed(&listing);
+        legal.retain(|(matches, ..)| matches.iter().all(|placed| crossings.contains(&placed.crossing)));
         let mut accepted = BTreeSet::new();
         for matches in every_list(&choices, gates + 1) {
             let guess = Cover { area: 0, arrival: 0, matches };
@@ -217,7 +300,7 @@ fn exactly_the_legal_covers_are_accepted() {
         covers += legal.len();
     }
     println!("{problems} problems, {covers} covers among {lists} lists");
-    assert!(covers > 500);
+    assert!(covers > 300);
 }
 
 /// What the judge must say of a cover when all covers are known; of the place of 23 the least it can be,
@@ -261,7 +344,7 @@ fn damaged_covers_are_judged_as_the_listing_has_it() {
 }
 
 /// How many matches two lists have in common at their fronts.
-fn agreeing(one: Matches, other: Matches) -> usize {
+fn agreeing(one: &[Placed], other: &[Placed]) -> usize {
     one.iter().zip(other).take_while(|(left, right)| left == right).count()
 }
 
@@ -302,13 +385,17 @@ fn drawn_covers_are_accepted() {
 #[test]
 fn fresh_cases_are_of_every_kind() {
     let mut rng = Rng::new(36);
-    let names: Vec<String> = (0..10_000).map(|_| name(&any_case(&mut rng).judged())).collect();
+    let names: Vec<String> = (0..20_000).map(|_| name(&any_case(&mut rng).judged())).collect();
     for word in [
         "accepted",
         "22 torn",
         "22 tail",
         "23 at 0",
         "23 later",
+        "23 at 0: crossing",
+        "23 at 0: unused bit",
+        "23 later: crossing",
+        "23 later: unused bit",
         "23 without matches",
         "23 at the match count",
         "24 area",

@@ -89,18 +89,18 @@ module _ (l : Library) (cell : Cell) (load t : ℕ) where
 
 -- ---- a cover's record
 
-record-path : {a b n n′ : ℕ} {ns ns′ ps ps′ : List ℕ} → n ≡ n′ → ns ≡ ns′ → ps ≡ ps′ →
-    _≡_ {A = CoverRecord} (record { area = a; arrival = b; count = n; nodes = ns; patterns = ps }) (record { area = a; arrival = b; count = n′; nodes = ns′; patterns = ps′ })
-record-path p q r = cc
+record-path : {a b n n′ : ℕ} {ns ns′ ps ps′ xs xs′ : List ℕ} → n ≡ n′ → ns ≡ ns′ → ps ≡ ps′ → xs ≡ xs′ →
+    _≡_ {A = CoverRecord} (record { area = a; arrival = b; count = n; nodes = ns; patterns = ps; crossings = xs }) (record { area = a; arrival = b; count = n′; nodes = ns′; patterns = ps′; crossings = xs′ })
+record-path p q r s = cc
 
 -- Nothing appended, and matches appended one list after another.
 pub appended-none : (c : CoverRecord) → c ≡ appended c []
-appended-none c = record-path (sym (add-zero (c .count))) refl refl
+appended-none c = record-path (sym (add-zero (c .count))) refl refl refl
 
 pub appended-more : (c : CoverRecord) (xs ys : List Placed) → appended (appended c xs) ys ≡ appended c (xs ++ ys)
 appended-more c xs ys =
     record-path (add-assoc (c .count) (length xs) (length ys) ∙ ap (λ (n : ℕ). c .count + n) (sym (length-append xs ys)))
-    (run (λ (x : Placed). x .node) (c .nodes)) (run (λ (x : Placed). x .pattern) (c .patterns))
+    (run (λ (x : Placed). x .node) (c .nodes)) (run (λ (x : Placed). x .pattern) (c .patterns)) (run (λ (x : Placed). x .crossing) (c .crossings))
   where
     run : (f : Placed → ℕ) (l : List ℕ) → sets (sets l (c .count) (map f xs)) (c .count + length xs) (map f ys) ≡ sets l (c .count) (map f (xs ++ ys))
     run f l =
@@ -108,10 +108,11 @@ appended-more c xs ys =
         ∙ sym (sets-append l (c .count) (map f xs) (map f ys)) ∙ ap (sets l (c .count)) (sym (map-append f xs ys))
 
 -- The cover that a record with no match is, with matches appended.
-pub appended-cover : (c : CoverRecord) (xs : List Placed) → c .count ≡ 0 → length xs ≤ length (c .nodes) → length xs ≤ length (c .patterns) →
+pub appended-cover : (c : CoverRecord) (xs : List Placed) → c .count ≡ 0 → length xs ≤ length (c .nodes) → length xs ≤ length (c .patterns) → length xs ≤ length (c .crossings) →
     coverOf (appended c xs) ≡ record { point = record { area = c .area; arrival = c .arrival }; placed = xs }
-appended-cover c xs e hn hp =
-    ap (λ (ps : List Placed). record { point = record { area = c .area; arrival = c .arrival }; placed = ps }) (ap₂ placedOf (front (λ x. x .node) (c .nodes) hn) (front (λ x. x .pattern) (c .patterns) hp) ∙ placed-parts xs)
+appended-cover c xs e hn hp hx =
+    ap (λ (ps : List Placed). record { point = record { area = c .area; arrival = c .arrival }; placed = ps })
+    (rw (front (λ x. x .node) (c .nodes) hn, front (λ x. x .pattern) (c .patterns) hp, front (λ x. x .crossing) (c .crossings) hx) (placed-parts xs))
   where
     front : (f : Placed → ℕ) (ns : List ℕ) → length xs ≤ length ns → take (c .count + length xs) (sets ns (c .count) (map f xs)) ≡ map f xs
     front f ns h =
@@ -156,7 +157,7 @@ module _ {most : ℕ} {l : Library} {t : Tree} {rows ss zs : List ℕ} {room : �
   abbrev pub placedTo : ℕ → List Placed
   placedTo k = inputsPlaced l (top .match .pattern .cell) (top .load) (top .time) (take k (top .match .inputs))
 
-  pub few-inputs : inputs .count ≤ 16
+  pub few-inputs : inputs .count ≤ 6
   few-inputs = omega (arith, top .inputs-are .count-is, top .inputs-are .few)
 
   pub placed-start : placedTo 0 ≡ []
@@ -235,7 +236,7 @@ module _ {most : ℕ} {l : Library} {t : Tree} {rows ss zs : List ℕ} {room : �
   pub gate-top : 0 < gates s → (c : Cover) → choice l (goal .load) (goal .node) s (goal .time) ≡ some c → (inputs : Inputs) →
       ((p : Point) → least (suc (goal .time)) (covers l (goal .load) (goal .node) s) ≡ some p → (m : Match) → firstReaching l (goal .load) (goal .node) s p ≡ some m → InputsAre l m (goal .load) (p .arrival) inputs) →
       {room′ start : ℕ} → room ≡ room′ → start ≡ cover .count + 1 →
-      (top : Topmost most l t rows ss zs room′ work (goal .node) inputs start) × (c .placed ≡ record { node = goal .node; pattern = inputs .pattern } ∷ top .rest .placed)
+      (top : Topmost most l t rows ss zs room′ work (goal .node) inputs start) × (c .placed ≡ record { node = goal .node; pattern = inputs .pattern; crossing = inputs .crossing } ∷ top .rest .placed)
   unfolding topped
   gate-top g c e inputs are same from =
       let p = all .driven .some-cover in
@@ -255,5 +256,5 @@ module _ {most : ℕ} {l : Library} {t : Tree} {rows ss zs : List ℕ} {room : �
           chosen = m .chosen;
           fits = omega (arith, all .fits, from);
         },
-        ap (λ (x : Cover). x .placed) (m .whole) ∙ ap (λ (q : ℕ). record { node = goal .node; pattern = q } ∷ m .inputs .placed) (sym (is .pattern-is)),
+        ap (λ (x : Cover). x .placed) (m .whole) ∙ ap₂ (λ (q x : ℕ). record { node = goal .node; pattern = q; crossing = x } ∷ m .inputs .placed) (sym (is .pattern-is)) (sym (is .crossing-is)),
       )

@@ -9,8 +9,7 @@ use native.Mathlib.Decide.{ℕ-discrete}
 use native.Mathlib.Numerals.{add-one}
 use native.Mathlib.Omega.{arith}
 use lib.ListN.{length, getD}
-use lib.Dec.{ltb}
-use Rattle.sheets.specs.Model.{Shape, size, Library, Tree, patterns}
+use Rattle.sheets.specs.Model.{Shape, size, Library, Tree}
 use Rattle.covers.specs.Lists.{keepIf, select, firstSuch}
 use Rattle.covers.specs.Match.{Match, legal, fitting, matches}
 use Rattle.covers.specs.Cover.{Point, Cover, topped}
@@ -18,10 +17,9 @@ use Rattle.covers.specs.Enumeration.{matchCovers, under, covers, allBelow}
 use Rattle.covers.specs.Tradeoff.{Node}
 use Rattle.covers.specs.Choice.{least, reaches, chosenInputs, withInputs, firstReaching, gateChoice, choice}
 use Rattle.covers.specs.Curve.{Filled, base, curve, gates, lookup, pointOf}
-use Rattle.covers.proofs.Basics.{lt-or-le, at-all, at-below, in-select}
+use Rattle.covers.proofs.Basics.{lt-or-le, at-all, in-select}
 use Rattle.covers.proofs.Least.{In, IsLeast, least-is, least-some}
 use Rattle.covers.proofs.Deadline.{bestMatch}
-use Rattle.covers.proofs.Matching.{fitting-are}
 use Rattle.covers.proofs.Unroll.{gate-choice}
 use Rattle.covers.proofs.Handed.{choice-point}
 use Rattle.covers.proofs.Nodes.{root-in}
@@ -31,19 +29,18 @@ use Rattle.covers.proofs.Curve.{curve-is, lookup-is-least}
 use Rattle.covers.proofs.Filling.{fromTable, reaches-from-table}
 use Rattle.covers.proofs.FromSheets.{binned}
 use Rattle.overlay.proofs.Walking.{stands-size}
-use Rattle.matching.specs.Found.{matchWords, matchRow}
+use Rattle.matching.specs.Found.{matchBytes}
 use Rattle.matching.specs.Promises.{Ready}
 use Rattle.matching.proofs.Patterns.{fitting-sound}
 use Rattle.curves.specs.Words.{absent, pointLimit, tableOf}
-use Rattle.curves.specs.Best.{rowOf, legalBest, RowSafe}
+use Rattle.curves.specs.Best.{rowOf, patternOf, legalBest, RowKnown}
 use Rattle.curves.specs.Promises.{Worth}
 use Rattle.curves.proofs.Laws.{part-length}
 use Rattle.filling.proofs.Rows.{legal-is, row-is-match}
-use Rattle.filling.proofs.Node.{noMatch, here, node-within, gate-here, headed, FoundIs, match-in, row-holds, rows-ready}
+use Rattle.filling.proofs.Node.{noMatch, here, node-within, gate-here, FoundIs, match-in, found-at, rows-ready}
 use Rattle.choosing.specs.declared.Goal.{Goal}
 use Rattle.choosing.specs.declared.Inputs.{Inputs}
 use Rattle.choosing.specs.Promises.{FirstRow, RowHolds, InputsAre, Prepared, Drives, at-root, below, Driven}
-use Rattle.choosing.proofs.Reading.{pattern-at}
 
 -- ---- the first that passes
 
@@ -155,11 +152,8 @@ module _ {most : ℕ} {l : Library} {t : Tree} {rows ss zs found₀ work : List 
   inside : (j : ℕ) → j < count → List·Memᴰ (nth j) (fitting l (goal .node) s)
   inside j h = match-in (ready dec drv) are j h
 
-  row-held : (j : ℕ) → j < count → RowHolds l (rowOf found j) (nth j)
-  row-held j h = record { few = fitting-sound (goal .node) s l (dec .decoded .library) (inside j h) .few; words = row-holds (ready dec drv) are j h }
-
-  number-small : (j : ℕ) → j < count → nth j .number < 128
-  number-small j h = omega (arith, at-below (patterns l) (nth j .number) (fitting-are l (goal .node) s (inside j h) .0), dec .decoded .library .few-patterns)
+  row-held : (j : ℕ) → j < count → RowHolds l (patternOf rows (rowOf found j)) (rowOf found j) (nth j)
+  row-held j h = let f = found-at (ready dec drv) are j h in record { few = fitting-sound l (goal .node) s (dec .decoded .library) (inside j h) .few; words = f .holds; held = f .held; pinned = f .pinned }
 
   module _ (w : ℕ) (g : 0 < gates s) (e : least (suc (goal .time)) (covers l (goal .load) (goal .node) s) ≡ some (pointOf w)) where
     abbrev passes : Match → Bool
@@ -176,17 +170,18 @@ module _ {most : ℕ} {l : Library} {t : Tree} {rows ss zs found₀ work : List 
     arrival-is = add-one (w % base)
 
     -- What a row says of its match.
-    row-says : (j : ℕ) → j < count → legalBest most ss work (rowOf found j) (goal .load) (w % base + 1)
+    row-says : (j : ℕ) → j < count → legalBest most ss work (patternOf rows (rowOf found j)) (rowOf found j) (goal .load) (w % base + 1)
         ≡ cond (legal (nth j .pattern .cell) (goal .load)) (bestMatch (fromTable l (tableOf most work)) (goal .load) (suc (pointOf w .arrival)) (nth j)) none
-    unfolding legalBest matchRow
+    unfolding legalBest
     row-says j h =
+        let f = found-at (ready dec drv) are j h in
         ap₂ (λ (b : Bool) (o : Option Point). cond b o none)
-        (ap (ltb (goal .load)) (row-held j h .words 2 (omega arith)) ∙ legal-is (nth j .pattern .cell) (goal .load))
-        (row-is-match most l ss work (rowOf found j) (nth j) (goal .load) (w % base + 1) (row-held j h .words) (headed (ready dec drv) (inside j h))
+        (legal-is (f .held) (goal .load))
+        (row-is-match most l ss work (patternOf rows (rowOf found j)) (rowOf found j) (nth j) (goal .load) (w % base + 1) (f .held) (f .holds) (f .pinned) (f .headed)
         ∙ ap (λ (k : ℕ). bestMatch (fromTable l (tableOf most work)) (goal .load) k (nth j)) arrival-is)
 
     -- A row reaches the word exactly when its match is legal and reaches the point.
-    row-passes : (j : ℕ) → j < count → (legalBest most ss work (rowOf found j) (goal .load) (w % base + 1) ≡ some (pointOf w)) ↔ (passes (nth j) ≡ true)
+    row-passes : (j : ℕ) → j < count → (legalBest most ss work (patternOf rows (rowOf found j)) (rowOf found j) (goal .load) (w % base + 1) ≡ some (pointOf w)) ↔ (passes (nth j) ≡ true)
     row-passes j h = rw (row-says j h) (go (nth j) (inside j h) (legal (nth j .pattern .cell) (goal .load)) refl)
       where
         go : (m : Match) → List·Memᴰ m (fitting l (goal .node) s) → (b : Bool) → legal (m .pattern .cell) (goal .load) ≡ b →
@@ -196,7 +191,7 @@ module _ {most : ℕ} {l : Library} {t : Tree} {rows ss zs found₀ work : List 
             (r .1, r .0)
         go m i false f = ((λ q. absurd (Option·none-ne-some _ q)), (λ q. absurd (false≢true q)))
 
-    first-found : (r : ℕ) → FirstRow most ss work found (goal .load) w count r → (r < count) × (firstReaching l (goal .load) (goal .node) s (pointOf w) ≡ some (nth r))
+    first-found : (r : ℕ) → FirstRow most ss work rows found (goal .load) w count r → (r < count) × (firstReaching l (goal .load) (goal .node) s (pointOf w) ≡ some (nth r))
     first-found r f = go (lt-or-le r count)
       where
         is : firstReaching l (goal .load) (goal .node) s (pointOf w) ≡ firstSuch passes (fitting l (goal .node) s)
@@ -217,39 +212,37 @@ module _ {most : ℕ} {l : Library} {t : Tree} {rows ss zs found₀ work : List 
             absurd (Option·none-ne-some _ (sym (is ∙ first-none passes (fitting l (goal .node) s) noMatch (λ j k. fails j (omega arith) (omega (arith, are .many)))) ∙ p .first))
 
 -- The row that was picked for a word, and its match.
-pub record Picked (l : Library) (goal : Goal) (s : Shape) (found : List ℕ) (w r : ℕ) : Type 0 where
+pub record Picked (l : Library) (goal : Goal) (s : Shape) (rows found : List ℕ) (w r : ℕ) : Type 0 where
   pub match : Match
-  pub inside : matchWords * r + matchWords ≤ length found
-  pub held : RowHolds l (rowOf found r) match
-  pub safe : RowSafe (rowOf found r)
-  pub long : length (rowOf found r) ≡ matchWords
-  pub number : getD (rowOf found r) 0 0 < 128
+  pub inside : matchBytes * r + matchBytes ≤ length found
+  pub held : RowHolds l (patternOf rows (rowOf found r)) (rowOf found r) match
+  pub known : RowKnown rows (rowOf found r)
+  pub long : length (rowOf found r) ≡ matchBytes
   pub word : least (suc (goal .time)) (covers l (goal .load) (goal .node) s) ≡ some (pointOf w)
   pub first : firstReaching l (goal .load) (goal .node) s (pointOf w) ≡ some match
 
 pub picked : {most : ℕ} {l : Library} {t : Tree} {rows ss zs found₀ work : List ℕ} → Prepared most l t rows ss zs (length found₀) work → {goal : Goal} {s : Shape} → Driven l t goal s →
     getD ss (goal .node) 0 < 2 → {found : List ℕ} {count : ℕ} → FoundIs l (goal .node) s found₀ found count → (w r : ℕ) →
-    Worth pointLimit (goal .time + 1) w (lookup (goal .time + 1) (tableOf most work (goal .node) (goal .bin))) → FirstRow most ss work found (goal .load) w count r → Picked l goal s found w r
+    Worth pointLimit (goal .time + 1) w (lookup (goal .time + 1) (tableOf most work (goal .node) (goal .bin))) → FirstRow most ss work rows found (goal .load) w count r → Picked l goal s rows found w r
 picked {l = l} dec {goal} {s} drv small {found} are w r worth f =
     let g = gate-here (ready dec drv) small in
     let e = word-found dec drv w worth g .1 in
     let q = first-found dec drv are w g e r f in
     let held = row-held dec drv are r (q .0) in
     let safe = rows-ready (ready dec drv) are (dec .area) in
-    let within : matchWords * r + matchWords ≤ length found = omega (arith, q .0, safe .room) in
+    let within : matchBytes * r + matchBytes ≤ length found = omega (arith, q .0, safe .room) in
     record {
       match = getD (fitting l (goal .node) s) r noMatch;
       inside = within;
       held = held;
-      safe = safe .rows r (q .0);
-      long = part-length matchWords (matchWords * r) found within;
-      number = omega (arith, number-small dec drv are r (q .0), pattern-at l (rowOf found r) (getD (fitting l (goal .node) s) r noMatch) held);
+      known = safe .rows-known r (q .0);
+      long = part-length matchBytes (matchBytes * r) found within;
       word = e;
       first = q .1;
     }
 
-pub picked-inputs : {l : Library} {goal : Goal} {s : Shape} {found : List ℕ} {w r : ℕ} → Picked l goal s found w r → (x : Inputs) →
-    ((l : Library) (m : Match) → RowHolds l (rowOf found r) m → InputsAre l m (goal .load) (w % base) x) →
+pub picked-inputs : {l : Library} {goal : Goal} {s : Shape} {rows found : List ℕ} {w r : ℕ} → Picked l goal s rows found w r → (x : Inputs) →
+    ((l : Library) (m : Match) → RowHolds l (patternOf rows (rowOf found r)) (rowOf found r) m → InputsAre l m (goal .load) (w % base) x) →
     (p : Point) → least (suc (goal .time)) (covers l (goal .load) (goal .node) s) ≡ some p → (m : Match) → firstReaching l (goal .load) (goal .node) s p ≡ some m → InputsAre l m (goal .load) (p .arrival) x
 unfolding pointOf
 picked-inputs {l} {goal} {s} {w = w} k x reads p e m f =

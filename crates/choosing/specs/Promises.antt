@@ -12,10 +12,10 @@ use Rattle.covers.specs.Enumeration.{covers}
 use Rattle.covers.specs.Tradeoff.{nodes}
 use Rattle.covers.specs.Choice.{least}
 use Rattle.covers.specs.Curve.{base, gates, pointOf}
-use Rattle.overlay.specs.Held.{Decoded}
+use Rattle.overlay.specs.Held.{CellHeld, Decoded}
 use Rattle.matching.specs.Found.{matchTable, matchRow}
 use Rattle.curves.specs.Words.{WorkArea}
-use Rattle.curves.specs.Best.{rowOf, legalBest}
+use Rattle.curves.specs.Best.{rowOf, patternOf, legalBest}
 use Rattle.curves.specs.Stored.{Stored}
 use Rattle.results.specs.declared.CoverRecord.{CoverRecord}
 use Rattle.choosing.specs.declared.Goal.{Goal}
@@ -24,19 +24,21 @@ use Rattle.choosing.specs.declared.Inputs.{Inputs}
 -- ---- a match and its inputs
 
 -- The row of a legal match whose least point in time is that of the word w.
-abbrev pub Reaches : ℕ → List ℕ → List ℕ → ℕ → ℕ → List ℕ → Type 0
-Reaches most symbols work load w row = legalBest most symbols work row load (w % base + 1) ≡ some (pointOf w)
+abbrev pub Reaches : ℕ → List ℕ → List ℕ → List ℕ → ℕ → ℕ → List ℕ → Type 0
+Reaches most symbols work rows load w row = legalBest most symbols work (patternOf rows row) row load (w % base + 1) ≡ some (pointOf w)
 
 -- The first of so many rows that reaches the word's area and arrival, or none of them.
-pub record FirstRow (most : ℕ) (symbols work found : List ℕ) (load w count r : ℕ) : Type 0 where
+pub record FirstRow (most : ℕ) (symbols work rows found : List ℕ) (load w count r : ℕ) : Type 0 where
   pub within : r ≤ count
-  pub before : (j : ℕ) → j < r → Reaches most symbols work load w (rowOf found j) → ⊥
-  pub here : r < count → Reaches most symbols work load w (rowOf found r)
+  pub before : (j : ℕ) → j < r → Reaches most symbols work rows load w (rowOf found j) → ⊥
+  pub here : r < count → Reaches most symbols work rows load w (rowOf found r)
 
--- A row holds a match.
-pub record RowHolds (l : Library) (row : List ℕ) (m : Match) : Type 0 where
-  pub few : length (m .inputs) ≤ 16
-  pub words : (c : ℕ) → c < length (matchRow l m) → getD row c 0 ≡ getD (matchRow l m) c 0
+-- A row holds a match, and its pattern's row the cell.
+pub record RowHolds (l : Library) (pattern row : List ℕ) (m : Match) : Type 0 where
+  pub few : length (m .inputs) ≤ 6
+  pub words : (c : ℕ) → c < length (matchRow m) → getD row c 0 ≡ getD (matchRow m) c 0
+  pub held : CellHeld l pattern (m .pattern .cell)
+  pub pinned : (i : Input) → List·Memᴰ i (m .inputs) → i .pin < length (m .pattern .cell .pins)
 
 abbrev pub noInput : Input
 noInput = record { pin = 0; node = 0; shape = leaf 0 }
@@ -55,8 +57,9 @@ goalAt r k = record { node = getD (r .nodes) k 0; load = getD (r .loads) k 0; bi
 -- The inputs of a match.
 pub record InputsAre (l : Library) (m : Match) (load t : ℕ) (r : Inputs) : Type 0 where
   pub pattern-is : r .pattern ≡ m .number
+  pub crossing-is : r .crossing ≡ m .crossing
   pub count-is : r .count ≡ length (m .inputs)
-  pub few : length (m .inputs) ≤ 16
+  pub few : length (m .inputs) ≤ 6
   pub each : (k : ℕ) → k < length (m .inputs) → goalAt r k ≡ goalOf l m load t (getD (m .inputs) k noInput)
 
 -- ---- the choice
@@ -94,4 +97,5 @@ appended c xs = record {
   count = c .count + length xs;
   nodes = sets (c .nodes) (c .count) (map (λ (x : Placed). x .node) xs);
   patterns = sets (c .patterns) (c .count) (map (λ (x : Placed). x .pattern) xs);
+  crossings = sets (c .crossings) (c .count) (map (λ (x : Placed). x .crossing) xs);
 }

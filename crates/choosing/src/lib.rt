@@ -3,19 +3,21 @@ use curves::Words;
 use matching::Row;
 use results::CoverRecord;
 use sheets::Limits;
+use sheets::library::PatternRow;
 ghost use mathlib.Core.Path.{_≡_};
 ghost use mathlib.Core.List.{[], _∷_};
 ghost use mathlib.Core.Option.{some};
 ghost use Prim.Native.Nat.{suc, _+_, _-_, _*_, _<_, _≤_};
 ghost use lib.ListN.{length, getD};
 ghost use Rattle.sheets.specs.Model.{Shape, Library, Tree};
+ghost use Rattle.sheets.specs.Layout.{rowWords};
 ghost use Rattle.covers.specs.Match.{Match};
 ghost use Rattle.covers.specs.Cover.{Point, Cover};
 ghost use Rattle.covers.specs.Enumeration.{covers};
 ghost use Rattle.covers.specs.Choice.{least, firstReaching, choice};
 ghost use Rattle.curves.specs.Words.{pointLimit};
 ghost use Rattle.curves.specs.Best.{RowSafe, Matches};
-ghost use Rattle.matching.specs.Found.{matchWords};
+ghost use Rattle.matching.specs.Found.{matchBytes};
 ghost use Rattle.choosing.specs.Promises.{FirstRow, RowHolds, goalAt, InputsAre, Prepared, Driven, Chooses, appended};
 
 // What is asked of a node: the load that it drives, the bin of that load and the time by which it is to arrive. At the root, whose load need
@@ -27,19 +29,21 @@ pub struct Goal {
     pub time: u32,
 }
 
-// The pattern of a match and what is asked of its inputs, in drawn order.
+// The pattern of a match, its crossing and what is asked of its inputs, in the order of the tree.
 pub struct Inputs {
     pub pattern: u8,
+    pub crossing: u8,
     pub count: usize,
-    pub nodes: [u8; 16],
-    pub loads: [u8; 16],
-    pub bins: [u8; 16],
-    pub times: [u32; 16],
+    pub nodes: [u8; 6],
+    pub loads: [u8; 6],
+    pub bins: [u8; 6],
+    pub times: [u32; 6],
 }
 
-// The first match, in the order of pattern numbers, that reaches the area and the arrival of `w`.
+// The first match, in the order of pattern numbers and then of crossing numbers, that reaches the area and the arrival of `w`.
 fn first_reaching(
-    found: &[u32],
+    rows: &[u32],
+    found: &[u8],
     count: usize,
     symbols: &[u32],
     work: &[u64],
@@ -47,13 +51,14 @@ fn first_reaching(
     load: u32,
     w: u64,
 ) -> usize
-    requires { ⌜ Matches most (now found) count (now symbols) (now work) ⌝ }
+    requires { ⌜ Matches most (now rows) (now found) count (now symbols) (now work) ⌝ }
     requires { ⌜ (load ≤ 255) × (w < pointLimit) ⌝ }
-    ensures { λ r. ⌜ FirstRow most (now (symbols .entry)) (now (work .entry)) (now (found .entry)) load w count r ⌝ }
+    ensures { λ r. ⌜ FirstRow most (now (symbols .entry)) (now (work .entry)) (now (rows .entry)) (now (found .entry)) load w count r ⌝ }
 {
     let mut j: usize = 0;
     while j < count {
         let reached = curves::match_best(
+            rows,
             found,
             j,
             symbols,
@@ -82,27 +87,34 @@ fn time_left(time: u32, intrinsic: u32, drive: u32, load: u32) -> u32
     time - delay
 }
 
-// The inputs of the match in a row, which drives a load and is to arrive by `time`.
-fn read_inputs(row: &[u32], load: u32, time: u32) -> Inputs
-    requires { ⌜ RowSafe (now row) × (length (now row) ≡ matchWords) × (getD (now row) 0 0 < 128) × (load ≤ 255) ⌝ }
-    ensures { λ r. ⌜ ((l : Library) (m : Match) → RowHolds l (now (row .entry)) m → InputsAre l m load time r) ⌝ }
+// The inputs of the match in a row, which drives a load and is to arrive by `time`, with its pattern's row.
+fn read_inputs<'a>(pattern: &'a [u32], row: &'a [u8], load: u32, time: u32) -> Inputs
+    requires { ⌜ RowSafe (now pattern) (now row) × (length (now pattern) ≡ rowWords) × (length (now row) ≡ matchBytes) × (load ≤ 255) ⌝ }
+    ensures { λ r. ⌜ ((l : Library) (m : Match) → RowHolds l (now (pattern .entry)) (now (row .entry)) m → InputsAre l m load time r) ⌝ }
 {
-    let mut nodes = [0u8; 16];
-    let mut loads = [0u8; 16];
-    let mut bins = [0u8; 16];
-    let mut times = [0u32; 16];
+    let mut nodes = [0u8; 6];
+    let mut loads = [0u8; 6];
+    let mut bins = [0u8; 6];
+    let mut times = [0u32; 6];
     let count = row[Row::COUNT] as usize;
     let mut k: usize = 0;
     while k < count {
         let at = Row::INPUTS + Row::INPUT * k;
-        nodes[k] = row[at] as u8;
-        loads[k] = row[at + Row::LOAD] as u8;
-        bins[k] = row[at + Row::BIN] as u8;
-        times[k] = time_left(time, row[at + Row::INTRINSIC], row[at + Row::DRIVE], load);
+        let figures = PatternRow::FIGURES + PatternRow::PIN * row[at] as usize;
+        nodes[k] = row[at + Row::NODE];
+        loads[k] = pattern[figures + PatternRow::LOAD] as u8;
+        bins[k] = pattern[figures] as u8;
+        times[k] = time_left(
+            time,
+            pattern[figures + PatternRow::INTRINSIC],
+            pattern[figures + PatternRow::DRIVE],
+            load,
+        );
         k += 1;
     }
     Inputs {
-        pattern: row[Row::PATTERN] as u8,
+        pattern: row[Row::PATTERN],
+        crossing: row[Row::CROSSING],
         count,
         nodes,
         loads,
@@ -111,12 +123,12 @@ fn read_inputs(row: &[u32], load: u32, time: u32) -> Inputs
     }
 }
 
-// The match chosen at a gate: of the first pattern that reaches the least area in time and the least arrival with it.
+// The match chosen at a gate: the first that reaches the least area in time and the least arrival with it.
 fn choose_match<'a>(
     rows: &'a [u32],
     symbols: &'a [u32],
     sizes: &'a [u8],
-    found: &mut [u32],
+    found: &mut [u8],
     work: &[u64],
     most: usize,
     goal: Goal,
@@ -133,9 +145,11 @@ fn choose_match<'a>(
         (goal.time + 1) as u64,
     );
     let count = matching::find_matches(rows, symbols, sizes, goal.node, found);
-    let first = Row::WORDS * first_reaching(found, count, symbols, work, most, load, w);
+    let first = Row::BYTES * first_reaching(rows, found, count, symbols, work, most, load, w);
+    let at = PatternRow::WORDS * found[first + Row::PATTERN] as usize;
     read_inputs(
-        &found[first..first + Row::WORDS],
+        &rows[at..at + PatternRow::WORDS],
+        &found[first..first + Row::BYTES],
         load,
         (w % Limits::TIMES) as u32,
     )
@@ -143,7 +157,7 @@ fn choose_match<'a>(
 
 // What is asked of input k.
 fn input_goal(inputs: Inputs, k: usize) -> Goal
-    requires { ⌜ k < 16 ⌝ }
+    requires { ⌜ k < 6 ⌝ }
     ensures { λ r. ⌜ r ≡ goalAt inputs k ⌝ }
 {
     let nodes = inputs.nodes;
@@ -159,21 +173,24 @@ fn input_goal(inputs: Inputs, k: usize) -> Goal
 }
 
 // One match more in a cover's record.
-fn append(cover: CoverRecord, node: usize, pattern: u8) -> CoverRecord
+fn append(cover: CoverRecord, node: usize, pattern: u8, crossing: u8) -> CoverRecord
     requires { ⌜ (cover .count < 64) × (node < 64) ⌝ }
-    ensures { λ r. ⌜ r ≡ appended cover (record { node = node; pattern = pattern } ∷ []) ⌝ }
+    ensures { λ r. ⌜ r ≡ appended cover (record { node = node; pattern = pattern; crossing = crossing } ∷ []) ⌝ }
 {
     let at = cover.count;
     let mut nodes = cover.nodes;
     let mut patterns = cover.patterns;
+    let mut crossings = cover.crossings;
     nodes[at] = node as u8;
     patterns[at] = pattern;
+    crossings[at] = crossing;
     CoverRecord {
         area: cover.area,
         arrival: cover.arrival,
         count: at + 1,
         nodes,
         patterns,
+        crossings,
     }
 }
 
@@ -183,7 +200,7 @@ pub fn choose<'a>(
     rows: &'a [u32],
     symbols: &'a [u32],
     sizes: &'a [u8],
-    found: &mut [u32],
+    found: &mut [u8],
     work: &[u64],
     most: usize,
     goal: Goal,
@@ -199,7 +216,7 @@ pub fn choose<'a>(
     }
     let inputs = choose_match(rows, symbols, sizes, found, work, most, goal);
     let count = inputs.count;
-    let mut grown = append(cover, node, inputs.pattern);
+    let mut grown = append(cover, node, inputs.pattern, inputs.crossing);
     let mut k: usize = 0;
     while k < count {
         grown = choose(

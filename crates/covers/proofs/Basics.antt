@@ -44,6 +44,11 @@ module _ {A : Type 0} where
   at-below (b ∷ l) zero e = omega arith
   at-below (b ∷ l) (suc k) e = omega (arith, at-below l k e)
 
+  pub at-value : (l : List A) (k : ℕ) (d : A) {a : A} → getElem? l k ≡ some a → getD l k d ≡ a
+  at-value [] k d {a} e = absurd (Option·none-ne-some a e)
+  at-value (b ∷ l) zero d {a} e = Option·some-injective b a e
+  at-value (b ∷ l) (suc k) d e = at-value l k d e
+
   pub at-all : (P : A → Type 0) (l : List A) (k : ℕ) (d : A) → P d → ((a : A) → List·Memᴰ a l → P a) → P (getD l k d)
   at-all P [] k d p h = p
   at-all P (b ∷ l) zero d p h = h b (List·Memᴰ·head refl)

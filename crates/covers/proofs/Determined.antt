@@ -13,12 +13,12 @@ use Rattle.covers.proofs.Matching.{Spread, next, match-inside}
 use Rattle.covers.proofs.Listing.{cover-ascends, inputs-ascend}
 
 module _ {l : Library} where
-  -- A match at a node is known from its pattern's number.
-  match-determined : {load n : ℕ} {s : Shape} {m m′ : Match} → IsMatch l load n s m → IsMatch l load n s m′ → m .number ≡ m′ .number → m ≡ m′
-  match-determined {m} {m′} f f′ e =
+  -- A match at a node is known from its pattern's number and its crossing.
+  match-determined : {load n : ℕ} {s : Shape} {m m′ : Match} → IsMatch l load n s m → IsMatch l load n s m′ → m .number ≡ m′ .number → m .crossing ≡ m′ .crossing → m ≡ m′
+  match-determined {m} {m′} f f′ e x =
       let p : m .pattern ≡ m′ .pattern = Option·some-injective (m .pattern) (m′ .pattern) (rw (← f .numbered, e) (f′ .numbered)) in
-      let q : m .inputs ≡ m′ .inputs = Option·some-injective (m .inputs) (m′ .inputs) (rw (← f .fits, p) (f′ .fits)) in
-      λ i. record { number = e i; pattern = p i; inputs = q i }
+      let q : m .inputs ≡ m′ .inputs = Option·some-injective (m .inputs) (m′ .inputs) (rw (← f .fits, x, p) (f′ .fits)) in
+      λ i. record { number = e i; crossing = x i; pattern = p i; inputs = q i }
 
   mutual
     unfolding leafCover nothing together delayed topped gates
@@ -29,7 +29,7 @@ module _ {l : Library} where
     placed-determines (matching m f g e) (bare k) p = absurd (omega (arith, match-inside f .fewer))
     placed-determines (matching {load} {n} m f g e) (matching {d = d′} m′ f′ g′ e′) p =
         let q = sym (ap (λ c. c .placed) e) ∙ p ∙ ap (λ c. c .placed) e′ in
-        let k = match-determined f f′ (ap (λ x. x .pattern) (head-eq-of-cons-eq q)) in
+        let k = match-determined f f′ (ap (λ x. x .pattern) (head-eq-of-cons-eq q)) (ap (λ x. x .crossing) (head-eq-of-cons-eq q)) in
         let r = inputs-determined g (subst (λ m. AreCovers l (m .pattern .cell) load (m .inputs) d′) (sym k) g′) (match-inside f .spread) (tail-eq-of-cons-eq q) in
         e ∙ ap₂ (topped n) k r ∙ sym e′
 

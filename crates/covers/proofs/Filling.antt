@@ -17,7 +17,7 @@ use Rattle.covers.proofs.Basics.{lt-or-le, at-all}
 use Rattle.covers.specs.Curve.{both, curve, Filled, gates, lookup}
 use Rattle.covers.proofs.Points.{lesser-none}
 use Rattle.covers.proofs.Least.{In, IsLeast}
-use Rattle.covers.proofs.Deadline.{bestInputs, bestMatch, bestOf, leastInput, deadline}
+use Rattle.covers.proofs.Deadline.{bestInputs, bestMatch, bestOf, leastInput, deadline-match, deadline}
 use Rattle.covers.proofs.Matching.{matches-are, match-inside, spread-in}
 use Rattle.covers.proofs.Unroll.{covers-unroll, gate-covers}
 use Rattle.covers.proofs.Handed.{pattern-reaches}
@@ -83,6 +83,11 @@ module _ (l : Library) where
     pub best-from-table : (load end : ℕ) → 0 < gates s → bestOf (fromTable l table) load end (matches l load n s) ≡ least end (covers l load n s)
     unfolding gateCovers
     best-from-table load end g = best-same (fromTable l table) (leastInput (allBelow l)) load end (matches l load n s) (λ m k i j e. input-best (matches-are l load n s k) i j e) ∙ sym (deadline (allBelow l) load n end (matches l load n s)) ∙ ap (least end) (sym (gate-covers l load n s g))
+
+    -- The same of one match.
+    pub match-from-table : (load end : ℕ) {m : Match} → List·Memᴰ m (matches l load n s) → bestMatch (fromTable l table) load end m ≡ least end (matchCovers (allBelow l) load n m)
+    unfolding bestMatch
+    match-from-table load end {m} k = ap (Option·map (raised (m .pattern .cell .area))) (inputs-same (fromTable l table) (leastInput (allBelow l)) (m .pattern .cell) load end (m .inputs) (input-best (matches-are l load n s k))) ∙ sym (deadline-match (allBelow l) load n end m)
 
     -- And what the loop over the patterns tests can be tested from the table.
     pub reaches-from-table : (load : ℕ) {end : ℕ} {p : Point} {m : Match} → IsLeast end (In (covers l load n s)) p → List·Memᴰ m (matches l load n s) → (reaches p (matchCovers (allBelow l) load n m) ≡ true) ↔ (bestMatch (fromTable l table) load (suc (p .arrival)) m ≡ some p)

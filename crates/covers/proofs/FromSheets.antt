@@ -37,7 +37,7 @@ cover-fits {t = t} h k legal = let b = root-bounds h k legal in record {
   area = omega (arith, b .0);
   arrival = omega (arith, b .1);
   count = omega (arith, few-matches legal, gates-lt-size (t .shape), k .size);
-  placed = λ x m. (omega (arith, ascending-range (cover-ascends legal) m .1, k .size), omega (arith, known-patterns legal x m, h .few-patterns));
+  placed = λ x m. (omega (arith, ascending-range (cover-ascends legal) m .1, k .size), omega (arith, known-patterns legal x m .0, h .few-patterns), known-patterns legal x m .1);
 }
 
 pub list-fits : {l : Library} {t : Tree} {ps : List Point} → SoundLibrary l → SoundTree t → length ps ≤ capacity → ((p : Point) → List·Memᴰ p ps → IsTradeoff (RootCover l t) p) → ListFits ps

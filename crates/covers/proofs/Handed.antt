@@ -1,5 +1,5 @@
 -- What the choice rule hands over.
-use Prim.Native.Nat.{ℕ, suc, _-_, _≤_, _<_}
+use Prim.Native.Nat.{ℕ, suc, _+_, _-_, _*_, _≤_, _<_}
 use mathlib.Core.Path.{_≡_, refl, sym, ap, ap₂, _∙_}
 use mathlib.Core.Logic.{_⊎_, inl, inr, _↔_}
 use mathlib.Core.Bool.{Bool, true, false, cond, false≢true}
@@ -15,13 +15,14 @@ use Rattle.covers.specs.Cover.{Point, Cover, IsCover, bare, matching, Ar
 use Rattle.covers.specs.Enumeration.{inputCovers, matchCovers, gateCovers, under, coversStep, covers, allBelow}
 use Rattle.covers.specs.Tradeoff.{same}
 use Rattle.covers.specs.Choice.{lesser, before, least, reaches, bothChosen, chosenInputs, withInputs, firstReaching, gateChoice, choiceStep, choice}
-use Rattle.covers.specs.Promise.{rootPattern, Handed}
+use Rattle.covers.specs.Crossing.{crossingLimit}
+use Rattle.covers.specs.Promise.{firstPlaced, rootPattern, rootCrossing, Handed}
 use Rattle.covers.proofs.Basics.{lt-or-le, before-next, by-then, any-true, true-any, FirstOf, nowhere, somewhere, first-of, in-flatMap, of-flatMap}
 use Rattle.covers.specs.Curve.{both, gates}
 use Rattle.covers.proofs.Points.{same-true, same-refl, Leq, smaller, earlier, leq-area, before-yes, before-no}
 use Rattle.covers.proofs.Least.{IsLeast, LeastOf, absent, found, In, least-is, least-some, least-none, is-least}
 use Rattle.covers.proofs.Deadline.{bestInputs, bestMatch, leastInput, deadline-match}
-use Rattle.covers.proofs.Matching.{matches-are, matches-ascend, match-inside, input-smaller}
+use Rattle.covers.proofs.Matching.{crossing-small, rank, matches-are, matches-ascend, match-inside, input-smaller}
 use Rattle.covers.proofs.Ascending.{first-lowest}
 use Rattle.covers.proofs.Unroll.{covers-unroll, gate-covers, choice-unroll, gate-choice, by-size}
 use Rattle.covers.proofs.Relation.{covers-all}
@@ -197,21 +198,30 @@ module _ (l : Library) where
       step (inv s) below load n = gate-legal load n (inv s) below (unfold gates in omega arith)
       step (nand s t) below load n = gate-legal load n (nand s t) below (unfold gates in omega arith)
 
+  -- The order of the match at a cover's root.
+  abbrev rootRank : Cover → ℕ
+  rootRank c = 32 * rootPattern c + rootCrossing c
+
+  root-crossing-small : {load n : ℕ} {s : Shape} {c : Cover} → IsCover l load n s c → rootCrossing c < crossingLimit
+  unfolding firstPlaced rootCrossing leafCover topped
+  root-crossing-small (bare e) = rw e (omega arith)
+  root-crossing-small (matching m f g e) = rw e (crossing-small (m .pattern .drawing) (m .crossing) (f .crossed))
+
   -- Of the matches that reach the point the first is taken.
-  gate-lowest : (load n : ℕ) (s : Shape) (time : ℕ) → 0 < gates s → {c : Cover} → choice l load n s time ≡ some c → (d : Cover) → IsCover l load n s d → d .point ≡ c .point → rootPattern c ≤ rootPattern d
-  unfolding gateChoice gateCovers matchCovers firstReaching withInputs topped rootPattern
+  gate-lowest : (load n : ℕ) (s : Shape) (time : ℕ) → 0 < gates s → {c : Cover} → choice l load n s time ≡ some c → (d : Cover) → IsCover l load n s d → d .point ≡ c .point → rootRank c ≤ rootRank d
+  unfolding gateChoice gateCovers matchCovers firstReaching withInputs topped firstPlaced rootPattern rootCrossing
   gate-lowest load n s time g {c} e d k h =
       let q : least (suc time) (covers l load n s) ≡ some (c .point) = sym (choice-point load n s time) ∙ ap costOf e in
       let r = of-flatMap (matchCovers (allBelow l) load n) (matches l load n s) (rw (gate-covers l load n s g) at (covers-all l k)) in
       let t = Memᴰ·of-map (topped n (r .0)) (inputCovers (allBelow l) (r .0 .pattern .cell) load (r .0 .inputs)) (r .2) in
       rw (← (t .2)) (go (firstReaching l load n s (c .point)) refl (sym (ap (gateChoice l (choice l) load n s) q) ∙ sym (gate-choice l load n s time g) ∙ e) (r .1) (true-reaches (c .point) (matchCovers (allBelow l) load n (r .0)) (r .2) h))
     where
-      go : (o : Option Match) → firstReaching l load n s (c .point) ≡ o → withInputs chosenBelow load n (c .point .arrival) o ≡ some c → {m : Match} → List·Memᴰ m (matches l load n s) → reaches (c .point) (matchCovers (allBelow l) load n m) ≡ true → rootPattern c ≤ m .number
+      go : (o : Option Match) → firstReaching l load n s (c .point) ≡ o → withInputs chosenBelow load n (c .point .arrival) o ≡ some c → {m : Match} → List·Memᴰ m (matches l load n s) → reaches (c .point) (matchCovers (allBelow l) load n m) ≡ true → rootRank c ≤ rank m
       go none f e k r = absurd (Option·none-ne-some _ e)
-      go (some x) f e k r = let t = map-eq-some-iff (topped n x) (chosenInputs chosenBelow (x .pattern .cell) load (c .point .arrival) (x .inputs)) .0 e in rw (← (ap rootPattern (t .2))) (first-lowest (λ m. reaches (c .point) (matchCovers (allBelow l) load n m)) (matches-ascend l load n s) f k r)
+      go (some x) f e k r = let t = map-eq-some-iff (topped n x) (chosenInputs chosenBelow (x .pattern .cell) load (c .point .arrival) (x .inputs)) .0 e in rw (← (ap rootRank (t .2))) (first-lowest (λ m. reaches (c .point) (matchCovers (allBelow l) load n m)) (matches-ascend l load n s) f k r)
 
-  choice-lowest : (load n : ℕ) (s : Shape) (time : ℕ) {c : Cover} → choice l load n s time ≡ some c → (d : Cover) → IsCover l load n s d → d .point ≡ c .point → rootPattern c ≤ rootPattern d
-  unfolding gates coversStep leafCover rootPattern
+  choice-lowest : (load n : ℕ) (s : Shape) (time : ℕ) {c : Cover} → choice l load n s time ≡ some c → (d : Cover) → IsCover l load n s d → d .point ≡ c .point → rootRank c ≤ rootRank d
+  unfolding gates coversStep leafCover firstPlaced rootPattern rootCrossing
   choice-lowest load n (leaf x) time {c} e d k h = let f : c ≡ leafCover x load = List·Memᴰ·eq-of-singleton (rw (covers-unroll l load n (leaf x)) at (covers-all l (choice-legal load n (leaf x) time e))) in rw f (omega arith)
   choice-lowest load n (inv s) time e d k h = gate-lowest load n (inv s) time (omega arith) e d k h
   choice-lowest load n (nand s t) time e d k h = gate-lowest load n (nand s t) time (omega arith) e d k h
@@ -221,8 +231,11 @@ module _ (l : Library) where
     pub choice-handed : {c : Cover} → choice l load n s time ≡ some c → Handed l load n s time c
     choice-handed {c} e =
         let h = least-some (least-is (suc time) (covers l load n s)) (sym (choice-point load n s time) ∙ ap costOf e) in
-        record { legal = choice-legal load n s time e; intime = by-then (h .intime); smallest = λ d k t. leq-area (h .first d (covers-all l k) (before-next t)); earliest = λ d k a. go a (lt-or-le (d .point .arrival) (suc time)) (h .first d (covers-all l k)) (h .intime); lowest = choice-lowest load n s time e }
+        record { legal = choice-legal load n s time e; intime = by-then (h .intime); smallest = λ d k t. leq-area (h .first d (covers-all l k) (before-next t)); earliest = λ d k a. go a (lt-or-le (d .point .arrival) (suc time)) (h .first d (covers-all l k)) (h .intime); lowest = λ d k q. by-rank (choice-lowest load n s time e d k q) (root-crossing-small (choice-legal load n s time e)) (root-crossing-small k) .0; least-crossed = λ d k q r. by-rank (choice-lowest load n s time e d k q) (root-crossing-small (choice-legal load n s time e)) (root-crossing-small k) .1 r }
       where
+        by-rank : {a x b y : ℕ} → 32 * a + x ≤ 32 * b + y → x < crossingLimit → y < crossingLimit → (a ≤ b) × (b ≡ a → x ≤ y)
+        by-rank h f g = (omega arith, λ e. omega arith)
+
         same-area : {p q : Point} → Leq p q → q .area ≡ p .area → p .arrival ≤ q .arrival
         same-area (smaller h) a = absurd (omega arith)
         same-area (earlier h t) a = t

@@ -77,6 +77,14 @@ pub least-none : {end : ℕ} {Among : Cover → Type 0} {o : Option Point} → L
 least-none (absent a) e = a
 least-none (found f) e = absurd (Option·some-ne-none _ e)
 
+-- Before a later instant it is no greater.
+pub least-rises : {end end′ : ℕ} → end ≤ end′ → (cs : List Cover) {p : Point} → least end cs ≡ some p → (q : Point) × (least end′ cs ≡ some q) × Leq q p
+least-rises {end} {end′} h cs {p} e = go (least-some (least-is end cs) e) (least-is end′ cs)
+  where
+    go : IsLeast end (In cs) p → {o : Option Point} → LeastOf end′ (In cs) o → (q : Point) × (o ≡ some q) × Leq q p
+    go f (absent a) = absurd (omega (arith, a (f .cover) (f .among), ap (λ x. x .arrival) (f .point), f .intime))
+    go f (found {p = q} g) = (q, refl, rw (f .point) at (g .first (f .cover) (f .among) (omega (arith, ap (λ x. x .arrival) (f .point), f .intime))))
+
 -- Nothing else is.
 pub is-least : {end : ℕ} (cs : List Cover) {p : Point} → IsLeast end (In cs) p → least end cs ≡ some p
 is-least {end} cs {p} f = go (least-is end cs)

@@ -7,13 +7,14 @@ use native.Mathlib.Nat.{le-refl, le-add-right, zero-add, add-assoc}
 use native.Mathlib.Omega.{arith}
 use lib.ListN.{getElem?, length, length-append}
 use Rattle.sheets.specs.Model.{Shape, size, Cell, Library, patterns}
+use Rattle.covers.specs.Crossing.{crossingLimit}
 use Rattle.covers.specs.Match.{Input}
 use Rattle.covers.specs.Cover.{Placed, Cover, IsCover, bare, matching, AreCovers, done, more, leafPoint, leafCover, nothing, beside, late, raised, together, delayed, topped}
 use Rattle.covers.specs.Promise.{cellArea, listedArea}
 use Rattle.covers.proofs.Basics.{each, at-below}
 use Rattle.covers.proofs.Ascending.{Ascending, end, then, lowered, ascending-append}
 use Rattle.covers.specs.Curve.{gates}
-use Rattle.covers.proofs.Matching.{Spread, last, next, match-inside}
+use Rattle.covers.proofs.Matching.{Spread, last, next, match-inside, crossing-small}
 
 module _ {l : Library} where
   mutual
@@ -22,7 +23,7 @@ module _ {l : Library} where
     -- Ascending by node, so no node twice.
     pub cover-ascends : {load n : ℕ} {s : Shape} {c : Cover} → IsCover l load n s c → Ascending (λ x. x .node) n (n + size s) (c .placed)
     cover-ascends (bare {n = n} e) = rw e (end (le-add-right n _))
-    cover-ascends (matching {n = n} m f g e) = rw e (then {x = record { node = n; pattern = m .number }} (le-refl n) (inputs-ascend g (match-inside f .spread)))
+    cover-ascends (matching {n = n} m f g e) = rw e (then {x = record { node = n; pattern = m .number; crossing = m .crossing }} (le-refl n) (inputs-ascend g (match-inside f .spread)))
 
     pub inputs-ascend : {cell : Cell} {load : ℕ} {is : List Input} {c : Cover} → AreCovers l cell load is c → {low high g : ℕ} → Spread low high g is → Ascending (λ x. x .node) low high (c .placed)
     inputs-ascend (done e) (last h) = rw e (end h)
@@ -41,16 +42,20 @@ module _ {l : Library} where
     inputs-few (done e) s = rw e (omega arith)
     inputs-few (more {d = d} {e = c} f r e) (next u v w) = rw (e, length-append (d .placed) (c .placed)) (omega (arith, few-matches f, inputs-few r w))
 
+-- A pattern of the library, and a crossing in five bits.
+abbrev pub Known : Library → Placed → Type 0
+Known l x = (x .pattern < length (patterns l)) × (x .crossing < crossingLimit)
+
 module _ {l : Library} where
   mutual
     unfolding leafCover nothing together delayed topped
 
-    -- Every listed pattern is one of the library's.
-    pub known-patterns : {load n : ℕ} {s : Shape} {c : Cover} → IsCover l load n s c → (x : Placed) → List·Memᴰ x (c .placed) → x .pattern < length (patterns l)
+    -- Every listed match is one of those.
+    pub known-patterns : {load n : ℕ} {s : Shape} {c : Cover} → IsCover l load n s c → (x : Placed) → List·Memᴰ x (c .placed) → Known l x
     known-patterns (bare e) = rw e (λ x m. absurd (List·Memᴰ·not-nil m))
-    known-patterns (matching m f g e) = rw e (each {P = λ x. x .pattern < length (patterns l)} (at-below (patterns l) (m .number) (f .numbered)) (inputs-known g))
+    known-patterns (matching m f g e) = rw e (each {P = Known l} (at-below (patterns l) (m .number) (f .numbered), crossing-small (m .pattern .drawing) (m .crossing) (f .crossed)) (inputs-known g))
 
-    inputs-known : {cell : Cell} {load : ℕ} {is : List Input} {c : Cover} → AreCovers l cell load is c → (x : Placed) → List·Memᴰ x (c .placed) → x .pattern < length (patterns l)
+    inputs-known : {cell : Cell} {load : ℕ} {is : List Input} {c : Cover} → AreCovers l cell load is c → (x : Placed) → List·Memᴰ x (c .placed) → Known l x
     inputs-known (done e) = rw e (λ x m. absurd (List·Memᴰ·not-nil m))
     inputs-known (more {d = d} {e = c} f r e) = rw e (λ x m. ⊎-elim (known-patterns f x) (inputs-known r x) (List·Memᴰ·append-cases (d .placed) m))
 

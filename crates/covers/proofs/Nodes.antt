@@ -1,5 +1,5 @@
 -- The nodes of a tree: inputs of a match are nodes below it, and nodes and leaves of a subtree are the tree's.
-use Prim.Native.Nat.{ℕ, suc, _+_, _≤_}
+use Prim.Native.Nat.{ℕ, suc, _+_, _≤_, _<_}
 use mathlib.Core.Path.{_≡_, refl}
 use mathlib.Core.Logic.{⊎-elim}
 use mathlib.Core.List.{List, _++_, List·Memᴰ, List·Memᴰ·head, List·Memᴰ·tail, List·Memᴰ·append-cases, List·Memᴰ·eq-of-singleton, List·Memᴰ·not-nil, Memᴰ·append-left, Memᴰ·append-right}
@@ -7,8 +7,10 @@ use mathlib.Core.Option.{Option, some, Option·none-ne-some}
 use native.Mathlib.Nat.{le-refl}
 use native.Mathlib.Omega.{arith}
 use Rattle.sheets.specs.Model.{Shape, leaf, inv, nand, size, leaves, Library}
+use Rattle.covers.specs.Crossing.{redrawn}
 use Rattle.covers.specs.Match.{Input, joined, laid, matched, Match, IsMatch}
 use Rattle.covers.specs.Tradeoff.{Node, nodes}
+use Rattle.covers.proofs.Basics.{lt-or-le}
 use Rattle.covers.proofs.Matching.{Whenever, never, holds, whenever, implied}
 
 abbrev pub nodeOf : Input → Node
@@ -48,7 +50,7 @@ fits-in (inv p) n s is e = whenever (laid-in (inv p) n s) e
 fits-in (nand p q) n s is e = whenever (laid-in (nand p q) n s) e
 
 pub input-in : {l : Library} {load n : ℕ} {s : Shape} {m : Match} → IsMatch l load n s m → (i : Input) → List·Memᴰ i (m .inputs) → List·Memᴰ (nodeOf i) (nodes n s)
-input-in {n} {s} {m} h = fits-in (m .pattern .drawing) n s (m .inputs) (h .fits)
+input-in {n} {s} {m} h = fits-in (redrawn (m .crossing) (m .pattern .drawing)) n s (m .inputs) (h .fits)
 
 -- A node of a node's subtree is a node of the tree.
 pub nodes-within : {x : Node} (n : ℕ) (s : Shape) → List·Memᴰ x (nodes n s) → {y : Node} → List·Memᴰ y (nodes (x .number) (x .shape)) → List·Memᴰ y (nodes n s)
@@ -79,3 +81,13 @@ node-ends n (inv s) (List·Memᴰ·head e) = rw e (le-refl (n + suc (size s)))
 node-ends n (inv s) (List·Memᴰ·tail m) = omega (arith, node-ends (suc n) s m)
 node-ends n (nand s t) (List·Memᴰ·head e) = rw e (le-refl (n + suc (size s + size t)))
 node-ends {x} n (nand s t) (List·Memᴰ·tail m) = ⊎-elim (λ j. let h = node-ends (suc n) s j in omega (arith, h)) (λ j. let h = node-ends (suc n + size s) t j in omega (arith, h)) (List·Memᴰ·append-cases (nodes (suc n) s) m)
+
+-- Every number of a subtree is that of a node of it.
+pub node-at : (n : ℕ) (s : Shape) (k : ℕ) → n ≤ k → k < n + size s → (x : Shape) × List·Memᴰ (record { number = k; shape = x }) (nodes n s)
+unfolding nodes size
+node-at n (leaf z) k h g = let e : k ≡ n = omega arith in (leaf z, rw e (List·Memᴰ·head refl))
+node-at n (inv s) k h g = ⊎-elim (λ l. let r = node-at (suc n) s k l (omega arith) in (r .0, List·Memᴰ·tail (r .1))) (λ l. let e : k ≡ n = omega arith in (inv s, rw e (List·Memᴰ·head refl))) (lt-or-le n k)
+node-at n (nand s t) k h g =
+    ⊎-elim (λ l. ⊎-elim (λ m. let r = node-at (suc n) s k l m in (r .0, List·Memᴰ·tail (Memᴰ·append-left (nodes (suc n + size s) t) (r .1))))
+    (λ m. let r = node-at (suc n + size s) t k m (omega arith) in (r .0, List·Memᴰ·tail (Memᴰ·append-right (nodes (suc n) s) (r .1)))) (lt-or-le k (suc n + size s)))
+    (λ l. let e : k ≡ n = omega arith in (nand s t, rw e (List·Memᴰ·head refl))) (lt-or-le n k)

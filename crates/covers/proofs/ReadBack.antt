@@ -9,10 +9,13 @@ use Rattle.fields.specs.Written.{Field, packed}
 use Rattle.fields.specs.declared.Scan.{Scan}
 use Rattle.fields.proofs.Laws.{free-small, length-times, times-each}
 use Rattle.fields.proofs.Written.{Says, says-field, says-done, says-then, says-times, says-end, says-all}
-use Rattle.covers.specs.CoverSheet.{areaWidth, arrivalWidth, matchCountWidth, nodeWidth, patternWidth, pointCountWidth, placedFields, coverFields, pointFields, listFields, coverSheet, listSheet, placedRead, coverRead, pointRead, listRead, CoverReads, ListReads}
+use Rattle.covers.specs.CoverSheet.{areaWidth, arrivalWidth, matchCountWidth, nodeWidth, patternWidth, crossingWidth, pointCountWidth, placedFields, coverFields, pointFields, listFields, coverSheet, listSheet, placedRead, coverRead, pointRead, listRead, CoverReads, ListReads}
 
 abbrev fieldOf : ℕ → ℕ → Field
 fieldOf v w = record { value = v; width = w }
+
+abbrev placedEntry : Placed → List Field
+placedEntry x = fieldOf (x .node) nodeWidth ∷ fieldOf (x .pattern) patternWidth ∷ fieldOf (x .crossing) crossingWidth ∷ []
 
 -- An entry of two fields.
 pair-says : {A : Type 0} (all rest : List Field) (make : ℕ → ℕ → A) (w u : ℕ) {v x : ℕ} → v < 2 ^ w → x < 2 ^ u →
@@ -22,18 +25,21 @@ pair-says all rest make w u {v} {x} h g =
 
 -- ---- the cover sheet
 
+-- An entry of three.
+placed-says : (all rest : List Field) {n p x : ℕ} → n < 2 ^ nodeWidth → p < 2 ^ patternWidth → x < 2 ^ crossingWidth →
+    Says all (placedRead (packed all) []) (placedEntry (record { node = n; pattern = p; crossing = x })) rest (record { node = n; pattern = p; crossing = x })
+unfolding placedRead
+placed-says all rest {n} {p} {x} h g k =
+    says-then (λ a. field (packed all) patternWidth free >>= (λ b. field (packed all) crossingWidth free >>= (λ c. done (record { node = a; pattern = b; crossing = c })))) (says-field nodeWidth h)
+    (says-then (λ b. field (packed all) crossingWidth free >>= (λ c. done (record { node = n; pattern = b; crossing = c }))) (says-field patternWidth g)
+    (says-then (λ c. done (record { node = n; pattern = p; crossing = c })) (says-field crossingWidth k) (says-done (record { node = n; pattern = p; crossing = x }))))
+
 -- A cover that its sheet has room for.
 pub record CoverFits (c : Cover) : Type 0 where
   pub area : c .point .area < 2 ^ areaWidth
   pub arrival : c .point .arrival < 2 ^ arrivalWidth
   pub count : length (c .placed) < 2 ^ matchCountWidth
-  pub placed : (x : Placed) → List·Memᴰ x (c .placed) → (x .node < 2 ^ nodeWidth) × (x .pattern < 2 ^ patternWidth)
-
-abbrev makePlaced : ℕ → ℕ → Placed
-makePlaced n p = record { node = n; pattern = p }
-
-abbrev placedEntry : Placed → List Field
-placedEntry x = fieldOf (x .node) nodeWidth ∷ fieldOf (x .pattern) patternWidth ∷ []
+  pub placed : (x : Placed) → List·Memᴰ x (c .placed) → (x .node < 2 ^ nodeWidth) × (x .pattern < 2 ^ patternWidth) × (x .crossing < 2 ^ crossingWidth)
 
 pub cover-reads : {c : Cover} → CoverFits c → CoverReads c (coverSheet c)
 unfolding coverSheet coverRead placedRead coverFields placedFields
@@ -50,7 +56,7 @@ cover-reads {c} h =
           (says-then timed (says-field areaWidth (h .area))
           (says-then (counted (c .point .area)) (says-field arrivalWidth (h .arrival))
           (says-then (matches (c .point .area) (c .point .arrival)) (says-field matchCountWidth (h .count))
-          (says-then (last (c .point .area) (c .point .arrival)) (says-times all placedEntry placedFields refl (λ x xs. refl) (placedRead s) (c .placed) (λ x m ys gs. pair-says all gs makePlaced nodeWidth patternWidth (h .placed x m .0) (h .placed x m .1)))
+          (says-then (last (c .point .area) (c .point .arrival)) (says-times all placedEntry placedFields refl (λ x xs. refl) (placedRead s) (c .placed) (λ x m ys gs. placed-says all gs (h .placed x m .0) (h .placed x m .1) (h .placed x m .2)))
           (says-end c)))));
     }
 
@@ -65,8 +71,8 @@ cover-read-fits s c =
       area = free-small s areaWidth c;
       arrival = free-small s arrivalWidth (a .1);
       count = rw (length-times (n .0) (placedRead s) (n .1)) (free-small s matchCountWidth (t .1));
-      placed = times-each (λ x. (x .node < 2 ^ nodeWidth) × (x .pattern < 2 ^ patternWidth)) (placedRead s)
-          (λ xs q. (free-small s nodeWidth q, free-small s patternWidth (field s nodeWidth free q .1))) (n .0) (n .1);
+      placed = times-each (λ x. (x .node < 2 ^ nodeWidth) × (x .pattern < 2 ^ patternWidth) × (x .crossing < 2 ^ crossingWidth)) (placedRead s)
+          (λ xs q. let node = field s nodeWidth free q in (free-small s nodeWidth q, free-small s patternWidth (node .1), free-small s crossingWidth (field s patternWidth free (node .1) .1))) (n .0) (n .1);
     }
 
 -- ---- the list sheet

@@ -1,4 +1,4 @@
--- How many bytes a sheet takes: at most 109 for a cover of 63 matches, and at most 179 for 31 trade-offs.
+-- How many bytes a sheet takes: at most 149 for a cover of 63 matches, and at most 179 for 31 trade-offs.
 use Prim.Native.Nat.{_+_, _*_, _/_, _≤_}
 use mathlib.Core.Path.{_≡_, refl, ap, _∙_}
 use mathlib.Core.List.{List, [], _∷_}
@@ -9,7 +9,7 @@ use Rattle.fields.specs.Written.{widths}
 use Rattle.fields.proofs.Written.{length-packed}
 use Rattle.covers.specs.CoverSheet.{placedFields, coverFields, pointFields, listFields, coverSheet, listSheet}
 
-pub placed-widths : (xs : List Placed) → widths (placedFields xs) ≡ 13 * length xs
+pub placed-widths : (xs : List Placed) → widths (placedFields xs) ≡ 18 * length xs
 unfolding placedFields widths
 placed-widths [] = refl
 placed-widths (x ∷ xs) = omega (arith, placed-widths xs)
@@ -19,7 +19,7 @@ unfolding pointFields widths
 point-widths [] = refl
 point-widths (p ∷ ps) = omega (arith, point-widths ps)
 
-pub cover-sheet-length : (c : Cover) → length (coverSheet c) ≡ (52 + 13 * length (c .placed) + 7) / 8
+pub cover-sheet-length : (c : Cover) → length (coverSheet c) ≡ (52 + 18 * length (c .placed) + 7) / 8
 unfolding coverSheet coverFields widths
 cover-sheet-length c = length-packed (coverFields c) ∙ ap (λ w. (w + 7) / 8) (omega (arith, placed-widths (c .placed)))
 
@@ -27,7 +27,7 @@ pub list-sheet-length : (ps : List Point) → length (listSheet ps) ≡ (5 + 46 
 unfolding listSheet listFields widths
 list-sheet-length ps = length-packed (listFields ps) ∙ ap (λ w. (w + 7) / 8) (omega (arith, point-widths ps))
 
-pub cover-sheet-fits : (c : Cover) → length (c .placed) ≤ 63 → length (coverSheet c) ≤ 109
+pub cover-sheet-fits : (c : Cover) → length (c .placed) ≤ 63 → length (coverSheet c) ≤ 149
 cover-sheet-fits c h = rw (cover-sheet-length c) (omega arith)
 
 pub list-sheet-fits : (ps : List Point) → length ps ≤ 31 → length (listSheet ps) ≤ 179

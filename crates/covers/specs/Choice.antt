@@ -61,7 +61,7 @@ unfolding chosenInputs topped
 withInputs of load n t none = none
 withInputs of load n t (some m) = Option·map (topped n m) (chosenInputs of (m .pattern .cell) load t (m .inputs))
 
--- The match of the lowest-numbered pattern some cover of which reaches the point.
+-- The match of the lowest-numbered pattern some cover of which reaches the point, under its lowest crossing number that does.
 unfoldable pub firstReaching : Library → ℕ → ℕ → Shape → Point → Option Match
 unfolding firstSuch reaches matchCovers under covers matches
 firstReaching l load n s p = firstSuch (λ m. reaches p (matchCovers (allBelow l) load n m)) (matches l load n s)
@@ -80,7 +80,7 @@ choiceStep l below load n (inv s) time = gateChoice l below load n (inv s) (leas
 choiceStep l below load n (nand s t) time = gateChoice l below load n (nand s t) (least (suc time) (covers l load n (nand s t)))
 
 -- The cover handed over for a node under a load and a required time: of the least area with arrival at most that time, then of the least arrival t with that area,
--- by the lowest-numbered pattern that reaches both, with each input chosen by the same rule.
+-- by the lowest-numbered pattern that reaches both under the lowest crossing number that does, with each input chosen by the same rule.
 unfoldable pub choice : Library → ℕ → ℕ → Shape → ℕ → Option Cover
 unfolding choiceStep throughout
 choice l = throughout (λ time. none) (choiceStep l)

@@ -10,10 +10,11 @@ pub record Point : Type 0 where
   pub area : ℕ
   pub arrival : ℕ
 
--- One listed match: its node and its pattern's number.
+-- One listed match: its node, its pattern's number and its crossing number.
 pub record Placed : Type 0 where
   pub node : ℕ
   pub pattern : ℕ
+  pub crossing : ℕ
 
 -- A cover: its point, and its matches in ascending order of nodes.
 pub record Cover : Type 0 where
@@ -63,7 +64,7 @@ delayed d c = record { point = late d (c .point); placed = c .placed }
 -- A match at node n on top of the covers of its inputs.
 unfoldable pub topped : ℕ → Match → Cover → Cover
 unfolding raised
-topped n m c = record { point = raised (m .pattern .cell .area) (c .point); placed = record { node = n; pattern = m .number } ∷ c .placed }
+topped n m c = record { point = raised (m .pattern .cell .area) (c .point); placed = record { node = n; pattern = m .number; crossing = m .crossing } ∷ c .placed }
 
 -- The pin that an input feeds.
 unfoldable pub feeds : Cell → Input → Pin

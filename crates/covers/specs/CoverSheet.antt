@@ -25,15 +25,22 @@ nodeWidth = 6
 abbrev pub patternWidth : ℕ
 patternWidth = 7
 
+abbrev pub crossingWidth : ℕ
+crossingWidth = 5
+
 abbrev pub pointCountWidth : ℕ
 pointCountWidth = 5
 
 -- ---- written
 
--- "For each match, ascending by node, node and pattern."
+-- "For each match, ascending by node, node and pattern", with "five crossing bits after its pattern number".
 unfoldable pub placedFields : List Placed → List Field
 placedFields [] = []
-placedFields (x ∷ xs) = record { value = x .node; width = nodeWidth } ∷ record { value = x .pattern; width = patternWidth } ∷ placedFields xs
+placedFields (x ∷ xs) =
+    record { value = x .node; width = nodeWidth }
+    ∷ record { value = x .pattern; width = patternWidth }
+    ∷ record { value = x .crossing; width = crossingWidth }
+    ∷ placedFields xs
 
 -- "Cover sheet: area; arrival; match count; then" the matches.
 unfoldable pub coverFields : Cover → List Field
@@ -71,7 +78,8 @@ module _ (s : List ℕ) where
   placedRead before = do
     node ← field s nodeWidth free
     pattern ← field s patternWidth free
-    done (record { node = node; pattern = pattern })
+    crossing ← field s crossingWidth free
+    done (record { node = node; pattern = pattern; crossing = crossing })
 
   unfoldable pub coverRead : Reader Cover
   unfolding placedRead

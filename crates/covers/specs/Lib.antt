@@ -1,6 +1,7 @@
 -- What a legal cover is and which one is handed over, in reading order.
 pub mod Lists
 pub mod Capacity
+pub mod Crossing
 pub mod Match
 pub mod Cover
 pub mod Enumeration
@@ -12,4 +13,5 @@ pub mod Outcome
 pub mod Promise
 pub mod Demands
 pub mod Specimens
+pub mod Exchanges
 pub mod Curve

@@ -8,6 +8,7 @@ use lib.ListN.{getD, getElem?}
 use lib.Dec.{leb}
 use Rattle.sheets.specs.Model.{Shape, leaf, inv, nand, size, Pin, binLoadOf, Cell, Library, Pattern, patterns, patternsFrom, drawn}
 use Rattle.covers.specs.Lists.{select}
+use Rattle.covers.specs.Crossing.{redrawn, isCrossing, crossings}
 
 -- One input of a match: the number of the pin that it feeds, its node's number, and the subtree that stands there.
 pub record Input : Type 0 where
@@ -48,35 +49,43 @@ unfoldable pub legal : Cell → ℕ → Bool
 unfolding usable
 legal c load = usable c && leb load (c .highest)
 
--- A match of a pattern, with the pattern's number.
+-- A match of a pattern: the pattern's number, and the crossing under which it matches.
 pub record Match : Type 0 where
   pub number : ℕ
+  pub crossing : ℕ
   pub pattern : Pattern
   pub inputs : List Input
 
 -- A legal match at node n, over the subtree s, under a load.
 pub record IsMatch (l : Library) (load n : ℕ) (s : Shape) (m : Match) : Type 0 where
   pub numbered : getElem? (patterns l) (m .number) ≡ some (m .pattern)
+  pub crossed : isCrossing (m .pattern .drawing) (m .crossing) ≡ true
   pub allowed : legal (m .pattern .cell) load ≡ true
-  pub fits : matched (m .pattern .drawing) n s ≡ some (m .inputs)
+  pub fits : matched (redrawn (m .crossing) (m .pattern .drawing)) n s ≡ some (m .inputs)
 
--- The match of a pattern number k, put before others if there is one.
-unfoldable pub putFirst : ℕ → Pattern → Option (List Input) → List Match → List Match
-putFirst k p none ms = ms
-putFirst k p (some is) ms = record { number = k; pattern = p; inputs = is } ∷ ms
+-- The match of pattern number k under a crossing, put before others if there is one.
+unfoldable pub putFirst : ℕ → Pattern → ℕ → Option (List Input) → List Match → List Match
+putFirst k p x none ms = ms
+putFirst k p x (some is) ms = record { number = k; crossing = x; pattern = p; inputs = is } ∷ ms
+
+-- The matches at a node of pattern number k under these crossings.
+unfoldable pub fittingUnder : ℕ → Shape → ℕ → Pattern → List ℕ → List Match
+unfolding putFirst matched redrawn
+fittingUnder n s k p [] = []
+fittingUnder n s k p (x ∷ xs) = putFirst k p x (matched (redrawn x (p .drawing)) n s) (fittingUnder n s k p xs)
 
 -- The matches at a node of patterns numbered from k on.
 unfoldable pub fittingFrom : ℕ → Shape → ℕ → List Pattern → List Match
-unfolding putFirst matched
+unfolding fittingUnder crossings
 fittingFrom n s k [] = []
-fittingFrom n s k (p ∷ ps) = putFirst k p (matched (p .drawing) n s) (fittingFrom n s (suc k) ps)
+fittingFrom n s k (p ∷ ps) = fittingUnder n s k p (crossings (p .drawing)) ++ fittingFrom n s (suc k) ps
 
--- Every match at a node, legal or not, in the order of pattern numbers.
+-- Every match at a node, legal or not, in the order of pattern numbers, and of crossing numbers for one pattern.
 unfoldable pub fitting : Library → ℕ → Shape → List Match
 unfolding patterns patternsFrom drawn fittingFrom
 fitting l n s = fittingFrom n s 0 (patterns l)
 
--- Every legal match at a node under a load, in the order of pattern numbers.
+-- Every legal match at a node under a load, in the same order.
 unfoldable pub matches : Library → ℕ → ℕ → Shape → List Match
 unfolding select legal fitting
 matches l load n s = select (λ m. legal (m .pattern .cell) load) (fitting l n s)

@@ -9,22 +9,29 @@ use Rattle.sheets.specs.Model.{Shape, Library, Tree, Pattern, patterns}
 use Rattle.covers.specs.Cover.{Point, Placed, Cover, IsCover}
 use Rattle.covers.specs.Tradeoff.{IsTradeoff, Climbing, Node, nodes, TooMany}
 
--- The number of the pattern at a cover's root; 0 for a cover with no match.
+-- The match at a cover's root; for a cover with no match, zeros.
+unfoldable pub firstPlaced : List Placed → Placed
+firstPlaced [] = record { node = 0; pattern = 0; crossing = 0 }
+firstPlaced (x ∷ xs) = x
+
+-- The number of the pattern at a cover's root, and its crossing number.
 unfoldable pub rootPattern : Cover → ℕ
-rootPattern c = first (c .placed)
-  where
-    first : List Placed → ℕ
-    first [] = 0
-    first (x ∷ xs) = x .pattern
+unfolding firstPlaced
+rootPattern c = firstPlaced (c .placed) .pattern
+
+unfoldable pub rootCrossing : Cover → ℕ
+unfolding firstPlaced
+rootCrossing c = firstPlaced (c .placed) .crossing
 
 -- What the cover handed over is among all legal covers of the node under the load: it meets the time, none that meets it has less area,
--- none of its area is earlier, and none of its area and arrival has a lower-numbered pattern at the root.
+-- none of its area is earlier, none of its area and arrival has a lower-numbered pattern at the root, and of those with its pattern there none has a lower crossing number.
 pub record Handed (l : Library) (load n : ℕ) (s : Shape) (time : ℕ) (c : Cover) : Type 0 where
   pub legal : IsCover l load n s c
   pub intime : c .point .arrival ≤ time
   pub smallest : (d : Cover) → IsCover l load n s d → d .point .arrival ≤ time → c .point .area ≤ d .point .area
   pub earliest : (d : Cover) → IsCover l load n s d → d .point .area ≡ c .point .area → c .point .arrival ≤ d .point .arrival
   pub lowest : (d : Cover) → IsCover l load n s d → d .point ≡ c .point → rootPattern c ≤ rootPattern d
+  pub least-crossed : (d : Cover) → IsCover l load n s d → d .point ≡ c .point → rootPattern d ≡ rootPattern c → rootCrossing c ≤ rootCrossing d
 
 -- A legal cover where no node is named: of the root under the root load.
 abbrev pub RootCover : Library → Tree → Cover → Type 0

@@ -10,7 +10,7 @@ use Rattle.covers.specs.Cover.{Placed, Cover}
 use Rattle.covers.specs.Answer.{mapped}
 
 -- A pin by its bin number, intrinsic delay and drive.
-abbrev pin : ℕ → ℕ → ℕ → Pin
+abbrev pub pin : ℕ → ℕ → ℕ → Pin
 pin b i d = record { bin = b; intrinsic = i; drive = d }
 
 -- A cell, not held, by its area, highest load, pins and drawing.
@@ -34,12 +34,12 @@ specimen = record { bins = 1 ∷ 2 ∷ []; cells = cells }
 abbrev pub tree : Shape → ℕ → ℕ → Tree
 tree s load time = record { load = load; required = time; shape = s }
 
--- A match by its node and pattern.
+-- A match by its node and pattern, as drawn.
 abbrev at : ℕ → ℕ → Placed
-at n p = record { node = n; pattern = p }
+at n p = record { node = n; pattern = p; crossing = 0 }
 
 -- A result by its matches, area and arrival.
-abbrev cover : List Placed → ℕ → ℕ → Answer Cover
+abbrev pub cover : List Placed → ℕ → ℕ → Answer Cover
 cover ps a t = success (record { point = record { area = a; arrival = t }; placed = ps })
 
 -- The table's 8.
@@ -52,11 +52,11 @@ pub record Case : Type 0 where
   pub result : Answer Cover
 
 -- A case by its tree's shape, root load and required time, and the result.
-abbrev case : Shape → ℕ → ℕ → Answer Cover → Case
+abbrev pub case : Shape → ℕ → ℕ → Answer Cover → Case
 case s load time r = record { tree = tree s load time; result = r }
 
 -- The trees of the table; leaf arrivals are 0 unless given.
-abbrev INV : Shape
+abbrev pub INV : Shape
 INV = inv (leaf 0)
 
 abbrev INV-INV : Shape

@@ -10,19 +10,17 @@ use native.Mathlib.Decide.{ℕ-discrete}
 use native.Mathlib.Nat.{add-zero, eq-or-lt-of-le}
 use native.Mathlib.Omega.{arith}
 use lib.ListN.{length, getD, take, drop, set, length-append, length-map}
-use lib.Dec.{leb, ltb}
-use lib.Seq.{sets, sets-eq, getD-set-other, getD-set-same, take-all, take-at, take-append-add, take-set-le, drop-at, drop-set-lt, drop-set-add, length-take-le, set-out}
+use lib.Dec.{leb}
+use lib.Seq.{sets, sets-eq, getD-set-other, getD-set-same, take-all, take-at, take-append-add, take-set-le, drop-at, drop-set-lt, drop-set-add, length-take-le}
 use Rattle.fields.proofs.Lists.{sets-append}
 use Rattle.covers.specs.Cover.{Point, late, raised, leafPoint}
 use Rattle.covers.specs.Choice.{before, lesser}
 use Rattle.covers.proofs.Basics.{lt-or-le}
 use Rattle.covers.specs.Curve.{base, both, byDeadline, chained, lookup, pointOf, wordOf}
-use Rattle.covers.proofs.Points.{point-path}
-use Rattle.curves.specs.Words.{pointLimit, stored, slot, curveAt, Small, AgreeFrom}
-use Rattle.matching.specs.Found.{inputSize, inputPlace}
-use Rattle.curves.specs.Best.{rowOf, rowArea, rowIllegal, rowCount, inputNode, inputBin, inputLoad, rowDelay, inputBest, inputLate, inputsBest, rowBest, legalBest, rowsBest, Above}
-use Rattle.curves.specs.Promises.{bestBefore, nodePoints, CurveStored, Fit}
-use Rattle.curves.proofs.Laws.{word-point, apart, part-word}
+use Rattle.curves.specs.Words.{absent, pointLimit, matchLimit, stored, slot, curveAt, Small, AgreeFrom}
+use Rattle.curves.specs.Best.{rowOf, patternOf, rowArea, rowLegal, rowCount, inputNode, inputBin, inputLoad, rowDelay, inputBest, inputLate, inputsBest, rowBest, legalBest, rowsBest, Above}
+use Rattle.curves.specs.Promises.{Worth, matchBefore, Rising, AllRising, bestBefore, nodePoints, PointsFit, Kept, Least, CurveStored, Fit}
+use Rattle.curves.proofs.Laws.{word-point, point-word, apart, part-word}
 
 -- ---- the other curves
 
@@ -54,112 +52,140 @@ module _ (most : ℕ) (symbols work work′ : List ℕ) (m : ℕ) (a : AgreeFrom
   input-same node bin load end h =
       ap (λ (ws : List ℕ). cond (leb 2 (getD symbols node 0)) (before end (leafPoint (getD symbols node 0 - 2) load)) (lookup end (stored ws))) (a (4 * node + bin) (omega arith))
 
-  inputs-same : (row : List ℕ) (load end at k : ℕ) → ((i : ℕ) → i < k → m ≤ 4 * inputNode row (at + inputSize * i)) →
-      inputsBest most symbols work row load end at k ≡ inputsBest most symbols work′ row load end at k
+  inputs-same : (pattern row : List ℕ) (load end n k : ℕ) → ((i : ℕ) → i < k + n → m ≤ 4 * inputNode pattern row i) →
+      inputsBest most symbols work pattern row load end k n ≡ inputsBest most symbols work′ pattern row load end k n
   unfolding inputsBest inputLate
-  inputs-same row load end at zero h = refl
-  inputs-same row load end at (suc k) h =
-      let d = rowDelay row at load in
-      let here : m ≤ 4 * inputNode row at = subst (λ (i : ℕ). m ≤ 4 * inputNode row i) (omega arith) (h 0 (omega arith)) in
-      ap₂ (λ (o o′ : Option Point). both (Option·map (late d) o) o′) (input-same (inputNode row at) (inputBin row at) (inputLoad row at) (end - d) here)
-      (inputs-same row load end (at + inputSize) k (λ i l. subst (λ (j : ℕ). m ≤ 4 * inputNode row j) (omega arith) (h (suc i) (omega arith))))
+  inputs-same pattern row load end zero k h = refl
+  inputs-same pattern row load end (suc n) k h =
+      let d = rowDelay pattern row k load in
+      ap₂ (λ (o o′ : Option Point). both (Option·map (late d) o) o′)
+      (input-same (inputNode pattern row k) (inputBin pattern row k) (inputLoad pattern row k) (end - d) (h k (omega arith)))
+      (inputs-same pattern row load end n (suc k) (λ i l. h i (omega arith)))
 
 -- What is read of later nodes' curves alone is the same where those are.
-pub rows-same : (most : ℕ) (symbols work work′ : List ℕ) (at : ℕ) → AgreeFrom most (at + 1) work work′ → (found : List ℕ) (load end n : ℕ) → Above at found n →
-    rowsBest most symbols work found load end n ≡ rowsBest most symbols work′ found load end n
-unfolding rowsBest legalBest rowBest
-rows-same most symbols work work′ at a found load end zero h = refl
-rows-same most symbols work work′ at a found load end (suc n) h =
-    let row = rowOf found n in
-    ap₂ (λ (o o′ : Option Point). lesser o (cond (ltb load (rowIllegal row)) (Option·map (raised (rowArea row)) o′) none))
-    (rows-same most symbols work work′ at a found load end n (λ j l. h j (omega arith)))
-    (inputs-same most symbols work work′ (at + 1) a row load end (inputPlace 0) (rowCount row) (λ i l. omega (arith, h n (omega arith) i l)))
+module _ (most : ℕ) (symbols work work′ : List ℕ) (at : ℕ) (a : AgreeFrom most (at + 1) work work′) (rows found : List ℕ) (load n : ℕ) (above : Above at found n) where
+  match-same : (j : ℕ) → j < n → (end : ℕ) → matchBefore most symbols work rows found load j end ≡ matchBefore most symbols work′ rows found load j end
+  unfolding legalBest rowBest
+  match-same j l end =
+      let row = rowOf found j in
+      let pattern = patternOf rows row in
+      ap (λ (o : Option Point). cond (rowLegal pattern load) (Option·map (raised (rowArea pattern)) o) none)
+      (inputs-same most symbols work work′ (at + 1) a pattern row load end (rowCount row) 0 (λ i h. omega (arith, above j l i (omega arith))))
+
+  rows-upto : (end k : ℕ) → k ≤ n → rowsBest most symbols work rows found load end k ≡ rowsBest most symbols work′ rows found load end k
+  unfolding rowsBest
+  rows-upto end zero h = refl
+  rows-upto end (suc k) h = ap₂ lesser (rows-upto end k (omega arith)) (match-same k (omega arith) end)
+
+  pub rows-same : (end : ℕ) → rowsBest most symbols work rows found load end n ≡ rowsBest most symbols work′ rows found load end n
+  rows-same end = rows-upto end n (omega arith)
+
+  pub kept-same : {end : ℕ} {kept : List ℕ} → Kept most symbols work rows found load n end kept → Kept most symbols work′ rows found load n end kept
+  kept-same {kept = kept} k = record {
+    lasts = λ j l e h t. subst (Worth matchLimit e (getD kept j 0)) (match-same j l e) (k .lasts j l e h t);
+    bounds = λ j l e h p q. k .bounds j l e h p (match-same j l e ∙ q);
+  }
+
+  pub rising-same : AllRising most symbols work rows found load n → AllRising most symbols work′ rows found load n
+  rising-same r j l = record {
+    intime = λ end p q. r j l .intime end p (match-same j l end ∙ q);
+    small = λ end p q. r j l .small end p (match-same j l end ∙ q);
+    rises = λ end end′ h p q. let z = r j l .rises end end′ h p (match-same j l end ∙ q) in (z .0, sym (match-same j l end′) ∙ z .1, z .2);
+  }
 
 -- ---- a curve, point by point
 
-module _ (most : ℕ) (symbols work found : List ℕ) (load count at : ℕ) where
+-- One word more, of a list whose words all have a property.
+pub set-each : (P : ℕ → ℕ → Type 0) (l : List ℕ) (i w : ℕ) → i < length l → P i w → (k : ℕ) → ((k ≡ i → ⊥) → P k (getD l k 0)) → P k (getD (set l i w) k 0)
+set-each P l i w h here k other = go (ℕ-discrete k i)
+  where
+    go : Dec (k ≡ i) → P k (getD (set l i w) k 0)
+    go (no n) = rw (getD-set-other l i k w 0 n) (other n)
+    go (yes e) = rw (e, getD-set-same l i w 0 h) here
+
+pub small-set : (work : List ℕ) (i w : ℕ) → i < length work → Small work → w < pointLimit → Small (set work i w)
+small-set work i w l s h k = set-each (λ j x. x < pointLimit) work i w l h k (λ n. s k)
+
+module _ (most : ℕ) (symbols work rows found : List ℕ) (load count at : ℕ) where
   abbrev best : ℕ → Option Point
-  best = bestBefore most symbols work found load count
+  best = bestBefore most symbols work rows found load count
 
   abbrev all : List Point
-  all = nodePoints most symbols work found load count
+  all = nodePoints most symbols work rows found load count
 
-  -- k points are stored, and the rest are still to be found, before `end`.
-  pub record Growing (k end : ℕ) (work′ : List ℕ) : Type 0 where
+  -- k points are stored, and the rest are still to be found, before `end`, from which on the kept words last.
+  pub record Growing (k end : ℕ) (work′ kept : List ℕ) : Type 0 where
     pub points : List Point
     pub many : length points ≡ k
+    pub few : k ≤ most
     pub so-far : all ≡ points ++ byDeadline (most + 1 - k) best end
     pub laid : work′ ≡ sets work (slot most at) (map wordOf points)
+    pub small : Small work′
+    pub bounded : end ≤ base
+    pub lasting : Kept most symbols work rows found load count end kept
 
-  pub growing-start : Growing 0 base work
-  growing-start = record { points = []; many = refl; so-far = ap (λ (n : ℕ). byDeadline n best base) (omega arith); laid = refl }
+  pub growing-start : (kept : List ℕ) → Small work → Kept most symbols work rows found load count base kept → Growing 0 base work kept
+  growing-start kept sm l = record { points = []; many = refl; few = omega arith; so-far = ap (λ (n : ℕ). byDeadline n best base) (omega arith); laid = refl; small = sm; bounded = omega arith; lasting = l }
+
+module _ {most : ℕ} {symbols work rows found : List ℕ} {load count at k end : ℕ} {work′ kept : List ℕ} (g : Growing most symbols work rows found load count at k end work′ kept) (above : Above at found count) where
+  -- What is stored so far changes nothing that is read.
+  agrees : AgreeFrom most (at + 1) work′ work
+  agrees j le =
+      ap (λ (q : List ℕ). curveAt most q j) (g .laid)
+      ∙ curve-other most work at j (map wordOf (g .points)) (λ z. absurd (omega arith)) (omega (arith, length-map (g .points) wordOf, g .many, g .few))
+
+  pub growing-rising : AllRising most symbols work rows found load count → AllRising most symbols work′ rows found load count
+  growing-rising = rising-same most symbols work work′ at (λ j le. sym (agrees j le)) rows found load count above
+
+  pub growing-kept : Kept most symbols work′ rows found load count end kept
+  growing-kept = kept-same most symbols work work′ at (λ j le. sym (agrees j le)) rows found load count above (g .lasting)
 
   -- The next point, if there is one.
-  step : (k end : ℕ) (o : Option Point) → k ≤ most → best end ≡ o → byDeadline (most + 1 - k) best end ≡ chained o (λ p. byDeadline (most - k) best (p .arrival))
+  step : (o : Option Point) → rowsBest most symbols work′ rows found load end count ≡ o →
+      nodePoints most symbols work rows found load count ≡ g .points ++ chained o (λ p. byDeadline (most - k) (bestBefore most symbols work rows found load count) (p .arrival))
   unfolding byDeadline
-  step k end o h e =
-      let left : most + 1 - k ≡ suc (most - k) = omega arith in
-      ap (λ (n : ℕ). byDeadline n best end) left ∙ ap (λ (q : Option Point). chained q (λ p. byDeadline (most - k) best (p .arrival))) e
+  step o e =
+      let left : most + 1 - k ≡ suc (most - k) = omega (arith, g .few) in
+      rw (left, ← rows-same most symbols work′ work at agrees rows found load count above end, e) at (g .so-far)
 
-  pub growing-next : (k end : ℕ) (work′ : List ℕ) (w : ℕ) → k < most → Growing k end work′ → best end ≡ some (pointOf w) → Growing (k + 1) (w % base) (set work′ (slot most at + k) w)
-  unfolding chained pointOf
-  growing-next k end work′ w h g e =
-      let left : most - k ≡ most + 1 - (k + 1) = omega arith in
-      record {
-        points = g .points ++ (pointOf w ∷ []);
-        many = length-append (g .points) (pointOf w ∷ []) ∙ ap (λ (n : ℕ). n + 1) (g .many);
-        so-far = g .so-far ∙ ap (λ (ps : List Point). g .points ++ ps) (step k end _ (omega arith) e ∙ ap (λ (n : ℕ). pointOf w ∷ byDeadline n best (w % base)) left)
-            ∙ sym (append-assoc (g .points) (pointOf w ∷ []) _);
-        laid =
-            ap₂ (λ (l : List ℕ) (v : ℕ). set l (slot most at + k) v) (g .laid) (sym (word-point w))
-            ∙ ap (λ (i : ℕ). set (sets work (slot most at) (map wordOf (g .points))) (slot most at + i) (wordOf (pointOf w))) (sym (length-map (g .points) wordOf ∙ g .many))
-            ∙ sym (sets-append work (slot most at) (map wordOf (g .points)) (wordOf (pointOf w) ∷ []))
-            ∙ ap (sets work (slot most at)) (sym (map-append wordOf (g .points) (pointOf w ∷ [])));
-      }
+  finished : (ps : List Point) (r : ℕ) → nodePoints most symbols work rows found load count ≡ ps → r ≡ length ps → take most ps ≡ g .points → CurveStored most symbols work rows found load count at work′ r
+  finished ps r e l t = record { counted = rw e l; laid = rw (e, t) (g .laid); small = g .small }
 
-  pub growing-done : (k end : ℕ) (work′ : List ℕ) → k ≤ most → Small work′ → Growing k end work′ → best end ≡ none → CurveStored most symbols work found load count at work′ k
-  unfolding chained
-  growing-done k end work′ h sm g e =
-      let whole : all ≡ g .points = g .so-far ∙ ap (λ (ps : List Point). g .points ++ ps) (step k end none h e) ∙ append-nil (g .points) in
-      record {
-        counted = sym (ap length whole ∙ g .many);
-        laid = g .laid ∙ ap (λ (ps : List Point). sets work (slot most at) (map wordOf ps)) (sym (ap (take most) whole ∙ take-all most (g .points) (omega (arith, g .many))));
-        small = sm;
-      }
+  module _ {kept′ : List ℕ} {w : ℕ} (o : Least most symbols work′ rows found load count end kept′ w) where
+    pub growing-done : w ≡ absent → CurveStored most symbols work rows found load count at work′ k
+    unfolding chained
+    growing-done z = finished (g .points) k (step none (o .least .missing z) ∙ append-nil (g .points)) (sym (g .many)) (take-all most (g .points) (omega (arith, g .many, g .few)))
 
-  pub growing-over : (end : ℕ) (work′ : List ℕ) (w : ℕ) → Small work′ → Growing most end work′ → best end ≡ some (pointOf w) → CurveStored most symbols work found load count at work′ (most + 1)
-  unfolding chained byDeadline
-  growing-over end work′ w sm g e =
-      let done : most - most ≡ 0 = omega arith in
-      let whole : all ≡ g .points ++ (pointOf w ∷ []) =
-      g .so-far ∙ ap (λ (ps : List Point). g .points ++ ps) (step most end _ (omega arith) e ∙ ap (λ (n : ℕ). pointOf w ∷ byDeadline n best (pointOf w .arrival)) done) in
-      record {
-        counted = sym (ap length whole ∙ length-append (g .points) (pointOf w ∷ []) ∙ ap (λ (n : ℕ). n + 1) (g .many));
-        laid = g .laid ∙ ap (λ (ps : List Point). sets work (slot most at) (map wordOf ps)) (sym (ap (take most) whole ∙ take-at (g .points) (pointOf w ∷ []) most (g .many)));
-        small = sm;
-      }
+    pub growing-over : (w ≡ absent → ⊥) → k ≡ most → CurveStored most symbols work rows found load count at work′ (most + 1)
+    unfolding chained byDeadline
+    growing-over n e =
+        let done : most - k ≡ 0 = omega arith in
+        finished (g .points ++ (pointOf w ∷ [])) (most + 1) (rw done at (step (some (pointOf w)) (o .least .point n)))
+        (simp length-append (omega (arith, g .many))) (take-at (g .points) (pointOf w ∷ []) most (g .many ∙ e))
 
-  -- What is stored so far changes nothing that is read.
-  pub growing-same : (k end : ℕ) (work′ : List ℕ) → k ≤ most → Growing k end work′ → Above at found count → (e : ℕ) → rowsBest most symbols work′ found load e count ≡ best e
-  growing-same k end work′ l g above e =
-      rows-same most symbols work′ work at
-      (λ j le. ap (λ (q : List ℕ). curveAt most q j) (g .laid) ∙ curve-other most work at j (map wordOf (g .points)) (λ z. absurd (omega arith)) (omega (arith, length-map (g .points) wordOf, g .many)))
-      found load e count above
-
--- One word more that is not too great.
-pub small-set : (work : List ℕ) (i w : ℕ) → Small work → w < pointLimit → Small (set work i w)
-small-set work i w s h k = go (ℕ-discrete k i) (lt-or-le i (length work))
-  where
-    go : Dec (k ≡ i) → (i < length work) ⊎ (length work ≤ i) → getD (set work i w) k 0 < pointLimit
-    go (no n) l = rw (getD-set-other work i k w 0 n) (s k)
-    go (yes e) (inl l) = rw (e, getD-set-same work i w 0 l) h
-    go (yes e) (inr l) = rw (set-out work i w l) (s k)
+    pub growing-next : (w ≡ absent → ⊥) → (k ≡ most → ⊥) → PointsFit most symbols work rows found load count → slot most at + k < length work′ →
+        Growing most symbols work rows found load count at (k + 1) (w % base) (set work′ (slot most at + k) w) kept′
+    unfolding chained pointOf
+    growing-next n m fit l =
+        let left : most - k ≡ most + 1 - (k + 1) = omega (arith, g .few) in
+        let now : bestBefore most symbols work rows found load count end ≡ some (pointOf w) = sym (rows-same most symbols work′ work at agrees rows found load count above end) ∙ o .least .point n in
+        let earlier : w % base ≤ end = omega (arith, o .least .intime n) in
+        record {
+          points = g .points ++ (pointOf w ∷ []);
+          many = simp length-append (omega (arith, g .many));
+          few = omega (arith, g .few);
+          so-far = (rw left at (step (some (pointOf w)) (o .least .point n))) ∙ sym (append-assoc (g .points) (pointOf w ∷ []) _);
+          laid =
+              ap₂ (λ (l : List ℕ) (v : ℕ). set l (slot most at + k) v) (g .laid) (sym (word-point w))
+              ∙ ap (λ (i : ℕ). set (sets work (slot most at) (map wordOf (g .points))) (slot most at + i) (wordOf (pointOf w))) (sym (length-map (g .points) wordOf ∙ g .many))
+              ∙ sym (sets-append work (slot most at) (map wordOf (g .points)) (wordOf (pointOf w) ∷ []))
+              ∙ ap (sets work (slot most at)) (sym (map-append wordOf (g .points) (pointOf w ∷ [])));
+          small = small-set work′ (slot most at + k) w l (g .small) (omega (arith, fit .fit end (pointOf w) now .area));
+          bounded = omega (arith, g .bounded);
+          lasting = let k = kept-same most symbols work′ work at agrees rows found load count above (o .lasting) in record { lasts = λ j h e le. k .lasts j h e (omega arith); bounds = λ j h e le. k .bounds j h e (omega arith) };
+        }
 
 -- ---- a curve that was stored
-
-fit-back : (p : Point) → Fit p → pointOf (wordOf p) ≡ p
-unfolding wordOf pointOf
-fit-back p f = point-path (omega (arith, f .arrival)) (omega (arith, f .arrival))
 
 fit-word : (p : Point) → Fit p → wordOf p ≡ 0 → ⊥
 unfolding wordOf
@@ -171,7 +197,7 @@ stored-words [] [] f z = refl
 stored-words [] (x ∷ zs) f z = rw (eq-eqb x 0 z)
 stored-words (p ∷ ps) zs f z =
     let fit = f p (List·Memᴰ·head refl) in
-    rw (ne-eqb (wordOf p) 0 (fit-word p fit)) (ap₂ (λ (x : Point) (xs : List Point). x ∷ xs) (fit-back p fit) (stored-words ps zs (λ q m. f q (List·Memᴰ·tail m)) z))
+    rw (ne-eqb (wordOf p) 0 (fit-word p fit)) (ap₂ (λ (x : Point) (xs : List Point). x ∷ xs) (point-word p (fit .arrival)) (stored-words ps zs (λ q m. f q (List·Memᴰ·tail m)) z))
 
 -- Points stored in a curve of zeros, with a word to spare.
 pub curve-laid : (most : ℕ) (work : List ℕ) (i : ℕ) (ps : List Point) → ((k : ℕ) → getD (curveAt most work i) k 0 ≡ 0) → length ps ≤ most → slot most i + (most + 1) ≤ length work →

@@ -11,21 +11,32 @@ use native.Mathlib.Omega.{arith}
 use lib.ListN.{length, getD, take, drop, length-drop, length-take, drop-of-length-le, List·getD-eq-default}
 use lib.Seq.{length-take-le, getD-take, getD-drop, drop-cons}
 use borrow.Author.Tests.{eq-eqb, ne-eqb, lt-ltb, le-ltb, le-leb, lt-leb}
+use Rattle.sheets.specs.Layout.{rowWords}
 use Rattle.covers.specs.Cover.{Point, late, raised, beside, leafArrival, leafPoint}
 use Rattle.covers.specs.Choice.{before, lesser}
 use Rattle.covers.specs.Curve.{base, both, lookup, pointOf, wordOf}
-use Rattle.covers.proofs.Points.{point-path, both-assoc, Leq, smaller, earlier, pick-left, pick-right, lesser-none}
+use Rattle.covers.proofs.Points.{point-path, both-assoc, both-carries, Leq, smaller, earlier, pick-left, pick-right, lesser-none}
 use Rattle.covers.proofs.Basics.{lt-or-le}
 use Rattle.curves.specs.Words.{absent, areaLimit, pointLimit, matchLimit, stored, slot, tableOf, Small, ZeroBelow, WorkArea}
-use Rattle.matching.specs.Found.{matchWords, inputSize, inputPlace}
-use Rattle.curves.specs.Best.{rowOf, rowArea, rowIllegal, rowCount, inputNode, inputBin, inputLoad, rowDelay, inputBest, inputLate, inputsBest, rowBest, legalBest, rowsBest, Tables, Matches}
-use Rattle.curves.specs.Promises.{Worth}
+use Rattle.overlay.specs.Held.{heldAt, highestAt}
+use Rattle.matching.specs.Found.{matchBytes}
+use Rattle.curves.specs.Best.{rowOf, patternOf, rowArea, rowCount, rowLegal, inputNode, inputBin, inputLoad, inputIntrinsic, inputDrive, rowDelay, inputBest, inputLate, inputsBest, rowBest, legalBest, rowsBest, Sources, Tables, RowKnown, Matches}
+use Rattle.curves.specs.Promises.{Worth, matchBefore, Kept}
 
 -- ---- words
 
 pub word-point : (w : ℕ) → wordOf (pointOf w) ≡ w
 unfolding wordOf pointOf
 word-point w = div-add-mod' w base
+
+pub point-word : (p : Point) → p .arrival < base → pointOf (wordOf p) ≡ p
+unfolding wordOf pointOf
+point-word p h = point-path (omega arith) (omega arith)
+
+-- In a word, the arrival stands below the base.
+pub word-arrival : (p : Point) → p .arrival < base → wordOf p % base ≡ p .arrival
+unfolding wordOf
+word-arrival p h = omega arith
 
 -- A word that is in use, and one that is not.
 pub worth-point : (limit end w : ℕ) (o : Option Point) → w < limit → w < absent → w % base < end → o ≡ some (pointOf w) → Worth limit end w o
@@ -145,65 +156,88 @@ worth-late end d w o h g n =
     worth-point pointLimit end (w + d) _ (omega arith) (omega arith) (omega arith)
     (ap (Option·map (late d)) (g .point n) ∙ ap {B = Option Point} some (sym (point-path high low)))
 
-module _ (most : ℕ) (symbols work row : List ℕ) (load end at d w : ℕ) (e : d ≡ rowDelay row at load)
-    (g : Worth pointLimit (end - d) w (inputBest most symbols work (inputNode row at) (inputBin row at) (inputLoad row at) (end - d))) where
-  input-same : Option·map (late d) (inputBest most symbols work (inputNode row at) (inputBin row at) (inputLoad row at) (end - d)) ≡ inputLate most symbols work row load end at
-  unfolding inputLate
-  input-same = ap (λ (k : ℕ). Option·map (late k) (inputBest most symbols work (inputNode row at) (inputBin row at) (inputLoad row at) (end - k))) e
+module _ {most : ℕ} {pattern row symbols work : List ℕ} (t : Tables most pattern row symbols work) (load end : ℕ) where
+  abbrev one : ℕ → Option Point
+  one = inputLate most symbols work pattern row load end
 
-  pub input-missing : w ≡ absent → inputLate most symbols work row load end at ≡ none
-  input-missing z = sym input-same ∙ ap (Option·map (late d)) (g .missing z)
-
-  pub input-found : end ≤ base → (w ≡ absent → ⊥) → Worth pointLimit end (w + d) (inputLate most symbols work row load end at)
-  input-found h n = subst (Worth pointLimit end (w + d)) input-same (worth-late end d w _ h g n)
-
--- ---- a match: its inputs one after another
-
-module _ (most : ℕ) (symbols work row : List ℕ) (load end : ℕ) where
   abbrev rest : ℕ → ℕ → Option Point
-  rest at k = inputsBest most symbols work row load end at k
+  rest = inputsBest most symbols work pattern row load end
 
-  pub match-turn : (at k : ℕ) (p : Point) (w : ℕ) → inputLate most symbols work row load end at ≡ some (pointOf w) →
-      both (some p) (rest at (suc k)) ≡ both (some (record { area = p .area + w / base; arrival = max (p .arrival) (w % base) })) (rest (at + inputSize) k)
-  unfolding inputsBest both beside pointOf
-  match-turn at k p w e =
-      ap (λ (o : Option Point). both (some p) (both o (rest (at + inputSize) k))) e ∙ sym (both-assoc (some p) (some (pointOf w)) (rest (at + inputSize) k))
+  abbrev all : Option Point
+  all = rowBest most symbols work pattern row load end
 
-  pub match-stops : (at k : ℕ) (p : Point) → inputLate most symbols work row load end at ≡ none → both (some p) (rest at (suc k)) ≡ none
-  unfolding inputsBest both
-  match-stops at k p e = ap (λ (o : Option Point). both (some p) (both o (rest (at + inputSize) k))) e
+  -- Input k, from its least point before what its pin leaves of the bound.
+  module _ (k d left w : ℕ) (ed : d ≡ inputIntrinsic pattern row k + inputDrive pattern row k * load) (el : left ≡ end - d) where
+    abbrev own : Option Point
+    own = inputBest most symbols work (inputNode pattern row k) (inputBin pattern row k) (inputLoad pattern row k) left
 
-  pub match-whole : (at : ℕ) (p : Point) → 0 < end → both (some p) (rest at 0) ≡ some p
-  unfolding inputsBest both beside before
-  match-whole at p h = rw (lt-ltb 0 end h) (ap {B = Option Point} some (point-path (omega arith) (omega arith)))
+    seen : Option·map (late d) own ≡ one k
+    unfolding inputLate rowDelay
+    seen = rw (el, ed)
 
-  pub row-none : (n : ℕ) → n ≡ rowCount row → rest (inputPlace 0) n ≡ none → rowBest most symbols work row load end ≡ none
+    pub input-missing : Worth pointLimit left w own → w ≡ absent → Worth pointLimit end absent (one k)
+    input-missing g z = worth-none pointLimit end (one k) (sym seen ∙ ap (Option·map (late d)) (g .missing z))
+
+    pub input-found : end ≤ base → Worth pointLimit left w own → (w ≡ absent → ⊥) → Worth pointLimit end (w + d) (one k)
+    input-found h g n = subst (Worth pointLimit end (w + d)) seen (worth-late end d w own h (subst (λ (b : ℕ). Worth pointLimit b w own) el g) n)
+
+  -- ---- a match: its inputs one after another
+
+  abbrev many : ℕ
+  many = rowCount row
+
+  -- After k inputs, which are side by side the point p.
+  module _ (k : ℕ) (p : Point) (i : rest 0 many ≡ both (some p) (rest k (many - k))) where
+    next : k < many → (o : Option Point) → one k ≡ o → rest 0 many ≡ both (some p) (both o (rest (k + 1) (many - (k + 1))))
+    unfolding inputsBest
+    next h o e = i ∙ rw (one-less many k h, add-one, ← e)
+
+    pub match-turn : k < many → (w : ℕ) → one k ≡ some (pointOf w) →
+        rest 0 many ≡ both (some (record { area = p .area + w / base; arrival = max (p .arrival) (w % base) })) (rest (k + 1) (many - (k + 1)))
+    unfolding both beside pointOf
+    match-turn h w e = next h (some (pointOf w)) e ∙ sym (both-assoc (some p) (some (pointOf w)) (rest (k + 1) (many - (k + 1))))
+
+    pub match-stops : k < many → one k ≡ none → Worth matchLimit end absent all
+    unfolding rowBest both
+    match-stops h e = worth-none matchLimit end all (rw (next h none e))
+
+    pub match-worth : many ≤ k → p .area ≤ 6 * areaLimit → p .arrival < end → end ≤ base → Worth matchLimit end ((rowArea pattern + p .area) * base + p .arrival) all
+    unfolding rowBest raised pointOf inputsBest both beside before
+    match-worth h hp ht he =
+        let a = rowArea pattern in
+        let w = (a + p .area) * base + p .arrival in
+        let small : a ≤ 65535 = t .safe .area in
+        let high : w / base ≡ a + p .area = omega arith in
+        let low : w % base ≡ p .arrival = omega arith in
+        let done : many - k ≡ 0 = omega arith in
+        let whole : rest 0 many ≡ some p = i ∙ rw (done, lt-ltb 0 end (omega arith)) (ap {B = Option Point} some (point-path (omega arith) (omega arith))) in
+        worth-point matchLimit end w all (omega arith) (omega arith) (omega arith) (rw whole (ap {B = Option Point} some (sym (point-path high low))))
+
+  nothing : (n k : ℕ) → end ≡ 0 → rest k n ≡ none
+  unfolding inputsBest before
+  nothing zero k e = rw (le-ltb 0 end (omega arith))
+  nothing (suc n) k e = ap (both (one k)) (nothing n (suc k) e) ∙ both-carries (one k) .on-none
+
+  pub match-never : end ≡ 0 → Worth matchLimit end absent all
   unfolding rowBest
-  row-none n en e = ap (λ (k : ℕ). Option·map (raised (rowArea row)) (rest (inputPlace 0) k)) (sym en) ∙ ap (Option·map (raised (rowArea row))) e
+  match-never e = worth-none matchLimit end all (ap (Option·map (raised (rowArea pattern))) (nothing (rowCount row) 0 e))
 
-  pub row-worth : (n : ℕ) (p : Point) → n ≡ rowCount row → rest (inputPlace 0) n ≡ some p → rowArea row ≤ 65535 → p .area ≤ 16 * areaLimit → p .arrival < end → end ≤ base →
-      Worth matchLimit end ((rowArea row + p .area) * base + p .arrival) (rowBest most symbols work row load end)
-  unfolding rowBest raised pointOf
-  row-worth n p en e ha hp ht he =
-      let a = rowArea row in
-      let w = (a + p .area) * base + p .arrival in
-      let high : w / base ≡ a + p .area = omega arith in
-      let low : w % base ≡ p .arrival = omega arith in
-      worth-point matchLimit end w _ (omega arith) (omega arith) (omega arith)
-      (ap (λ (k : ℕ). Option·map (raised a) (rest (inputPlace 0) k)) (sym en) ∙ ap (Option·map (raised a)) e ∙ ap {B = Option Point} some (sym (point-path high low)))
+  -- ---- a match, if it is legal
 
-  pub match-nothing : (n : ℕ) → end ≡ 0 → rest (inputPlace 0) n ≡ none
-  unfolding inputsBest before both
-  match-nothing zero e = rw (le-ltb 0 end (omega arith))
-  match-nothing (suc n) e = go (inputPlace 0) (suc n)
-    where
-      none-right : (o : Option Point) → both o none ≡ none
-      none-right none = unfold both in refl
-      none-right (some p) = unfold both in refl
+  abbrev allowed : Option Point
+  allowed = legalBest most symbols work pattern row load end
 
-      go : (at k : ℕ) → rest at k ≡ none
-      go at zero = unfold inputsBest before in rw (le-ltb 0 end (omega arith))
-      go at (suc k) = unfold inputsBest in ap (both (inputLate most symbols work row load end at)) (go (at + inputSize) k) ∙ none-right (inputLate most symbols work row load end at)
+  pub match-held : (getD pattern heldAt 0 ≡ 0 → ⊥) → Worth matchLimit end absent allowed
+  unfolding legalBest rowLegal
+  match-held n = worth-none matchLimit end allowed (rw (ne-eqb (getD pattern heldAt 0) 0 n))
+
+  pub match-overloaded : getD pattern heldAt 0 ≡ 0 → getD pattern highestAt 0 < load → Worth matchLimit end absent allowed
+  unfolding legalBest rowLegal
+  match-overloaded e h = worth-none matchLimit end allowed (rw (eq-eqb (getD pattern heldAt 0) 0 e, lt-leb load (getD pattern highestAt 0) h))
+
+  pub match-legal : getD pattern heldAt 0 ≡ 0 → load ≤ getD pattern highestAt 0 → (r : ℕ) → Worth matchLimit end r all → Worth matchLimit end r allowed
+  unfolding legalBest rowLegal
+  match-legal e h r g = rw (eq-eqb (getD pattern heldAt 0) 0 e, le-leb load (getD pattern highestAt 0) h) g
 
 -- ---- the lesser of two
 
@@ -214,6 +248,11 @@ word-order v w h = go (lt-or-le (v / base) (w / base))
     go : (v / base < w / base) ⊎ (w / base ≤ v / base) → Leq (record { area = v / base; arrival = v % base }) (record { area = w / base; arrival = w % base })
     go (inl l) = smaller l
     go (inr l) = earlier (omega arith) (omega arith)
+
+pub point-order : {p q : Point} → Leq p q → p .arrival < base → wordOf p ≤ wordOf q
+unfolding wordOf
+point-order (smaller l) h = omega arith
+point-order (earlier e l) h = omega arith
 
 module _ (limit end v w : ℕ) (o o′ : Option Point) (fits : limit ≤ absent) (a : Worth limit end v o) (b : Worth limit end w o′) where
   -- The later one is the lesser word.
@@ -248,20 +287,27 @@ module _ (limit end v w : ℕ) (o o′ : Option Point) (fits : limit ≤ absent)
 
 -- ---- the rows of a node
 
-pub legal-none : (most : ℕ) (symbols work row : List ℕ) (load end : ℕ) → rowIllegal row ≤ load → legalBest most symbols work row load end ≡ none
-unfolding legalBest
-legal-none most symbols work row load end h = rw (le-ltb load (rowIllegal row) h)
-
-pub legal-some : (most : ℕ) (symbols work row : List ℕ) (load end : ℕ) → load < rowIllegal row → rowBest most symbols work row load end ≡ legalBest most symbols work row load end
-unfolding legalBest
-legal-some most symbols work row load end h = rw (lt-ltb load (rowIllegal row) h)
-
-pub rows-turn : (most : ℕ) (symbols work found : List ℕ) (load end j v w : ℕ) → Worth matchLimit end v (rowsBest most symbols work found load end j) →
-    Worth matchLimit end w (legalBest most symbols work (rowOf found j) load end) → Worth matchLimit end (min v w) (rowsBest most symbols work found load end (j + 1))
+pub rows-turn : {most : ℕ} {symbols work rows found : List ℕ} {load count end : ℕ} {kept : List ℕ} → Kept most symbols work rows found load count end kept → (j v w : ℕ) →
+    Worth matchLimit end v (rowsBest most symbols work rows found load end j) → Worth matchLimit end w (matchBefore most symbols work rows found load j end) →
+    Worth matchLimit end (min v w) (rowsBest most symbols work rows found load end (j + 1))
 unfolding rowsBest
-rows-turn most symbols work found load end j v w a b =
-    rw add-one (lesser-word matchLimit end v w (rowsBest most symbols work found load end j) (legalBest most symbols work (rowOf found j) load end) (omega arith) a b)
+rows-turn {end = end} k j v w a b = rw add-one (lesser-word matchLimit end v w _ _ (omega arith) a b)
 
--- The tables that the row of one of the matches is read with.
-pub row-tables : {most : ℕ} {found : List ℕ} {count : ℕ} {symbols work : List ℕ} → Matches most found count symbols work → (j : ℕ) → j < count → Tables most (rowOf found j) symbols work
-row-tables {found = found} m j h = record { safe = m .rows j h; row-length = part-length matchWords (matchWords * j) found (omega (arith, m .room)); sources = m .sources }
+-- What reading one of the matches requires.
+pub row-ready : {most : ℕ} {rows found : List ℕ} {count : ℕ} {symbols work : List ℕ} → Matches most rows found count symbols work → (j : ℕ) → j < count →
+    RowKnown rows (rowOf found j) × (matchBytes * (j + 1) ≤ length found)
+row-ready m j h = (m .rows-known j h, omega (arith, m .room))
+
+-- The matches of a node, read with another work area.
+pub matches-in : {most : ℕ} {rows found : List ℕ} {count : ℕ} {symbols work work′ : List ℕ} → Matches most rows found count symbols work → WorkArea most work′ → Matches most rows found count symbols work′
+matches-in m w = record { rows-known = m .rows-known; room = m .room; sources = record { symbols-length = m .sources .symbols-length; symbols-small = m .sources .symbols-small; curves = w } }
+
+-- The tables that one of the matches is read with.
+pub row-tables : {most : ℕ} {rows symbols work : List ℕ} (found : List ℕ) (j : ℕ) → RowKnown rows (rowOf found j) → matchBytes * (j + 1) ≤ length found → Sources most symbols work →
+    Tables most (patternOf rows (rowOf found j)) (rowOf found j) symbols work
+row-tables {rows = rows} found j k h s = record {
+  safe = k .safe;
+  pattern-length = part-length rowWords (rowWords * getD (rowOf found j) 0 0) rows (omega (arith, k .known));
+  row-length = part-length matchBytes (matchBytes * j) found (omega arith);
+  sources = s;
+}

@@ -1,51 +1,62 @@
--- The least point before an instant, read from the tables: of an input, of a match's row, and of all rows of a node.
+-- The least point before an instant, read from the tables: of an input, of a match, and of all matches of a node.
 use Prim.Native.Nat.{ℕ, zero, suc, _+_, _-_, _*_, _≤_, _<_}
-use mathlib.Core.Bool.{cond}
+use mathlib.Core.Bool.{Bool, cond, _&&_}
 use mathlib.Core.List.{List}
 use mathlib.Core.Option.{Option, none, Option·map}
 use mathlib.Core.Path.{_≡_}
 use lib.ListN.{length, getD, take, drop}
-use lib.Dec.{leb, ltb}
+use lib.Dec.{leb, eqb}
+use Rattle.sheets.specs.Layout.{pinWords, figuresAt, rowWords}
 use Rattle.covers.specs.Cover.{late, raised, leafPoint, Point}
 use Rattle.covers.specs.Choice.{lesser, before}
 use Rattle.covers.specs.Curve.{both, lookup}
-use Rattle.overlay.specs.Held.{symbolLimit}
-use Rattle.matching.specs.Found.{matchWords, inputSize, inputPlace}
+use Rattle.overlay.specs.Held.{symbolLimit, heldAt, areaAt, highestAt}
+use Rattle.matching.specs.Found.{matchBytes, inputPlace}
 use Rattle.curves.specs.Words.{tableOf, WorkArea}
 
--- ---- the row of a found match
+-- ---- the row of a found match, and that of its pattern
 
 -- Rows one after another.
 abbrev pub rowOf : List ℕ → ℕ → List ℕ
-rowOf found j = take matchWords (drop (matchWords * j) found)
+rowOf found j = take matchBytes (drop (matchBytes * j) found)
 
--- In a row: the cell's area, the first load that is not legal, and how many inputs there are.
-module _ (row : List ℕ) where
-  abbrev pub rowArea : ℕ
-  rowArea = getD row 1 0
+-- The row of the pattern that a match's row names.
+abbrev pub patternOf : List ℕ → List ℕ → List ℕ
+patternOf rows row = take rowWords (drop (rowWords * getD row 0 0) rows)
 
-  abbrev pub rowIllegal : ℕ
-  rowIllegal = getD row 2 0
+-- How many inputs a match has.
+abbrev pub rowCount : List ℕ → ℕ
+rowCount row = getD row 2 0
 
-  abbrev pub rowCount : ℕ
-  rowCount = getD row 3 0
+-- In a pattern's row: the cell's area, and whether a match of it that drives a load is legal.
+abbrev pub rowArea : List ℕ → ℕ
+rowArea pattern = getD pattern areaAt 0
 
--- The input at a place of a row: its node, and the bin, the load, the intrinsic delay and the drive of its pin.
-module _ (row : List ℕ) (at : ℕ) where
+unfoldable pub rowLegal : List ℕ → ℕ → Bool
+rowLegal pattern load = eqb (getD pattern heldAt 0) 0 && leb load (getD pattern highestAt 0)
+
+-- Input k of a match: its pin and its node, and the bin, the load, the intrinsic delay and the drive of that pin.
+module _ (pattern row : List ℕ) (k : ℕ) where
+  abbrev pub inputPin : ℕ
+  inputPin = getD row (inputPlace k) 0
+
   abbrev pub inputNode : ℕ
-  inputNode = getD row at 0
+  inputNode = getD row (inputPlace k + 1) 0
+
+  abbrev pub inputFigures : ℕ
+  inputFigures = figuresAt + pinWords * inputPin
 
   abbrev pub inputBin : ℕ
-  inputBin = getD row (at + 1) 0
+  inputBin = getD pattern inputFigures 0
 
   abbrev pub inputLoad : ℕ
-  inputLoad = getD row (at + 2) 0
+  inputLoad = getD pattern (inputFigures + 1) 0
 
   abbrev pub inputIntrinsic : ℕ
-  inputIntrinsic = getD row (at + 3) 0
+  inputIntrinsic = getD pattern (inputFigures + 2) 0
 
   abbrev pub inputDrive : ℕ
-  inputDrive = getD row (at + 4) 0
+  inputDrive = getD pattern (inputFigures + 3) 0
 
   -- What that pin adds under the load that the match drives.
   unfoldable pub rowDelay : ℕ → ℕ
@@ -59,45 +70,45 @@ module _ (most : ℕ) (symbols work : List ℕ) where
   inputBest node bin load end =
       cond (leb 2 (getD symbols node 0)) (before end (leafPoint (getD symbols node 0 - 2) load)) (lookup end (tableOf most work node bin))
 
-  -- The input at this place of a row, as its match sees it.
-  unfoldable pub inputLate : List ℕ → ℕ → ℕ → ℕ → Option Point
-  inputLate row load end at =
-      Option·map (late (rowDelay row at load)) (inputBest (inputNode row at) (inputBin row at) (inputLoad row at) (end - rowDelay row at load))
+  module _ (pattern row : List ℕ) (load end : ℕ) where
+    -- Input k of a match, as the match sees it.
+    unfoldable pub inputLate : ℕ → Option Point
+    inputLate k =
+        Option·map (late (rowDelay pattern row k load)) (inputBest (inputNode pattern row k) (inputBin pattern row k) (inputLoad pattern row k) (end - rowDelay pattern row k load))
 
-  -- So many inputs of a row, from this place on.
-  unfoldable pub inputsBest : List ℕ → ℕ → ℕ → ℕ → ℕ → Option Point
-  inputsBest row load end at zero = before end (record { area = 0; arrival = 0 })
-  inputsBest row load end at (suc k) =
-      both (inputLate row load end at) (inputsBest row load end (at + inputSize) k)
+    -- So many inputs of a match, from input k on.
+    unfoldable pub inputsBest : ℕ → ℕ → Option Point
+    inputsBest k zero = before end (record { area = 0; arrival = 0 })
+    inputsBest k (suc n) = both (inputLate k) (inputsBest (suc k) n)
 
-  unfoldable pub rowBest : List ℕ → ℕ → ℕ → Option Point
-  rowBest row load end = Option·map (raised (rowArea row)) (inputsBest row load end (inputPlace 0) (rowCount row))
+    unfoldable pub rowBest : Option Point
+    rowBest = Option·map (raised (rowArea pattern)) (inputsBest 0 (rowCount row))
 
-  -- A row counts if the load is below the first that is not legal.
-  unfoldable pub legalBest : List ℕ → ℕ → ℕ → Option Point
-  legalBest row load end = cond (ltb load (rowIllegal row)) (rowBest row load end) none
+    -- A match counts if it is legal.
+    unfoldable pub legalBest : Option Point
+    legalBest = cond (rowLegal pattern load) rowBest none
 
-  -- The first n rows of a table of found matches.
-  unfoldable pub rowsBest : List ℕ → ℕ → ℕ → ℕ → Option Point
-  rowsBest found load end zero = none
-  rowsBest found load end (suc n) = lesser (rowsBest found load end n) (legalBest (rowOf found n) load end)
+  -- The first n rows of a table of found matches, with the patterns' rows.
+  unfoldable pub rowsBest : List ℕ → List ℕ → ℕ → ℕ → ℕ → Option Point
+  rowsBest rows found load end zero = none
+  rowsBest rows found load end (suc n) = lesser (rowsBest rows found load end n) (legalBest (patternOf rows (rowOf found n)) (rowOf found n) load end)
 
 -- ---- what is required of the tables
 
--- The input at this place of a row is within the limits.
-pub record InputSafe (row : List ℕ) (at : ℕ) : Type 0 where
-  pub node : inputNode row at < 64
-  pub bin : inputBin row at < 4
-  pub load : inputLoad row at ≤ 255
-  pub intrinsic : inputIntrinsic row at ≤ 65535
-  pub drive : inputDrive row at ≤ 255
-  pub room : at + inputSize ≤ matchWords
+-- Input k of a match is within the limits.
+pub record InputSafe (pattern row : List ℕ) (k : ℕ) : Type 0 where
+  pub pin : inputPin pattern row k < 6
+  pub node : inputNode pattern row k < 64
+  pub bin : inputBin pattern row k < 4
+  pub load : inputLoad pattern row k ≤ 255
+  pub intrinsic : inputIntrinsic pattern row k ≤ 65535
+  pub drive : inputDrive pattern row k ≤ 255
 
--- A row's figures are within the limits.
-pub record RowSafe (row : List ℕ) : Type 0 where
-  pub area : rowArea row ≤ 65535
-  pub few : rowCount row ≤ 16
-  pub inputs : (k : ℕ) → k < rowCount row → InputSafe row (inputPlace k)
+-- A match's figures are within the limits.
+pub record RowSafe (pattern row : List ℕ) : Type 0 where
+  pub area : rowArea pattern ≤ 65535
+  pub few : rowCount row ≤ 6
+  pub inputs : (k : ℕ) → k < rowCount row → InputSafe pattern row k
 
 -- What the inputs' points are read from: the tree's symbols and the curves of later nodes.
 pub record Sources (most : ℕ) (symbols work : List ℕ) : Type 0 where
@@ -105,18 +116,24 @@ pub record Sources (most : ℕ) (symbols work : List ℕ) : Type 0 where
   pub symbols-small : (k : ℕ) → getD symbols k 0 ≤ symbolLimit
   pub curves : WorkArea most work
 
--- The tables that a match's row is read with.
-pub record Tables (most : ℕ) (row symbols work : List ℕ) : Type 0 where
-  pub safe : RowSafe row
-  pub row-length : length row ≡ matchWords
+-- The tables that a match is read with.
+pub record Tables (most : ℕ) (pattern row symbols work : List ℕ) : Type 0 where
+  pub safe : RowSafe pattern row
+  pub pattern-length : length pattern ≡ rowWords
+  pub row-length : length row ≡ matchBytes
   pub sources : Sources most symbols work
 
+-- A found match is safe to read, and its pattern is one of those whose rows are there.
+pub record RowKnown (rows row : List ℕ) : Type 0 where
+  pub known : rowWords * (getD row 0 0 + 1) ≤ length rows
+  pub safe : RowSafe (patternOf rows row) row
+
 -- The tables that the rows of a node's matches are read with.
-pub record Matches (most : ℕ) (found : List ℕ) (count : ℕ) (symbols work : List ℕ) : Type 0 where
-  pub rows : (j : ℕ) → j < count → RowSafe (rowOf found j)
-  pub room : matchWords * count ≤ length found
+pub record Matches (most : ℕ) (rows found : List ℕ) (count : ℕ) (symbols work : List ℕ) : Type 0 where
+  pub rows-known : (j : ℕ) → j < count → RowKnown rows (rowOf found j)
+  pub room : matchBytes * count ≤ length found
   pub sources : Sources most symbols work
 
 -- Every input of the first rows has its curves after this one.
 abbrev pub Above : ℕ → List ℕ → ℕ → Type 0
-Above at found count = (j : ℕ) → j < count → (k : ℕ) → k < rowCount (rowOf found j) → at < 4 * inputNode (rowOf found j) (inputPlace k)
+Above at found count = (j : ℕ) → j < count → (k : ℕ) → k < rowCount (rowOf found j) → at < 4 * getD (rowOf found j) (inputPlace k + 1) 0

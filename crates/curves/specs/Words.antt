@@ -20,9 +20,9 @@ areaLimit = 2 ^ 22
 abbrev pub pointLimit : ℕ
 pointLimit = areaLimit * base
 
--- The word of a match: a cell's area in 16 bits, and those of at most sixteen inputs.
+-- The word of a match: a cell's area in 16 bits, and those of at most six inputs.
 abbrev pub matchLimit : ℕ
-matchLimit = (65536 + 16 * areaLimit) * base
+matchLimit = (65536 + 6 * areaLimit) * base
 
 -- No word is too great.
 abbrev pub Small : List ℕ → Type 0

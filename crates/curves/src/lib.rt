@@ -1,13 +1,15 @@
 // Curves by deadline: the least point of a node before an instant, and the curve of a node under a load.
 use matching::Row;
 use sheets::Limits;
+use sheets::library::PatternRow;
 ghost use mathlib.Core.Path.{_≡_};
 ghost use Prim.Native.Nat.{_+_, _-_, _*_, _<_, _≤_, min, max};
 ghost use lib.ListN.{length, drop};
 ghost use Rattle.covers.specs.Curve.{base, lookup};
+ghost use Rattle.matching.specs.Found.{matchBytes};
 ghost use Rattle.curves.specs.Words.{pointLimit, matchLimit, stored, curveAt, Small, WorkArea};
-ghost use Rattle.curves.specs.Best.{rowOf, inputBest, inputLate, rowBest, legalBest, rowsBest, Sources, Tables, InputSafe, Matches, Above};
-ghost use Rattle.curves.specs.Promises.{Probed, Worth, PointsFit, CurveStored};
+ghost use Rattle.curves.specs.Best.{rowOf, patternOf, inputBest, inputLate, rowBest, legalBest, InputSafe, Sources, Tables, RowKnown, Matches, Above};
+ghost use Rattle.curves.specs.Promises.{Probed, Worth, AllRising, PointsFit, Kept, Least, CurveStored};
 
 // The word for no point; how many curves a node has: one for each load bin; and how many words of a curve are tested in a straight line.
 pub struct Words {}
@@ -18,6 +20,13 @@ impl Words {
     pub const BINS: usize = 4;
 
     pub const LINE: usize = 32;
+}
+
+// Which curve is to be found: its number, the load that the node drives, and how many points it may have.
+pub struct Target {
+    pub at: usize,
+    pub load: u32,
+    pub most: usize,
 }
 
 // What a look at some words of a curve tells: the first point that they have before an instant, or that they have none.
@@ -142,29 +151,37 @@ fn later(a: u64, b: u64) -> u64
     a
 }
 
-// The least point before `end` of the input whose words stand from `at` on in a match's row, as the match sees it.
+// The least point before `end` of input k of a match, as the match sees it: its pin and its node stand in the match's row, the pin's figures in
+// the pattern's.
 fn input_word(
-    row: &[u32],
+    pattern: &[u32],
+    row: &[u8],
     symbols: &[u32],
     work: &[u64],
     most: usize,
     load: u32,
     end: u64,
-    at: usize,
+    k: usize,
 ) -> u64
-    requires { ⌜ Tables most (now row) (now symbols) (now work) ⌝ }
-    requires { ⌜ InputSafe (now row) at ⌝ }
+    requires { ⌜ Tables most (now pattern) (now row) (now symbols) (now work) ⌝ }
+    requires { ⌜ InputSafe (now pattern) (now row) k × (k < 6) ⌝ }
     requires { ⌜ (load ≤ 255) × (end ≤ base) ⌝ }
-    ensures { λ r. ⌜ Worth pointLimit end r (inputLate most (now (symbols .entry)) (now (work .entry)) (now (row .entry)) load end at) ⌝ }
+    ensures { λ r. ⌜ Worth pointLimit end r (inputLate most (now (symbols .entry)) (now (work .entry)) (now (pattern .entry)) (now (row .entry)) load end k) ⌝ }
 {
-    let d = delay(row[at + Row::INTRINSIC], row[at + Row::DRIVE], load);
+    let place = Row::INPUTS + Row::INPUT * k;
+    let figures = PatternRow::FIGURES + PatternRow::PIN * (row[place] as usize);
+    let d = delay(
+        pattern[figures + PatternRow::INTRINSIC],
+        pattern[figures + PatternRow::DRIVE],
+        load,
+    );
     let w = input_best(
         symbols,
         work,
         most,
-        row[at] as usize,
-        row[at + Row::BIN] as usize,
-        row[at + Row::LOAD],
+        row[place + Row::NODE] as usize,
+        pattern[figures] as usize,
+        pattern[figures + PatternRow::LOAD],
         less(end, d),
     );
     if w == Words::ABSENT {
@@ -174,10 +191,18 @@ fn input_word(
 }
 
 // The least point of a match before `end`: its cell on top of its inputs side by side.
-fn best_match(row: &[u32], symbols: &[u32], work: &[u64], most: usize, load: u32, end: u64) -> u64
-    requires { ⌜ Tables most (now row) (now symbols) (now work) ⌝ }
+fn best_match(
+    pattern: &[u32],
+    row: &[u8],
+    symbols: &[u32],
+    work: &[u64],
+    most: usize,
+    load: u32,
+    end: u64,
+) -> u64
+    requires { ⌜ Tables most (now pattern) (now row) (now symbols) (now work) ⌝ }
     requires { ⌜ (load ≤ 255) × (end ≤ base) ⌝ }
-    ensures { λ r. ⌜ Worth matchLimit end r (rowBest most (now (symbols .entry)) (now (work .entry)) (now (row .entry)) load end) ⌝ }
+    ensures { λ r. ⌜ Worth matchLimit end r (rowBest most (now (symbols .entry)) (now (work .entry)) (now (pattern .entry)) (now (row .entry)) load end) ⌝ }
 {
     if end == 0 {
         return Words::ABSENT;
@@ -187,15 +212,7 @@ fn best_match(row: &[u32], symbols: &[u32], work: &[u64], most: usize, load: u32
     let mut arrival: u64 = 0;
     let mut k = 0;
     while k < count {
-        let w = input_word(
-            row,
-            symbols,
-            work,
-            most,
-            load,
-            end,
-            Row::INPUTS + Row::INPUT * k,
-        );
+        let w = input_word(pattern, row, symbols, work, most, load, end, k);
         if w == Words::ABSENT {
             return Words::ABSENT;
         }
@@ -203,7 +220,7 @@ fn best_match(row: &[u32], symbols: &[u32], work: &[u64], most: usize, load: u32
         arrival = later(arrival, w % Limits::TIMES);
         k += 1;
     }
-    (wide(row[Row::AREA]) + area) * Limits::TIMES + arrival
+    (wide(pattern[PatternRow::AREA]) + area) * Limits::TIMES + arrival
 }
 
 // The lesser of two words.
@@ -217,20 +234,32 @@ fn lower(a: u64, b: u64) -> u64
 }
 
 // The least point of a match before `end`, if the match is legal under the load.
-fn legal_match(row: &[u32], symbols: &[u32], work: &[u64], most: usize, load: u32, end: u64) -> u64
-    requires { ⌜ Tables most (now row) (now symbols) (now work) ⌝ }
+fn legal_match(
+    pattern: &[u32],
+    row: &[u8],
+    symbols: &[u32],
+    work: &[u64],
+    most: usize,
+    load: u32,
+    end: u64,
+) -> u64
+    requires { ⌜ Tables most (now pattern) (now row) (now symbols) (now work) ⌝ }
     requires { ⌜ (load ≤ 255) × (end ≤ base) ⌝ }
-    ensures { λ r. ⌜ Worth matchLimit end r (legalBest most (now (symbols .entry)) (now (work .entry)) (now (row .entry)) load end) ⌝ }
+    ensures { λ r. ⌜ Worth matchLimit end r (legalBest most (now (symbols .entry)) (now (work .entry)) (now (pattern .entry)) (now (row .entry)) load end) ⌝ }
 {
-    if row[Row::FIRST_ILLEGAL] <= load {
+    if pattern[PatternRow::HELD] != 0 {
         return Words::ABSENT;
     }
-    best_match(row, symbols, work, most, load, end)
+    if pattern[PatternRow::HIGHEST] < load {
+        return Words::ABSENT;
+    }
+    best_match(pattern, row, symbols, work, most, load, end)
 }
 
 // The least point before `end` of match j of a node, if it is legal under the load.
 pub fn match_best(
-    found: &[u32],
+    rows: &[u32],
+    found: &[u8],
     j: usize,
     symbols: &[u32],
     work: &[u64],
@@ -238,67 +267,103 @@ pub fn match_best(
     load: u32,
     end: u64,
 ) -> u64
-    requires { ⌜ Tables most (rowOf (now found) j) (now symbols) (now work) ⌝ }
+    requires { ⌜ RowKnown (now rows) (rowOf (now found) j) × (matchBytes * (j + 1) ≤ length (now found)) ⌝ }
+    requires { ⌜ Sources most (now symbols) (now work) ⌝ }
     requires { ⌜ (load ≤ 255) × (end ≤ base) ⌝ }
-    ensures { λ r. ⌜ Worth matchLimit end r (legalBest most (now (symbols .entry)) (now (work .entry)) (rowOf (now (found .entry)) j) load end) ⌝ }
+    ensures { λ r. ⌜ Worth matchLimit end r (legalBest most (now (symbols .entry)) (now (work .entry)) (patternOf (now (rows .entry)) (rowOf (now (found .entry)) j)) (rowOf (now (found .entry)) j) load end) ⌝ }
 {
-    let first = Row::WORDS * j;
-    legal_match(
-        &found[first..first + Row::WORDS],
-        symbols,
-        work,
-        most,
-        load,
-        end,
-    )
+    let first = Row::BYTES * j;
+    let row = &found[first..first + Row::BYTES];
+    let from = PatternRow::WORDS * (row[Row::PATTERN] as usize);
+    let pattern = &rows[from..from + PatternRow::WORDS];
+    legal_match(pattern, row, symbols, work, most, load, end)
 }
 
-// The least point before `end` of the first `count` matches.
-fn best(
-    found: &[u32],
+// The least point of each match before the latest instant, kept.
+fn keep_all(
+    rows: &[u32],
+    found: &[u8],
     count: usize,
     symbols: &[u32],
     work: &[u64],
-    most: usize,
-    load: u32,
+    kept: &mut [u64],
+    target: Target,
+)
+    requires { ⌜ Matches (target .most) (now rows) (now found) count (now symbols) (now work) ⌝ }
+    requires { ⌜ (target .load ≤ 255) × (count ≤ length (now kept)) ⌝ }
+    requires { ⌜ AllRising (target .most) (now symbols) (now work) (now rows) (now found) (target .load) count ⌝ }
+    ensures { λ r. ⌜ Kept (target .most) (now (symbols .entry)) (now (work .entry)) (now (rows .entry)) (now (found .entry)) (target .load) count base (now (kept .exit)) ⌝ }
+{
+    let load = target.load;
+    let most = target.most;
+    let mut j = 0;
+    while j < count {
+        kept[j] = match_best(rows, found, j, symbols, work, most, load, Limits::TIMES);
+        j += 1;
+    }
+}
+
+// The least point before `end` of the first `count` matches. A match's point only rises as the instant falls: one whose kept point is no less
+// than the least so far is passed over, and one that is still in time stays; only the others are worked out again.
+fn best(
+    rows: &[u32],
+    found: &[u8],
+    count: usize,
+    symbols: &[u32],
+    work: &[u64],
+    kept: &mut [u64],
+    target: Target,
     end: u64,
 ) -> u64
-    requires { ⌜ Matches most (now found) count (now symbols) (now work) ⌝ }
-    requires { ⌜ (load ≤ 255) × (end ≤ base) ⌝ }
-    ensures { λ r. ⌜ Worth matchLimit end r (rowsBest most (now (symbols .entry)) (now (work .entry)) (now (found .entry)) load end count) ⌝ }
+    requires { ⌜ Matches (target .most) (now rows) (now found) count (now symbols) (now work) ⌝ }
+    requires { ⌜ (target .load ≤ 255) × (end ≤ base) × (count ≤ length (now kept)) ⌝ }
+    requires { ⌜ AllRising (target .most) (now symbols) (now work) (now rows) (now found) (target .load) count ⌝ }
+    requires { ⌜ Kept (target .most) (now symbols) (now work) (now rows) (now found) (target .load) count end (now kept) ⌝ }
+    ensures { λ r. ⌜ Least (target .most) (now (symbols .entry)) (now (work .entry)) (now (rows .entry)) (now (found .entry)) (target .load) count end (now (kept .exit)) r ⌝ }
 {
+    let load = target.load;
+    let most = target.most;
     let mut least = Words::ABSENT;
     let mut j = 0;
     while j < count {
-        let w = match_best(found, j, symbols, work, most, load, end);
-        least = lower(least, w);
+        let mut w = kept[j];
+        if w < least {
+            if end <= w % Limits::TIMES {
+                w = match_best(rows, found, j, symbols, work, most, load, end);
+                kept[j] = w;
+            }
+            least = lower(least, w);
+        }
         j += 1;
     }
     least
 }
 
-// The curve of a node under a load, stored as the curve with this number: its points, latest first. Of more than `most` points, `most` are
-// stored and most + 1 is the answer.
+// The curve of a node under a load, stored as the curve with the target's number: its points, latest first. Of more than `most` points, `most`
+// are stored and most + 1 is the answer.
 pub fn curve(
-    found: &[u32],
+    rows: &[u32],
+    found: &[u8],
     count: usize,
     symbols: &[u32],
     work: &mut [u64],
-    most: usize,
-    load: u32,
-    at: usize,
+    kept: &mut [u64],
+    target: Target,
 ) -> usize
-    requires { ⌜ Matches most (now found) count (now symbols) (now work) ⌝ }
-    requires { ⌜ (at < 256) × (load ≤ 255) ⌝ }
-    requires { ⌜ Above at (now found) count ⌝ }
-    requires { ⌜ PointsFit most (now symbols) (now work) (now found) load count ⌝ }
-    ensures { λ r. ⌜ CurveStored most (now (symbols .entry)) (now (work .entry)) (now (found .entry)) load count at (now (work .exit)) r ⌝ }
+    requires { ⌜ Matches (target .most) (now rows) (now found) count (now symbols) (now work) ⌝ }
+    requires { ⌜ (target .at < 256) × (target .load ≤ 255) × (count ≤ length (now kept)) ⌝ }
+    requires { ⌜ Above (target .at) (now found) count ⌝ }
+    requires { ⌜ PointsFit (target .most) (now symbols) (now work) (now rows) (now found) (target .load) count ⌝ }
+    ensures { λ r. ⌜ CurveStored (target .most) (now (symbols .entry)) (now (work .entry)) (now (rows .entry)) (now (found .entry)) (target .load) count (target .at) (now (work .exit)) r ⌝ }
 {
+    let at = target.at;
+    let most = target.most;
     let first = (most + 1) * at;
+    keep_all(rows, found, count, symbols, work, kept, target);
     let mut end = Limits::TIMES;
     let mut k = 0;
     while k <= most {
-        let w = best(found, count, symbols, work, most, load, end);
+        let w = best(rows, found, count, symbols, work, kept, target, end);
         if w == Words::ABSENT {
             return k;
         }

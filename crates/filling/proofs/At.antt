@@ -26,7 +26,7 @@ module _ {l : Library} {t : Tree} {rows ss zs : List ℕ} {turn : Turn} {found�
 
   -- After the matches are found.
   module _ {found : List ℕ} {count : ℕ} (f : FoundIs l (turn .node) s found₀ found count) (gate : 0 < gates s) where
-    pub gate-ready : NodeReady ss work found count turn
+    pub gate-ready : NodeReady ss work rows found count turn
     gate-ready = record {
       matches = rows-ready (g .ready) f (g .curves);
       node = node-within (g .ready);
@@ -36,10 +36,10 @@ module _ {l : Library} {t : Tree} {rows ss zs : List ℕ} {turn : Turn} {found�
       zero = g .zero;
     }
 
-    points-are : (b : ℕ) → b < turn .bins .count → pointsUnder ss work found count turn b ≡ take (turn .most + 1) (curveUnder l s turn b)
+    points-are : (b : ℕ) → b < turn .bins .count → pointsUnder ss work rows found count turn b ≡ take (turn .most + 1) (curveUnder l s turn b)
     points-are b h = curve-is-found (g .ready) f (turn .most) work (g .filled) gate (loadAt turn b) (g .light b h)
 
-    pub gate-done : {work′ : List ℕ} {r : Counts} → NodeFilled ss work found count turn work′ r → NodeDone l s turn work work′ r
+    pub gate-done : {work′ : List ℕ} {r : Counts} → NodeFilled ss work rows found count turn work′ r → NodeDone l s turn work work′ r
     gate-done h =
         record {
           counted = λ q b k. h .counted b k ∙ ap length (points-are b k);

@@ -1,52 +1,54 @@
 -- One node of the decoded tree: what its symbol says, its found rows, which are safe to read, and the least points and the curve read from the tables, which are those of its covers.
 use mathlib.Core.Path.{_≡_, refl, sym, ap, subst, fun-ext, _∙_}
 use mathlib.Core.Logic.{_⊎_, inl, inr, ⊎-elim}
-use mathlib.Core.Bool.{false}
+use mathlib.Core.Bool.{Bool, true, false, cond}
 use mathlib.Core.List.{List, [], map, List·Memᴰ}
-use mathlib.Core.Option.{Option, some, Option·none-ne-some, Option·some-injective}
+use mathlib.Core.Option.{Option, none, some, Option·none-ne-some}
 use Prim.Native.Nat.{ℕ, suc, _+_, _-_, _*_, _≤_, _<_}
 use native.Mathlib.Omega.{arith}
-use lib.ListN.{length, getD, take}
-use Rattle.sheets.specs.Model.{Shape, leaf, inv, nand, size, leaves, Cell, Library, Tree}
-use Rattle.sheets.specs.Layout.{tableFrom}
+use lib.ListN.{length, getD, take, drop}
+use Rattle.sheets.specs.Model.{Shape, leaf, inv, nand, size, leaves, Pin, Cell, Library, Tree, patterns}
+use Rattle.sheets.specs.Layout.{tableFrom, rowWords, figuresAt, pinWords}
 use Rattle.sheets.specs.Sound.{SoundCell, SoundLibrary}
-use Rattle.covers.specs.Match.{Input, Match, fitting, matches, pinAt, pinLoad}
+use Rattle.covers.specs.Crossing.{redrawn}
+use Rattle.covers.specs.Match.{Input, Match, legal, fitting, matches, pinAt, pinLoad}
 use Rattle.covers.specs.Cover.{Point, Cover, feeds, raised, topped, IsCover, bare, matching}
-use Rattle.covers.specs.Enumeration.{covers}
+use Rattle.covers.specs.Enumeration.{matchCovers, gateCovers, covers, allBelow}
 use Rattle.covers.specs.Choice.{least}
 use Rattle.covers.specs.Tradeoff.{Node}
-use Rattle.covers.specs.Curve.{Filled, base, byDeadline, curve, gates}
-use Rattle.covers.proofs.Basics.{at-all}
-use Rattle.covers.proofs.Least.{In, LeastOf, absent, found as reached, least-is}
+use Rattle.covers.specs.Curve.{Filled, base, byDeadline, curve, gates, wordOf}
+use Rattle.covers.proofs.Basics.{at-below, at-value, at-all, in-select, in-flatMap}
+use Rattle.covers.proofs.Least.{In, IsLeast, least-is, least-some, least-rises}
 use Rattle.covers.proofs.Matching.{size-pos, fitting-are, fits-inside, spread-in}
 use Rattle.covers.proofs.Nodes.{nodeOf, fits-in, nodes-within, leaves-within}
 use Rattle.covers.proofs.Bounds.{numbered-cell, area-bound, arrive-before}
 use Rattle.covers.proofs.Relation.{covers-are}
 use Rattle.covers.proofs.Curve.{curve-found}
-use Rattle.covers.proofs.Filling.{best-from-table}
+use Rattle.covers.proofs.Deadline.{bestMatch}
+use Rattle.covers.proofs.Unroll.{gate-covers}
+use Rattle.covers.proofs.Filling.{fromTable, best-from-table, match-from-table}
 use Rattle.covers.proofs.FromSheets.{limited, binned}
 use Rattle.fields.proofs.Lists.{at-mem}
 use Rattle.overlay.specs.Standing.{Stands, Subject}
+use Rattle.overlay.specs.Held.{PinHeld, CellHeld}
+use Rattle.overlay.proofs.Patterns.{noInput, noPattern, patternAt, rows-long, row-held}
 use Rattle.overlay.proofs.Standing.{stands-everywhere, subject-everywhere}
-use Rattle.matching.specs.Found.{matchWords, inputSize, inputPlace, inputWords, matchRow}
+use Rattle.matching.specs.Found.{matchMost, matchBytes, inputPlace, matchRow}
 use Rattle.matching.specs.Promises.{Ready}
-use Rattle.matching.proofs.Written.{length-row, row-input}
+use Rattle.matching.proofs.Written.{length-row, row-pin, row-node}
 use Rattle.matching.proofs.Patterns.{SoundMatch, fitting-sound, fitting-few, match-row-at}
 use Rattle.sheets.proofs.Tables.{length-table}
 use Rattle.curves.specs.Words.{tableOf, WorkArea}
-use Rattle.curves.specs.Best.{rowOf, rowCount, RowSafe, Sources, Matches, Above, rowsBest}
-use Rattle.curves.specs.Promises.{bestBefore, nodePoints, PointsFit, Fit}
-use Rattle.curves.proofs.Laws.{part-word}
+use Rattle.curves.specs.Best.{rowOf, patternOf, rowCount, InputSafe, RowKnown, Sources, Matches, Above, rowsBest}
+use Rattle.curves.specs.Promises.{matchBefore, Rising, bestBefore, nodePoints, PointsFit, Fit}
+use Rattle.curves.proofs.Laws.{part-word, point-order}
 use Rattle.overlay.proofs.Symbols.{symbols-small}
-use Rattle.filling.proofs.Rows.{Heads, Headed, Holds, rows-are-best}
+use Rattle.filling.proofs.Rows.{Heads, Headed, Holds, Found, legal-row, rows-are-best}
 
 -- ---- a node
 
-abbrev noInput : Input
-noInput = record { pin = 0; node = 0; shape = leaf 0 }
-
 abbrev pub noMatch : Match
-noMatch = record { number = 0; pattern = record { cellNumber = 0; cell = record { held = false; area = 0; highest = 0; pins = []; drawings = [] }; drawing = leaf 0 }; inputs = [] }
+noMatch = record { number = 0; crossing = 0; pattern = record { cellNumber = 0; cell = record { held = false; area = 0; highest = 0; pins = []; drawings = [] }; drawing = leaf 0 }; inputs = [] }
 
 -- A gate's cover has some area.
 cover-area : {l : Library} {load n : ℕ} {s : Shape} {c : Cover} → SoundLibrary l → IsCover l load n s c → 0 < gates s → 1 ≤ c .point .area
@@ -83,8 +85,8 @@ module _ {l : Library} {t : Tree} {rows ss zs : List ℕ} {n room : ℕ} {s : Sh
   pub gate-here : getD ss n 0 < 2 → 0 < gates s
   gate-here h = ⊎-elim (λ q. absurd (omega (arith, q .1))) (λ q. q .0) leaf-or-gate
 
-  sound-match : {m : Match} → List·Memᴰ m (fitting l n s) → SoundMatch n s l m
-  sound-match = fitting-sound n s l (g .decoded .library)
+  sound-match : {m : Match} → List·Memᴰ m (fitting l n s) → SoundMatch l n s m
+  sound-match = fitting-sound l n s (g .decoded .library)
 
   heads-of : (x : Node) → Stands ss zs (x .number) (x .shape) → Heads (getD ss (x .number) 0) (x .shape)
   heads-of x = go (x .shape)
@@ -95,12 +97,12 @@ module _ {l : Library} {t : Tree} {rows ss zs : List ℕ} {n room : ℕ} {s : Sh
       go (nand a b) h = h .0
 
   pub headed : {m : Match} → List·Memᴰ m (fitting l n s) → Headed ss (m .inputs)
-  headed {m} k i j = heads-of (nodeOf i) (stands-everywhere (g .decoded) (nodeOf i) (nodes-within 0 (t .shape) (g .here) (fits-in (m .pattern .drawing) n s (m .inputs) (fitting-are l n s k .1) i j)))
+  headed {m} k i j = heads-of (nodeOf i) (stands-everywhere (g .decoded) (nodeOf i) (nodes-within 0 (t .shape) (g .here) (fits-in (redrawn (m .crossing) (m .pattern .drawing)) n s (m .inputs) (fitting-are l n s k .fits) i j)))
 
   -- Where an input stands.
   place-of : {m : Match} → List·Memᴰ m (fitting l n s) → (i : Input) → List·Memᴰ i (m .inputs) → (n < i .node) × (i .node < 64)
   place-of {m} k i j =
-      let p = spread-in (fits-inside (m .pattern .drawing) n s (fitting-are l n s k .1) .spread) j in
+      let p = spread-in (fits-inside (redrawn (m .crossing) (m .pattern .drawing)) n s (fitting-are l n s k .fits) .spread) j in
       (p .0, omega (arith, p .1, here .ends, size-pos (i .shape)))
 
 -- ---- its matches
@@ -108,7 +110,7 @@ module _ {l : Library} {t : Tree} {rows ss zs : List ℕ} {n room : ℕ} {s : Sh
 -- The matches of a node as they are found.
 pub record FoundIs (l : Library) (n : ℕ) (s : Shape) (found₀ found : List ℕ) (count : ℕ) : Type 0 where
   pub many : count ≡ length (fitting l n s)
-  pub table : found ≡ tableFrom matchWords found₀ 0 (map (matchRow l) (fitting l n s))
+  pub table : found ≡ tableFrom matchBytes found₀ 0 (map matchRow (fitting l n s))
 
 module _ {l : Library} {t : Tree} {rows ss zs : List ℕ} {n : ℕ} {found₀ : List ℕ} {s : Shape} (g : Ready l t rows ss zs n (length found₀) s)
     {found : List ℕ} {count : ℕ} (f : FoundIs l n s found₀ found count) where
@@ -121,60 +123,93 @@ module _ {l : Library} {t : Tree} {rows ss zs : List ℕ} {n : ℕ} {found₀ : 
   pub match-in : (j : ℕ) → j < count → List·Memᴰ (matchAt j) (fitting l n s)
   match-in j h = at-mem (fitting l n s) j noMatch (omega (arith, f .many))
 
-  pub row-holds : (j : ℕ) → j < count → Holds l (rowOf found j) (matchAt j)
+  pub row-holds : (j : ℕ) → j < count → Holds (rowOf found j) (matchAt j)
   row-holds j h c k =
       let few = sound-match g (match-in j h) .row-few in
-      part-word matchWords (matchWords * j) found c (omega arith) ∙ ap (λ (q : List ℕ). getD q (matchWords * j + c) 0) (f .table)
+      part-word matchBytes (matchBytes * j) found c (omega arith) ∙ ap (λ (q : List ℕ). getD q (matchBytes * j + c) 0) (f .table)
       ∙ match-row-at l n s sound found₀ (g .room-is) noMatch j c (omega (arith, f .many)) k
 
-  -- How many inputs there are, and the words of input k.
+  -- The row's pattern, and its own row.
+  number-is : (j : ℕ) → j < count → getD (rowOf found j) 0 0 ≡ matchAt j .number
+  unfolding matchRow
+  number-is j h = row-holds j h 0 (omega arith)
+
+  number-small : (j : ℕ) → j < count → matchAt j .number < length (patterns l)
+  number-small j h = at-below (patterns l) (matchAt j .number) (sound-match g (match-in j h) .fitting-is .numbered)
+
+  pub pattern-held : (j : ℕ) → j < count → CellHeld l (patternOf rows (rowOf found j)) (matchAt j .pattern .cell)
+  pattern-held j h =
+      let m = matchAt j in
+      let same : patternAt l (m .number) ≡ m .pattern = at-value (patterns l) (m .number) noPattern (sound-match g (match-in j h) .fitting-is .numbered) in
+      let held = row-held (g .decoded) (m .number) (number-small j h) rowWords refl .cell in
+      subst (λ p. CellHeld l (patternOf rows (rowOf found j)) (p .cell)) same
+      (subst (λ k. CellHeld l (take rowWords (drop (rowWords * k) rows)) (patternAt l (m .number) .cell)) (sym (number-is j h)) held)
+
+  pub found-at : (j : ℕ) → j < count → Found l rows ss (rowOf found j) (matchAt j)
+  found-at j h = record { holds = row-holds j h; held = pattern-held j h; pinned = sound-match g (match-in j h) .pinned; headed = headed g (match-in j h) }
+
+  -- How many inputs there are, and input k.
   row-many : (j : ℕ) → j < count → rowCount (rowOf found j) ≡ length (matchAt j .inputs)
   unfolding matchRow
-  row-many j h = row-holds j h 3 (omega arith)
+  row-many j h = row-holds j h 2 (omega arith)
 
-  input-word : (j : ℕ) → j < count → (k w : ℕ) → k < length (matchAt j .inputs) → w < inputSize →
-      getD (rowOf found j) (inputPlace k + w) 0 ≡ getD (inputWords l (matchAt j .pattern .cell) (getD (matchAt j .inputs) k noInput)) w 0
-  input-word j h k w hk hw = row-holds j h (inputPlace k + w) (omega (arith, length-row l (matchAt j))) ∙ row-input l (matchAt j) noInput k w hk hw
+  module _ (j : ℕ) (h : j < count) (k : ℕ) (hk : k < length (matchAt j .inputs)) where
+    abbrev inputAt : Input
+    inputAt = getD (matchAt j .inputs) k noInput
 
-  input-node : (j : ℕ) → j < count → (k : ℕ) → k < length (matchAt j .inputs) → getD (rowOf found j) (inputPlace k) 0 ≡ getD (matchAt j .inputs) k noInput .node
-  unfolding inputWords
-  input-node j h k hk = let at : inputPlace k ≡ inputPlace k + 0 = omega arith in ap (λ (i : ℕ). getD (rowOf found j) i 0) at ∙ input-word j h k 0 hk (omega arith)
+    input-in : List·Memᴰ inputAt (matchAt j .inputs)
+    input-in = at-mem (matchAt j .inputs) k noInput hk
 
-  row-safe : (j : ℕ) → j < count → RowSafe (rowOf found j)
-  unfolding matchRow inputWords
-  row-safe j h =
-      let m = matchAt j in
+    input-pin : getD (rowOf found j) (inputPlace k) 0 ≡ inputAt .pin
+    input-pin = row-holds j h (inputPlace k) (omega (arith, length-row (matchAt j))) ∙ row-pin (matchAt j) k hk
+
+    input-node : getD (rowOf found j) (inputPlace k + 1) 0 ≡ inputAt .node
+    input-node = row-holds j h (inputPlace k + 1) (omega (arith, length-row (matchAt j))) ∙ row-node (matchAt j) k hk
+
+    input-held : PinHeld l (patternOf rows (rowOf found j)) (figuresAt + pinWords * getD (rowOf found j) (inputPlace k) 0) (pinAt (matchAt j .pattern .cell) (inputAt .pin))
+    input-held =
+        subst (λ x. PinHeld l (patternOf rows (rowOf found j)) (figuresAt + pinWords * x) (pinAt (matchAt j .pattern .cell) (inputAt .pin))) (sym input-pin)
+        (pattern-held j h .pins-are (inputAt .pin) (sound-match g (match-in j h) .pinned inputAt input-in))
+
+    input-safe : InputSafe (patternOf rows (rowOf found j)) (rowOf found j) k
+    input-safe =
+        let sm = sound-match g (match-in j h) in
+        let c = matchAt j .pattern .cell in
+        let p = pinAt c (inputAt .pin) in
+        let pin = sound-pin (sm .cell) (inputAt .pin) in
+        record {
+          pin = omega (arith, input-pin, sm .pinned inputAt input-in, sm .cell .few-pins);
+          node = rw input-node (place-of g (match-in j h) inputAt input-in .1);
+          bin = rw (input-held .bin-is) (omega (arith, pin .0, sound .few-bins));
+          load = rw (input-held .load-is) (light p);
+          intrinsic = rw (input-held .intrinsic-is) (pin .1);
+          drive = rw (input-held .drive-is) (pin .2);
+        }
+      where
+        sound-pin : {c : Cell} → SoundCell (length (l .bins)) c → (x : ℕ) → (pinAt c x .bin < length (l .bins)) × (pinAt c x .intrinsic ≤ 65535) × (pinAt c x .drive ≤ 255)
+        sound-pin {c} sc x = unfold pinAt in at-all (λ p. (p .bin < length (l .bins)) × (p .intrinsic ≤ 65535) × (p .drive ≤ 255)) (c .pins) x (record { bin = 0; intrinsic = 0; drive = 0 }) (omega (arith, sound .some-bin), omega arith, omega arith) (sc .pins)
+
+        light : (p : Pin) → pinLoad l p ≤ 255
+        light p = unfold pinLoad in at-all (λ x. x ≤ 255) (l .bins) (p .bin) 0 (omega arith) (sound .loads)
+
+  row-known : (j : ℕ) → j < count → RowKnown rows (rowOf found j)
+  row-known j h =
       let sm = sound-match g (match-in j h) in
       let many = row-many j h in
       record {
-        area = omega (arith, row-holds j h 1 (omega arith), sm .cell .area);
-        few = omega (arith, many, sm .few);
-        inputs = λ q below.
-            let i = getD (m .inputs) q noInput in
-            let inside : q < length (m .inputs) = omega arith in
-            let pin = sound-pin (sm .cell) i in
-            record {
-              node = rw (input-node j h q inside) (place-of g (match-in j h) i (at-mem (m .inputs) q noInput inside) .1);
-              bin = rw (input-word j h q 1 inside (omega arith)) (omega (arith, pin .0, sound .few-bins));
-              load = rw (input-word j h q 2 inside (omega arith)) (light (m .pattern .cell) i);
-              intrinsic = rw (input-word j h q 3 inside (omega arith)) (pin .1);
-              drive = rw (input-word j h q 4 inside (omega arith)) (pin .2);
-              room = omega (arith, sm .few);
-            };
+        known = omega (arith, number-is j h, number-small j h, rows-long (g .decoded));
+        safe = record { area = omega (arith, pattern-held j h .area-is, sm .cell .area); few = omega (arith, many, sm .few); inputs = λ k below. input-safe j h k (omega arith) };
       }
-    where
-      sound-pin : {c : Cell} → SoundCell (length (l .bins)) c → (i : Input) → (feeds c i .bin < length (l .bins)) × (feeds c i .intrinsic ≤ 65535) × (feeds c i .drive ≤ 255)
-      sound-pin {c} sc i = unfold feeds pinAt in at-all (λ p. (p .bin < length (l .bins)) × (p .intrinsic ≤ 65535) × (p .drive ≤ 255)) (c .pins) (i .pin) (record { bin = 0; intrinsic = 0; drive = 0 }) (omega (arith, sound .some-bin), omega arith, omega arith) (sc .pins)
 
-      light : (c : Cell) (i : Input) → pinLoad l (feeds c i) ≤ 255
-      light c i = unfold pinLoad in at-all (λ x. x ≤ 255) (l .bins) (feeds c i .bin) 0 (omega arith) (sound .loads)
-
-  pub rows-ready : {most : ℕ} {work : List ℕ} → WorkArea most work → Matches most found count ss work
+  pub rows-ready : {most : ℕ} {work : List ℕ} → WorkArea most work → Matches most rows found count ss work
   rows-ready w = record {
-    rows = row-safe;
-    room = omega (arith, f .many, fitting-few n s l, sound .few-patterns, ap length (f .table), length-table matchWords found₀ 0 (map (matchRow l) (fitting l n s)), g .room-is);
+    rows-known = row-known;
+    room = omega (arith, f .many, fitting-few l n s, sound .few-patterns, ap length (f .table), length-table matchBytes found₀ 0 (map matchRow (fitting l n s)), g .room-is);
     sources = sources g w;
   }
+
+  pub count-few : count ≤ matchMost
+  count-few = omega (arith, f .many, fitting-few l n s, sound .few-patterns)
 
   pub rows-above : Above (4 * n + 3) found count
   rows-above j h k below =
@@ -184,26 +219,69 @@ module _ {l : Library} {t : Tree} {rows ss zs : List ℕ} {n : ℕ} {found₀ : 
 
   -- With the curves of all later nodes in the work area.
   module _ (most : ℕ) (work : List ℕ) (filled : Filled l (t .shape) (tableOf most work) (suc n)) (gate : 0 < gates s) (load : ℕ) (light : load ≤ 255) where
-    best-is-least : (end : ℕ) → bestBefore most ss work found load count end ≡ least end (covers l load n s)
+    best-is-least : (end : ℕ) → bestBefore most ss work rows found load count end ≡ least end (covers l load n s)
     unfolding matches
     best-is-least end =
-        ap (rowsBest most ss work found load end) (f .many)
-        ∙ rows-are-best most l ss work found load end (fitting l n s) noMatch (λ j h. row-holds j (omega (arith, f .many))) (λ m k. headed g k)
+        ap (rowsBest most ss work rows found load end) (f .many)
+        ∙ rows-are-best most l ss work rows found load end (fitting l n s) noMatch (λ j h. found-at j (omega (arith, f .many)))
         ∙ best-from-table l (binned sound) (t .shape) (tableOf most work) n s filled (g .here) load end gate
 
     timely : (c : Cover) → In (covers l load n s) c → c .point .arrival < base
     timely c k = omega (arith, arrive-before (limited sound) (t .shape) (g .decoded .tree .size) (g .decoded .tree .leaves) (g .here) light c k)
 
-    pub points-fit : PointsFit most ss work found load count
-    points-fit end p e = go (least-is end (covers l load n s)) (sym (best-is-least end) ∙ e)
-      where
-        go : {o : Option Point} → LeastOf end (In (covers l load n s)) o → o ≡ some p → Fit p
-        go (absent a) q = absurd (Option·none-ne-some p q)
-        go (reached {p = r} c) q =
-            let same : c .cover .point ≡ p = c .point ∙ Option·some-injective r p q in
-            let legal-cover = covers-are l load n s (c .among) in
-            let bound = area-bound (limited sound) legal-cover light (omega (arith, here g .ends)) (λ x j. g .decoded .tree .leaves x (leaves-within 0 (t .shape) (g .here) j)) in
-            subst Fit same (record { some-area = cover-area sound legal-cover gate; area = omega arith; arrival = timely (c .cover) (c .among) })
+    cover-fits : (c : Cover) → In (covers l load n s) c → Fit (c .point)
+    cover-fits c k =
+        let legal-cover = covers-are l load n s k in
+        let bound = area-bound (limited sound) legal-cover light (omega (arith, here g .ends)) (λ x j. g .decoded .tree .leaves x (leaves-within 0 (t .shape) (g .here) j)) in
+        record { some-area = cover-area sound legal-cover gate; area = omega arith; arrival = timely c k }
 
-    pub curve-is-found : nodePoints most ss work found load count ≡ take (most + 1) (curve (covers l load n s))
+    -- The covers with one of the matches on top, and that its points rise.
+    module _ (j : ℕ) (h : j < count) where
+      abbrev matchOnly : List Cover
+      matchOnly = matchCovers (allBelow l) load n (matchAt j)
+
+      module _ (allowed : legal (matchAt j .pattern .cell) load ≡ true) where
+        match-legal : List·Memᴰ (matchAt j) (matches l load n s)
+        unfolding matches
+        match-legal = in-select (λ m. legal (m .pattern .cell) load) (fitting l n s) (match-in j h) allowed
+
+        before-is : (end : ℕ) → matchBefore most ss work rows found load j end ≡ least end matchOnly
+        before-is end =
+            legal-row (found-at j h) most work load end ∙ ap (λ (b : Bool). cond b (bestMatch (fromTable l (tableOf most work)) load end (matchAt j)) none) allowed
+            ∙ match-from-table l (binned sound) (t .shape) (tableOf most work) n s filled (g .here) load end match-legal
+
+        among : (c : Cover) → In matchOnly c → In (covers l load n s) c
+        unfolding gateCovers
+        among c k = subst (λ cs. In cs c) (sym (gate-covers l load n s gate)) (in-flatMap (matchCovers (allBelow l) load n) match-legal k)
+
+        least-fits : {end : ℕ} {p : Point} → IsLeast end (In matchOnly) p → Fit p
+        least-fits f = subst Fit (f .point) (cover-fits (f .cover) (among (f .cover) (f .among)))
+
+        legal-rises : Rising most ss work rows found load j
+        unfolding wordOf
+        legal-rises = record {
+          intime = λ end p e. least-some (least-is end matchOnly) (sym (before-is end) ∙ e) .intime;
+          small = λ end p e. let f = least-fits (least-some (least-is end matchOnly) (sym (before-is end) ∙ e)) in omega (arith, f .area, f .arrival);
+          rises = λ end end′ less p e.
+              let z = least-rises less matchOnly (sym (before-is end) ∙ e) in
+              (z .0, before-is end′ ∙ z .1, point-order (z .2) (least-fits (least-some (least-is end′ matchOnly) (z .1)) .arrival));
+        }
+
+      match-rises : Rising most ss work rows found load j
+      match-rises = go (legal (matchAt j .pattern .cell) load) refl
+        where
+          go : (b : Bool) → legal (matchAt j .pattern .cell) load ≡ b → Rising most ss work rows found load j
+          go true e = legal-rises e
+          go false e =
+              let never : (end : ℕ) (p : Point) → matchBefore most ss work rows found load j end ≡ some p → ⊥ =
+              λ end p q. Option·none-ne-some p (sym (legal-row (found-at j h) most work load end ∙ ap (λ (b : Bool). cond b (bestMatch (fromTable l (tableOf most work)) load end (matchAt j)) none) e) ∙ q) in
+              record { intime = λ end p q. absurd (never end p q); small = λ end p q. absurd (never end p q); rises = λ end end′ less p q. absurd (never end p q) }
+
+    pub points-fit : PointsFit most ss work rows found load count
+    points-fit = record {
+      fit = λ end p e. let f = least-some (least-is end (covers l load n s)) (sym (best-is-least end) ∙ e) in subst Fit (f .point) (cover-fits (f .cover) (f .among));
+      rising = match-rises;
+    }
+
+    pub curve-is-found : nodePoints most ss work rows found load count ≡ take (most + 1) (curve (covers l load n s))
     curve-is-found = ap (λ (best : ℕ → Option Point). byDeadline (most + 1) best base) (fun-ext best-is-least) ∙ curve-found (most + 1) base (covers l load n s) timely

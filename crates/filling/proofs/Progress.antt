@@ -20,7 +20,7 @@ use Rattle.covers.specs.Curve.{Filled, curve, gates}
 use Rattle.covers.proofs.Basics.{lt-or-le, at-all, true-any, false-any}
 use Rattle.covers.proofs.Matching.{size-pos}
 use Rattle.covers.proofs.Tradeoffs.{leaf-tradeoffs}
-use Rattle.covers.proofs.Nodes.{root-in}
+use Rattle.covers.proofs.Nodes.{node-at, root-in}
 use Rattle.covers.proofs.Ascending.{ascending-range, ascending-unique}
 use Rattle.covers.proofs.Overfull.{nodes-ascend, overfull-named, LastOf, nowhere, at, highest-unique}
 use Rattle.covers.proofs.Filling.{filled-start, filled-next}
@@ -34,16 +34,6 @@ use Rattle.filling.specs.declared.Counts.{Counts}
 use Rattle.filling.specs.Promises.{loadAt, curveUnder, FillReady, NodeDone, Exceeds, FillStart}
 
 -- ---- nodes and their trade-offs
-
--- Every number within a tree is a node's.
-node-at : (n : ℕ) (s : Shape) (k : ℕ) → n ≤ k → k < n + size s → (x : Shape) × List·Memᴰ (record { number = k; shape = x }) (nodes n s)
-unfolding nodes size
-node-at n (leaf z) k h g = let e : k ≡ n = omega arith in (leaf z, rw e (List·Memᴰ·head refl))
-node-at n (inv s) k h g = ⊎-elim (λ l. let r = node-at (suc n) s k l (omega arith) in (r .0, List·Memᴰ·tail (r .1))) (λ l. let e : k ≡ n = omega arith in (inv s, rw e (List·Memᴰ·head refl))) (lt-or-le n k)
-node-at n (nand s t) k h g =
-    ⊎-elim (λ l. ⊎-elim (λ m. let r = node-at (suc n) s k l m in (r .0, List·Memᴰ·tail (Memᴰ·append-left (nodes (suc n + size s) t) (r .1))))
-    (λ m. let r = node-at (suc n + size s) t k m (omega arith) in (r .0, List·Memᴰ·tail (Memᴰ·append-right (nodes (suc n) s) (r .1)))) (lt-or-le k (suc n + size s)))
-    (λ l. let e : k ≡ n = omega arith in (nand s t, rw e (List·Memᴰ·head refl))) (lt-or-le n k)
 
 -- A member stands somewhere.
 index-of : {x : ℕ} (l : List ℕ) → List·Memᴰ x l → (b : ℕ) × (b < length l) × (getD l b 0 ≡ x)

@@ -13,14 +13,14 @@ use Rattle.covers.specs.Curve.{base, byDeadline, wordOf}
 use Rattle.curves.specs.Words.{curveAt, tableOf, stored, AgreeFrom, ZeroBelow, WorkArea}
 use Rattle.curves.specs.Best.{rowsBest, Matches}
 use Rattle.curves.specs.Promises.{bestBefore, nodePoints, PointsFit, CurveStored}
-use Rattle.curves.proofs.Laws.{slot-within}
-use Rattle.curves.proofs.Frames.{curve-other, curve-laid, rows-same, deadline-all, deadline-few}
+use Rattle.curves.proofs.Laws.{slot-within, matches-in}
+use Rattle.curves.proofs.Frames.{curve-other, curve-laid, rows-same, rising-same, deadline-all, deadline-few}
 use Rattle.filling.specs.declared.Turn.{Turn}
 use Rattle.filling.specs.Promises.{loadAt, firstCurve, nextCurve, pointsUnder, NodeReady, NodeFilled}
 
-module _ (symbols work₀ found : List ℕ) (count : ℕ) (turn : Turn) where
+module _ (symbols work₀ rows found : List ℕ) (count : ℕ) (turn : Turn) where
   abbrev under : ℕ → List Point
-  under = pointsUnder symbols work₀ found count turn
+  under = pointsUnder symbols work₀ rows found count turn
 
   -- The curves under the loads from b on are stored.
   pub record Done (b : ℕ) (work points : List ℕ) : Type 0 where
@@ -32,15 +32,15 @@ module _ (symbols work₀ found : List ℕ) (count : ℕ) (turn : Turn) where
     pub counted : (i : ℕ) → b ≤ i → i < turn .bins .count → getD points i 0 ≡ length (under i)
     pub stored-are : (i : ℕ) → b ≤ i → i < turn .bins .count → length (under i) ≤ turn .most → tableOf (turn .most) work (turn .node) i ≡ under i
 
-module _ {symbols work₀ found : List ℕ} {count : ℕ} {turn : Turn} (ready : NodeReady symbols work₀ found count turn) where
+module _ {symbols work₀ rows found : List ℕ} {count : ℕ} {turn : Turn} (ready : NodeReady symbols work₀ rows found count turn) where
   abbrev most : ℕ
   most = turn .most
 
   abbrev wanted : ℕ → List Point
-  wanted = pointsUnder symbols work₀ found count turn
+  wanted = pointsUnder symbols work₀ rows found count turn
 
   abbrev DoneTo : ℕ → List ℕ → List ℕ → Type 0
-  DoneTo = Done symbols work₀ found count turn
+  DoneTo = Done symbols work₀ rows found count turn
 
   pub done-start : (points : List ℕ) → length points ≡ 4 → DoneTo (turn .bins .count) work₀ points
   done-start points e = record {
@@ -55,26 +55,27 @@ module _ {symbols work₀ found : List ℕ} {count : ℕ} {turn : Turn} (ready :
 
   module _ {b : ℕ} {work points : List ℕ} (d : DoneTo b work points) where
     -- What the tables say is what they said at the start.
-    done-same : (load e : ℕ) → rowsBest most symbols work found load e count ≡ rowsBest most symbols work₀ found load e count
-    done-same load e = rows-same most symbols work work₀ (firstCurve turn + 3) (λ j l. d .agree j (omega arith)) found load e count (ready .above)
+    done-same : (load e : ℕ) → rowsBest most symbols work rows found load e count ≡ rowsBest most symbols work₀ rows found load e count
+    done-same load e = rows-same most symbols work work₀ (firstCurve turn + 3) (λ j l. d .agree j (omega arith)) rows found load count (ready .above) e
 
-    pub same-points : (i : ℕ) → nodePoints most symbols work found (loadAt turn i) count ≡ wanted i
+    pub same-points : (i : ℕ) → nodePoints most symbols work rows found (loadAt turn i) count ≡ wanted i
     same-points i = ap (λ (f : ℕ → Option Point). byDeadline (most + 1) f base) (fun-ext (done-same (loadAt turn i)))
 
-    pub done-fit : (i : ℕ) → i < turn .bins .count → PointsFit most symbols work found (loadAt turn i) count
-    done-fit i h e p q = ready .fit i h e p (sym (done-same (loadAt turn i) e) ∙ q)
+    pub done-fit : (i : ℕ) → i < turn .bins .count → PointsFit most symbols work rows found (loadAt turn i) count
+    done-fit i h = record {
+      fit = λ e p q. ready .fit i h .fit e p (sym (done-same (loadAt turn i) e) ∙ q);
+      rising = rising-same most symbols work₀ work (firstCurve turn + 3) (λ j l. sym (d .agree j (omega arith))) rows found (loadAt turn i) count (ready .above) (ready .fit i h .rising);
+    }
 
-    pub done-matches : Matches most found count symbols work
-    done-matches =
-        let m = ready .matches in
-        record { rows = m .rows; room = m .room; sources = record { symbols-length = m .sources .symbols-length; symbols-small = m .sources .symbols-small; curves = d .curves } }
+    pub done-matches : Matches most rows found count symbols work
+    done-matches = matches-in (ready .matches) (d .curves)
 
     -- A count is told in a byte.
-    pub count-small : (i r : ℕ) → r ≡ length (nodePoints most symbols work found (loadAt turn i) count) → r ≤ 255
-    count-small i r e = omega (arith, deadline-few (most + 1) (bestBefore most symbols work found (loadAt turn i) count) base, d .curves .bounded)
+    pub count-small : (i r : ℕ) → r ≡ length (nodePoints most symbols work rows found (loadAt turn i) count) → r ≤ 255
+    count-small i r e = omega (arith, deadline-few (most + 1) (bestBefore most symbols work rows found (loadAt turn i) count) base, d .curves .bounded)
 
   pub done-next : (b : ℕ) {work points : List ℕ} → b < turn .bins .count → DoneTo (b + 1) work points → (work′ : List ℕ) (r : ℕ) → length work′ ≡ length work →
-      CurveStored most symbols work found (loadAt turn b) count (firstCurve turn + b) work′ r → DoneTo b work′ (set points b r)
+      CurveStored most symbols work rows found (loadAt turn b) count (firstCurve turn + b) work′ r → DoneTo b work′ (set points b r)
   done-next b {work} {points} hb d work′ r el c =
       let at = firstCurve turn + b in
       let words = map wordOf (take most (wanted b)) in
@@ -105,10 +106,10 @@ module _ {symbols work₀ found : List ℕ} {count : ℕ} {turn : Turn} (ready :
           let at = firstCurve turn + b in
           ap (λ (q : List ℕ). tableOf most q (turn .node) b) (laid ∙ ap (λ (q : List Point). sets work ((most + 1) * at) (map wordOf q)) (take-all most (wanted b) few))
           ∙ curve-laid most work at (wanted b) (d .zero at (omega arith)) few (slot-within (d .curves) at (omega (arith, ready .node, ready .few-bins)) .1)
-          (deadline-all (most + 1) (bestBefore most symbols work₀ found (loadAt turn b) count) base (ready .fit b hb)))
+          (deadline-all (most + 1) (bestBefore most symbols work₀ rows found (loadAt turn b) count) base (ready .fit b hb .fit)))
       curve-is i (inr l) m laid others = λ few. ap stored (others (firstCurve turn + i) (λ e. absurd (omega arith))) ∙ d .stored-are i (omega arith) m few
 
-  pub done-all : {work points : List ℕ} → DoneTo 0 work points → NodeFilled symbols work₀ found count turn work (record { points = points })
+  pub done-all : {work points : List ℕ} → DoneTo 0 work points → NodeFilled symbols work₀ rows found count turn work (record { points = points })
   done-all d = record {
     counted = λ b h. d .counted b (omega arith) h;
     stored = λ b h. d .stored-are b (omega arith) h;

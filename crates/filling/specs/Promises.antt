@@ -40,18 +40,18 @@ module _ (turn : Turn) where
   abbrev pub nextCurve : ℕ
   nextCurve = 4 * (turn .node + 1)
 
-module _ (symbols work found : List ℕ) (count : ℕ) (turn : Turn) where
+module _ (symbols work rows found : List ℕ) (count : ℕ) (turn : Turn) where
   -- The points by deadline under load b, but not more than one too many.
   abbrev pub pointsUnder : ℕ → List Point
-  pointsUnder b = nodePoints (turn .most) symbols work found (loadAt turn b) count
+  pointsUnder b = nodePoints (turn .most) symbols work rows found (loadAt turn b) count
 
   -- The node's matches, whose inputs all have their curves after the node's own, which are empty.
   pub record NodeReady : Type 0 where
-    pub matches : Matches (turn .most) found count symbols work
+    pub matches : Matches (turn .most) rows found count symbols work
     pub node : turn .node < 64
     pub few-bins : turn .bins .count ≤ 4
     pub above : Above (firstCurve turn + 3) found count
-    pub fit : (b : ℕ) → b < turn .bins .count → PointsFit (turn .most) symbols work found (loadAt turn b) count
+    pub fit : (b : ℕ) → b < turn .bins .count → PointsFit (turn .most) symbols work rows found (loadAt turn b) count
     pub zero : ZeroBelow (turn .most) (nextCurve turn) work
 
   -- A node's curves: how many points under each load, the curves themselves where they are not too many, and nothing changed above the node.

@@ -1,9 +1,12 @@
 // Every node's curves, filled from the highest number down.
+use curves::Target;
 use curves::Words;
 use sheets::library::Bins;
 use sheets::tree::TreeRecord;
 ghost use Prim.Native.Nat.{_≤_};
+ghost use lib.ListN.{length};
 ghost use Rattle.sheets.specs.Model.{Shape, Library, Tree};
+ghost use Rattle.matching.specs.Found.{matchMost};
 ghost use Rattle.filling.specs.Promises.{NodeReady, NodeFilled, FillReady, NodeDone, Exceeds, FillStart, FillingIs};
 
 // A node, the loads considered there, and how many trade-offs it may have.
@@ -24,10 +27,18 @@ pub enum Filling {
     Overfull(usize),
 }
 
-// The curves of a node under its loads, from the last one down.
-fn fill_node(found: &[u32], count: usize, symbols: &[u32], work: &mut [u64], turn: Turn) -> Counts
-    requires { ⌜ NodeReady (now symbols) (now work) (now found) count turn ⌝ }
-    ensures { λ r. ⌜ NodeFilled (now (symbols .entry)) (now (work .entry)) (now (found .entry)) count turn (now (work .exit)) r ⌝ }
+// The curves of a node under its loads, from the last one down. `kept` is room for a word of each match.
+fn fill_node(
+    rows: &[u32],
+    found: &[u8],
+    count: usize,
+    symbols: &[u32],
+    work: &mut [u64],
+    kept: &mut [u64],
+    turn: Turn,
+) -> Counts
+    requires { ⌜ NodeReady (now symbols) (now work) (now rows) (now found) count turn × (count ≤ length (now kept)) ⌝ }
+    ensures { λ r. ⌜ NodeFilled (now (symbols .entry)) (now (work .entry)) (now (rows .entry)) (now (found .entry)) count turn (now (work .exit)) r ⌝ }
 {
     let bins = turn.bins;
     let loads = bins.loads;
@@ -35,16 +46,12 @@ fn fill_node(found: &[u32], count: usize, symbols: &[u32], work: &mut [u64], tur
     let mut b = bins.count;
     while 0 < b {
         b -= 1;
-        let at = Words::BINS * turn.node + b;
-        points[b] = curves::curve(
-            found,
-            count,
-            symbols,
-            work,
-            turn.most,
-            loads[b] as u32,
-            at,
-        ) as u8;
+        let target = Target {
+            at: Words::BINS * turn.node + b,
+            load: loads[b] as u32,
+            most: turn.most,
+        };
+        points[b] = curves::curve(rows, found, count, symbols, work, kept, target) as u8;
     }
     Counts { points }
 }
@@ -55,10 +62,11 @@ fn fill_at<'a>(
     symbols: &'a [u32],
     sizes: &'a [u8],
     turn: Turn,
-    found: &mut [u32],
+    found: &mut [u8],
     work: &mut [u64],
+    kept: &mut [u64],
 ) -> Counts
-    requires { ⌜ ((l : Library) × ((t : Tree) × ((s : Shape) × FillReady l t (now rows) (now symbols) (now sizes) turn (now found) (now work) s))) ⌝ }
+    requires { ⌜ ((l : Library) × ((t : Tree) × ((s : Shape) × FillReady l t (now rows) (now symbols) (now sizes) turn (now found) (now work) s))) × (matchMost ≤ length (now kept)) ⌝ }
     ensures { λ r. ⌜ ((l : Library) (t : Tree) (s : Shape) → FillReady l t (now (rows .entry)) (now (symbols .entry)) (now (sizes .entry)) turn (now (found .entry)) (now (work .entry)) s →
         NodeDone l s turn (now (work .entry)) (now (work .exit)) r) ⌝ }
 {
@@ -67,7 +75,7 @@ fn fill_at<'a>(
         return Counts { points: [0u8; 4] };
     }
     let count = matching::find_matches(rows, symbols, sizes, node, found);
-    fill_node(found, count, symbols, work, turn)
+    fill_node(rows, found, count, symbols, work, kept, turn)
 }
 
 // Whether a node has more points under some load than it may have.
@@ -94,10 +102,11 @@ pub fn fill(
     bins: Bins,
     tree: TreeRecord,
     most: usize,
-    found: &mut [u32],
+    found: &mut [u8],
     work: &mut [u64],
+    kept: &mut [u64],
 ) -> Filling
-    requires { ⌜ ((l : Library) × ((t : Tree) × FillStart l t (now rows) bins tree most (now found) (now work))) ⌝ }
+    requires { ⌜ ((l : Library) × ((t : Tree) × FillStart l t (now rows) bins tree most (now found) (now work))) × (matchMost ≤ length (now kept)) ⌝ }
     ensures { λ r. ⌜ ((l : Library) (t : Tree) → FillStart l t (now (rows .entry)) bins tree most (now (found .entry)) (now (work .entry)) →
         FillingIs most l t (now (work .exit)) r) ⌝ }
 {
@@ -105,7 +114,7 @@ pub fn fill(
     while 1 < node {
         node -= 1;
         let turn = Turn { node, bins, most };
-        let counts = fill_at(rows, &tree.symbols, &tree.sizes, turn, found, work);
+        let counts = fill_at(rows, &tree.symbols, &tree.sizes, turn, found, work, kept);
         if too_many(counts, turn) {
             return Filling::Overfull(node);
         }
@@ -119,7 +128,7 @@ pub fn fill(
         bins,
         most,
     };
-    let counts = fill_at(rows, &tree.symbols, &tree.sizes, turn, found, work);
+    let counts = fill_at(rows, &tree.symbols, &tree.sizes, turn, found, work, kept);
     if too_many(counts, turn) {
         return Filling::Overfull(0);
     }

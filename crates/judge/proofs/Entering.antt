@@ -42,7 +42,7 @@ module _ {l : Library} {row ss : List ℕ} {walked : Walked} {load delay₀ : �
   pub record InputRead (k : ℕ) : Type 0 where
     pub long : length row ≡ rowWords
     pub symbols-long : length ss ≡ 64
-    pub k-small : k < 16
+    pub k-small : k < 6
     pub pin-small : getD (walked .pins) k 0 < 6
     pub node-small : node k < 64
     pub load-small : getD row (figures k + 1) 0 ≤ 255

@@ -1,13 +1,16 @@
 -- A walk as it is kept: coming to a node, and taking the first of what is to be covered.
-use Prim.Native.Nat.{ℕ, _+_, _-_, _≤_, _<_, max}
+use Prim.Native.Nat.{ℕ, zero, suc, _+_, _-_, _/_, _%_, _^_, _≤_, _<_, max}
 use mathlib.Core.Path.{_≡_, refl, sym, ap, _∙_}
 use mathlib.Core.Bool.{Bool, true, false, cond, _&&_, not}
 use mathlib.Core.List.{List, [], _∷_}
 use native.Mathlib.Omega.{arith}
 use lib.ListN.{length, getD, set, length-set, length-replicate}
 use lib.Seq.{getD-set-same, getD-set-other}
-use lib.Dec.{leb}
-use Rattle.sheets.specs.Model.{Shape, leaf, inv, nand, Cell}
+use lib.Dec.{leb, eqb}
+use lib.Pow.{pow-pos}
+use borrow.Author.Tests.{lt-ltb, le-ltb}
+use Rattle.sheets.specs.Model.{Shape, leaf, inv, nand, nands, Cell}
+use Rattle.covers.specs.Crossing.{crossingLimit, isCrossing}
 use Rattle.covers.specs.Match.{usable, legal}
 use Rattle.covers.specs.Cover.{Point, beside, late, raised, leafArrival, leafPoint}
 use Rattle.fields.specs.Answer.{refused, success}
@@ -121,6 +124,29 @@ free-legal load c e = go (c .held) e
     go : (h : Bool) → (_≡_ {A = ℕ} (cond h 1 0) 1 → ⊥) → leb load (c .highest) ≡ not h && leb load (c .highest)
     go true e = absurd (e refl)
     go false e = refl
+
+-- ---- a crossing's bits
+
+pub crossing-large : (d : Shape) (x : ℕ) → crossingLimit ≤ x → false ≡ isCrossing d x
+unfolding isCrossing
+crossing-large d x h = rw (le-ltb x crossingLimit h)
+
+-- How many numbers the five bits without the first n make.
+numbers-left : (n : ℕ) → n ≤ 5 → crossingLimit / 2 ^ n ≡ 2 ^ (5 - n)
+numbers-left zero h = refl
+numbers-left (suc zero) h = refl
+numbers-left (suc (suc zero)) h = refl
+numbers-left (suc (suc (suc zero))) h = refl
+numbers-left (suc (suc (suc (suc zero)))) h = refl
+numbers-left (suc (suc (suc (suc (suc zero))))) h = refl
+numbers-left (suc (suc (suc (suc (suc (suc n)))))) h = absurd (omega arith)
+
+pub some-left : (n : ℕ) → n ≤ 5 → 0 < crossingLimit / 2 ^ n
+some-left n h = rw (numbers-left n h) (pow-pos (5 - n))
+
+pub crossing-tested : (d : Shape) (n x : ℕ) → n ≤ 5 → n ≡ nands d → x < crossingLimit → eqb (x % (crossingLimit / 2 ^ n)) 0 ≡ isCrossing d x
+unfolding isCrossing
+crossing-tested d n x few e h = rw (lt-ltb x crossingLimit h, numbers-left n few, e)
 
 -- ---- stated figures
 

@@ -49,9 +49,9 @@ module _ {l : Library} {t : Tree} {rows ss zs : List ℕ} {k : ℕ} {w : Walk} {
   pub count-few : r .count ≤ 64
   count-few = omega (arith, h .kept .count-is, apart-few (h .walking .apart), h .decoded .tree .size)
 
-  module _ (node pattern : ℕ) where
+  module _ (node pattern crossing : ℕ) where
     abbrev x : Placed
-    x = record { node = node; pattern = pattern }
+    x = record { node = node; pattern = pattern; crossing = crossing }
 
     abbrev Makes : Stepped → Type 0
     Makes = SteppedIs (step l w x)
@@ -85,7 +85,7 @@ module _ {l : Library} {t : Tree} {rows ss zs : List ℕ} {k : ℕ} {w : Walk} {
           away e = unfold step placedAt in rw e
 
       module _ (here : o .node ≡ node) where
-        step-here : step l w x ≡ taken l w o (matchAt pattern o (getElem? (patterns l) pattern))
+        step-here : step l w x ≡ taken l w o (matchAt pattern crossing o (getElem? (patterns l) pattern))
         unfolding step placedAt
         step-here = ap (placedAt l w x) (ap (lowestAt node) (f .first) ∙ ap (λ (n : ℕ). lowestAt n (o ∷ f .others)) (sym here) ∙ lowest-first apart)
 
@@ -93,7 +93,7 @@ module _ {l : Library} {t : Tree} {rows ss zs : List ℕ} {k : ℕ} {w : Walk} {
         pub wrong-pattern : length rows ≤ rowWords * pattern → Makes (record { right = false; walk = r })
         wrong-pattern g = wrong (step-here ∙ away (at-past (patterns l) pattern (omega (arith, rows-long (h .decoded)))))
           where
-            away : getElem? (patterns l) pattern ≡ none → taken l w o (matchAt pattern o (getElem? (patterns l) pattern)) ≡ none
+            away : getElem? (patterns l) pattern ≡ none → taken l w o (matchAt pattern crossing o (getElem? (patterns l) pattern)) ≡ none
             away e = unfold taken matchAt in rw e
 
         module _ (known : rowWords * pattern < length rows) where
@@ -114,7 +114,8 @@ module _ {l : Library} {t : Tree} {rows ss zs : List ℕ} {k : ℕ} {w : Walk} {
                   walking = h .walking;
                   kept = h .kept;
                   few = h .few;
-                  walkable = walkable (h .decoded) pattern in-library m e (h .walking .within o (subst (List·Memᴰ o) (sym (f .first)) (List·Memᴰ·head refl)) .node-in);
+                  drawn = held .drawing;
+                  walkable = λ a. walkable (h .decoded) pattern in-library m e a (h .walking .within o (subst (List·Memᴰ o) (sym (f .first)) (List·Memᴰ·head refl)) .node-in);
                   cell = held .cell;
                   sound = sound .cell;
                   drawing = sound .drawing;
@@ -124,5 +125,5 @@ module _ {l : Library} {t : Tree} {rows ss zs : List ℕ} {k : ℕ} {w : Walk} {
                   loads-small = h .decoded .library .loads;
                 }
 
-          pub made : (q : Stepped) → SteppedIs (taken l w o (matchAt pattern o (some (patternAt l pattern)))) q → Makes q
-          made q = subst (λ (v : Option Walk). SteppedIs v q) (ap (λ (p : Option Pattern). taken l w o (matchAt pattern o p)) (sym (at-there (patterns l) pattern noPattern in-library)) ∙ sym step-here)
+          pub made : (q : Stepped) → SteppedIs (taken l w o (matchAt pattern crossing o (some (patternAt l pattern)))) q → Makes q
+          made q = subst (λ (v : Option Walk). SteppedIs v q) (ap (λ (p : Option Pattern). taken l w o (matchAt pattern crossing o p)) (sym (at-there (patterns l) pattern noPattern in-library)) ∙ sym step-here)

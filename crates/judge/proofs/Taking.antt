@@ -1,24 +1,25 @@
 -- One match at the first of what is to be covered.
-use Prim.Native.Nat.{ℕ, zero, suc, _+_, _-_, _≤_, _<_}
+use Prim.Native.Nat.{ℕ, zero, suc, _+_, _-_, _/_, _≤_, _<_}
 use mathlib.Core.Path.{_≡_, refl, sym, ap, subst, _∙_}
-use mathlib.Core.Bool.{Bool, true, false, cond}
+use mathlib.Core.Bool.{Bool, true, false, _&&_, and-false, cond}
 use mathlib.Core.List.{List, _∷_, List·Memᴰ, List·Memᴰ·head}
 use mathlib.Core.Option.{Option, none, some, Option·map}
 use native.Mathlib.Numerals.{add-one}
 use native.Mathlib.Omega.{arith}
 use lib.ListN.{length, getD, drop}
-use Rattle.sheets.specs.Model.{Shape, leaf, inv, nand, size, Cell, Library, Pattern, Tree}
-use Rattle.covers.specs.Match.{Input, Match, matched, legal, laid}
+use Rattle.sheets.specs.Model.{Shape, leaf, inv, nand, size, nands, Cell, Library, Pattern, Tree}
+use Rattle.covers.specs.Crossing.{crossingLimit, redrawn, isCrossing}
+use Rattle.covers.specs.Match.{Input, Match, matched, legal}
 use Rattle.covers.specs.Cover.{raised}
 use Rattle.covers.specs.Curve.{base}
 use Rattle.covers.specs.Tradeoff.{nodes}
-use Rattle.covers.proofs.Matching.{Spread, fits-inside, size-pos}
+use Rattle.covers.proofs.Matching.{Spread, crossing-small, fits-inside, size-pos}
 use Rattle.covers.proofs.Matching as matching
-use Rattle.covers.proofs.Nodes.{nodeOf, fits-in, nodes-within, node-ends}
+use Rattle.covers.proofs.Nodes.{nodeOf, root-in, fits-in, nodes-within, node-ends}
 use Rattle.overlay.specs.declared.Walked.{Walked}
-use Rattle.overlay.specs.Standing.{Stands}
-use Rattle.overlay.specs.Held.{heldAt, areaAt, highestAt, Walkable, Walks, WalkedIs}
-use Rattle.overlay.proofs.Patterns.{missed, hit}
+use Rattle.overlay.specs.Standing.{Stands, DrawingHeld, extent, Measured}
+use Rattle.overlay.specs.Held.{heldAt, areaAt, highestAt, Walkable, Walks, WalkIs}
+use Rattle.overlay.proofs.Patterns.{redrawn-sound, missed, hit}
 use Rattle.judgement.specs.Walk.{Uncovered, Walk, comeToInputs, others, matchAt, taken}
 use Rattle.judgement.specs.Order.{Apart, last, next}
 use Rattle.judgement.proofs.Order.{inputs-apart, apart-few, others-first}
@@ -73,95 +74,138 @@ module _ {l : Library} {t : Tree} {row ss zs : List ℕ} {k : ℕ} {p : Pattern}
     area-small = omega (arith, kept .area-is, h .walking .area, h .few, h .cell .area-is, h .sound .area);
   }
 
-  module _ (number : ℕ) where
+  -- What measure answers.
+  abbrev Measures : List ℕ → Type 0
+  Measures words = (d : Shape) → DrawingHeld row d → size d ≤ 16 → Measured d words
+
+  pub measured : {words : List ℕ} → Measures words → Measured (p .drawing) words
+  measured e = e (p .drawing) (h .drawn) (h .drawing .size)
+
+  -- The first word says how many NANDs the drawing has.
+  pub record NandsRead (words : List ℕ) : Type 0 where
+    pub nands-are : getD words 0 0 / 32 ≡ nands (p .drawing)
+    pub few : getD words 0 0 / 32 ≤ 5
+
+  pub nands-read : {words : List ℕ} → Measures words → NandsRead words
+  unfolding extent
+  nands-read e =
+      let whole = measured e .each (record { number = 0; shape = p .drawing }) (root-in 0 (p .drawing)) in
+      let small = h .drawing .size in
+      record { nands-are = omega (arith, whole, small); few = omega (arith, whole, small, h .drawing .nands, h .sound .few-pins) }
+
+  module _ (number x : ℕ) where
+    abbrev d : Shape
+    d = redrawn x (p .drawing)
+
     abbrev step : Option Walk
-    step = taken l w o (matchAt number o (some p))
+    step = taken l w o (matchAt number x o (some p))
 
     abbrev refusal : Stepped
     refusal = record { right = false; walk = r }
 
-    -- What is_legal and the walk over the pattern answer.
+    wrong : step ≡ none → SteppedIs step refusal
+    wrong e = subst (λ (v : Option Walk). SteppedIs v refusal) (sym e) refl
+
+    -- What is_legal answers.
     abbrev LegalIs : Bool → Type 0
     LegalIs b = (c : Cell) → getD row heldAt 0 ≡ cond (c .held) 1 0 → getD row highestAt 0 ≡ c .highest → b ≡ legal c (o .load)
-
-    abbrev WalkIs : Walked → Type 0
-    WalkIs walked = (d u : Shape) → Walkable row ss zs (o .node) d u → WalkedIs (laid d (o .node) u) walked
 
     legal-read : {b : Bool} → LegalIs b → b ≡ legal (p .cell) (o .load)
     legal-read e = e (p .cell) (h .cell .held-is) (h .cell .highest-is)
 
-    -- Not legal under the load, or no match.
+    -- Not legal under the load.
     pub wrong-load : {b : Bool} → LegalIs b → b ≡ false → SteppedIs step refusal
-    wrong-load e f = subst (λ (v : Option Walk). SteppedIs v refusal) (sym (none-legal (sym (legal-read e) ∙ f))) refl
+    wrong-load e f = wrong (none-legal (sym (legal-read e) ∙ f))
       where
         none-legal : legal (p .cell) (o .load) ≡ false → step ≡ none
         none-legal g = unfold taken matchAt in rw g
 
-    pub wrong-shape : (walked : Walked) → WalkIs walked → walked .matched ≡ false → SteppedIs step refusal
-    wrong-shape walked e f = subst (λ (v : Option Walk). SteppedIs v refusal) (sym (none-matched (missed (o .node) s walked (h .drawing) (e (p .drawing) s (h .walkable)) f))) refl
-      where
-        none-matched : matched (p .drawing) (o .node) s ≡ none → step ≡ none
-        none-matched g = unfold taken matchAt in go (legal (p .cell) (o .load))
-          where
-            go : (b : Bool) → taken l w o (cond b (Option·map (λ (is : List Input). record { number = number; pattern = p; inputs = is }) (matched (p .drawing) (o .node) s)) none) ≡ none
-            go true = unfold taken in rw g
-            go false = unfold taken in refl
+    module _ (words : List ℕ) (measures : Measures words) where
+      -- What is_crossing and the walk over the pattern answer.
+      abbrev CrossingIs : Bool → Type 0
+      CrossingIs b = (e : Shape) → getD words 0 0 / 32 ≡ nands e → b ≡ isCrossing e x
 
-    -- A legal match: the walk comes to its inputs.
-    module _ (is : List Input) (fits : matched (p .drawing) (o .node) s ≡ some is) where
-      abbrev pub match : Match
-      match = record { number = number; pattern = p; inputs = is }
+      abbrev WalkedAs : Walked → Type 0
+      WalkedAs walked = (e u : Shape) → Walkable row words ss zs (o .node) e u → WalkIs e u (o .node) x walked
 
-      abbrev pub below : Walk
-      below = record { left = h .others; point = raised (p .cell .area) (w .point) }
+      crossing-read : {b : Bool} → CrossingIs b → b ≡ isCrossing (p .drawing) x
+      crossing-read e = e (p .drawing) (nands-read measures .nands-are)
 
-      stepped : legal (p .cell) (o .load) ≡ true → step ≡ some (comeToInputs l (p .cell) (o .load) (o .delay) is below)
-      unfolding taken matchAt
-      stepped e =
-          let there : matchAt number o (some p) ≡ some match = rw (e, fits) in
-          ap (taken l w o) there
-          ∙ ap (λ (us : List Uncovered). some (comeToInputs l (p .cell) (o .load) (o .delay) is (record { left = us; point = raised (p .cell .area) (w .point) }))) (ap (others (o .node)) (h .first) ∙ others-first apart)
-
-      -- The inputs are nodes of the tree.
-      in-tree : (i : Input) → List·Memᴰ i is → List·Memᴰ (nodeOf i) (nodes 0 (t .shape))
-      in-tree i a = nodes-within 0 (t .shape) (within .node-in) (fits-in (p .drawing) (o .node) s is fits i a)
-
-      room : (j : ℕ) → j < length is → length (comeToInputs l (p .cell) (o .load) (o .delay) (drop (j + 1) is) below .left) < 64
-      room j g =
-          let rest = spread-after (fits-inside (p .drawing) (o .node) s fits .spread) j g in
-          let few = apart-few (inputs-apart l (p .cell) (o .load) (o .delay) (drop (suc j) is) below (rest .spread) (beyond apart)) in
-          subst (λ (q : ℕ). length (comeToInputs l (p .cell) (o .load) (o .delay) (drop q is) below .left) < 64) (sym (add-one j)) (omega (arith, few, rest .above, h .tree .size))
+      -- No crossing of the pattern, or no match.
+      pub wrong-crossing : {b : Bool} → CrossingIs b → b ≡ false → SteppedIs step refusal
+      wrong-crossing e f = wrong (none-crossed (sym (crossing-read e) ∙ f))
         where
-          beyond : {low : ℕ} → Apart low (size (t .shape)) (o ∷ h .others) → Apart (o .node + size s) (size (t .shape)) (h .others)
-          beyond (next a g r) = r
+          none-crossed : isCrossing (p .drawing) x ≡ false → step ≡ none
+          none-crossed g = unfold taken matchAt in rw (g, and-false (legal (p .cell) (o .load)))
 
-      entering : {walked : Walked} → Walks is walked → length is ≤ 16 → ((i : Input) → List·Memᴰ i is → i .pin < length (p .cell .pins)) → Entering l row ss walked (o .load) (o .delay) (popped r (p .cell .area)) match below
-      entering walks few pinned = record {
-        kept = kept-popped kept (p .cell .area);
-        held = record { walks = walks; cell = h .cell; sound = h .sound; few = few; pinned = pinned };
-        opens = λ i a. (stands-opens ss zs (i .node) (i .shape) (h .stands (nodeOf i) (in-tree i a)), omega (arith, node-ends 0 (t .shape) (in-tree i a), size-pos (i .shape), h .tree .size));
-        symbols-long = h .walkable .subject .symbols-long;
-        symbols-small = h .symbols-small;
-        loads-small = h .loads-small;
-        light = within .light;
-        near = omega (arith, within .near, h .few);
-        room = room;
-      }
+      pub crossing-below : {b : Bool} → CrossingIs b → b ≡ true → x < crossingLimit
+      crossing-below e f = crossing-small (p .drawing) x (sym (crossing-read e) ∙ f)
 
-    pub record Found (walked : Walked) (after : WalkRecord) : Type 0 where
-      pub m : Match
-      pub below : Walk
-      pub enters : Entering l row ss walked (o .load) (o .delay) after m below
-      pub makes : (q : WalkRecord) → Kept (comeToInputs l (m .pattern .cell) (o .load) (o .delay) (m .inputs) below) q → SteppedIs step (record { right = true; walk = q })
+      pub wrong-shape : (walked : Walked) → WalkedAs walked → walked .matched ≡ false → SteppedIs step refusal
+      wrong-shape walked e f = wrong (none-matched (missed (o .node) s walked (redrawn-sound x (h .drawing)) (e (p .drawing) s (h .walkable (measured measures)) .found-is) f))
+        where
+          none-matched : matched d (o .node) s ≡ none → step ≡ none
+          none-matched g = unfold taken matchAt in go (legal (p .cell) (o .load) && isCrossing (p .drawing) x)
+            where
+              go : (b : Bool) → taken l w o (cond b (Option·map (λ (is : List Input). record { number = number; crossing = x; pattern = p; inputs = is }) (matched d (o .node) s)) none) ≡ none
+              go true = unfold taken in rw g
+              go false = unfold taken in refl
 
-    pub found : (walked : Walked) {after : WalkRecord} {b : Bool} → LegalIs b → b ≡ true → WalkIs walked → walked .matched ≡ true → after ≡ popped r (getD row areaAt 0) → Found walked after
-    found walked {after} a e f g q =
-        let there = hit (o .node) s walked (h .drawing) (f (p .drawing) s (h .walkable)) g in
-        let is = there .inputs in
-        record {
-          m = match is (there .fits);
-          below = below is (there .fits);
-          enters = subst (λ (x : WalkRecord). Entering l row ss walked (o .load) (o .delay) x (match is (there .fits)) (below is (there .fits))) (sym (q ∙ ap (popped r) (h .cell .area-is)))
-              (entering is (there .fits) (there .walks) (there .few) (there .pinned));
-          makes = λ x kept-after. subst (λ (v : Option Walk). SteppedIs v (record { right = true; walk = x })) (sym (stepped is (there .fits) (sym (legal-read a) ∙ e))) (refl, kept-after);
+      -- A legal match: the walk comes to its inputs.
+      module _ (is : List Input) (fits : matched d (o .node) s ≡ some is) where
+        abbrev pub match : Match
+        match = record { number = number; crossing = x; pattern = p; inputs = is }
+
+        abbrev pub below : Walk
+        below = record { left = h .others; point = raised (p .cell .area) (w .point) }
+
+        stepped : legal (p .cell) (o .load) ≡ true → isCrossing (p .drawing) x ≡ true → step ≡ some (comeToInputs l (p .cell) (o .load) (o .delay) is below)
+        unfolding taken matchAt
+        stepped e f =
+            let there : matchAt number x o (some p) ≡ some match = rw (e, f, fits) in
+            ap (taken l w o) there
+            ∙ ap (λ (us : List Uncovered). some (comeToInputs l (p .cell) (o .load) (o .delay) is (record { left = us; point = raised (p .cell .area) (w .point) }))) (ap (others (o .node)) (h .first) ∙ others-first apart)
+
+        -- The inputs are nodes of the tree.
+        in-tree : (i : Input) → List·Memᴰ i is → List·Memᴰ (nodeOf i) (nodes 0 (t .shape))
+        in-tree i a = nodes-within 0 (t .shape) (within .node-in) (fits-in d (o .node) s is fits i a)
+
+        room : (j : ℕ) → j < length is → length (comeToInputs l (p .cell) (o .load) (o .delay) (drop (j + 1) is) below .left) < 64
+        room j g =
+            let rest = spread-after (fits-inside d (o .node) s fits .spread) j g in
+            let few = apart-few (inputs-apart l (p .cell) (o .load) (o .delay) (drop (suc j) is) below (rest .spread) (beyond apart)) in
+            subst (λ (q : ℕ). length (comeToInputs l (p .cell) (o .load) (o .delay) (drop q is) below .left) < 64) (sym (add-one j)) (omega (arith, few, rest .above, h .tree .size))
+          where
+            beyond : {low : ℕ} → Apart low (size (t .shape)) (o ∷ h .others) → Apart (o .node + size s) (size (t .shape)) (h .others)
+            beyond (next a g r) = r
+
+        entering : {walked : Walked} → Walks is walked → length is ≤ length (p .cell .pins) → ((i : Input) → List·Memᴰ i is → i .pin < length (p .cell .pins)) → Entering l row ss walked (o .load) (o .delay) (popped r (p .cell .area)) match below
+        entering walks few pinned = record {
+          kept = kept-popped kept (p .cell .area);
+          held = record { walks = walks; cell = h .cell; sound = h .sound; few = omega (arith, few, h .sound .few-pins); pinned = pinned };
+          opens = λ i a. (stands-opens ss zs (i .node) (i .shape) (h .stands (nodeOf i) (in-tree i a)), omega (arith, node-ends 0 (t .shape) (in-tree i a), size-pos (i .shape), h .tree .size));
+          symbols-long = h .walkable (measured measures) .subject .symbols-long;
+          symbols-small = h .symbols-small;
+          loads-small = h .loads-small;
+          light = within .light;
+          near = omega (arith, within .near, h .few);
+          room = room;
         }
+
+      pub record Found (walked : Walked) (after : WalkRecord) : Type 0 where
+        pub m : Match
+        pub below : Walk
+        pub enters : Entering l row ss walked (o .load) (o .delay) after m below
+        pub makes : (q : WalkRecord) → Kept (comeToInputs l (m .pattern .cell) (o .load) (o .delay) (m .inputs) below) q → SteppedIs step (record { right = true; walk = q })
+
+      pub found : (walked : Walked) {after : WalkRecord} {a b : Bool} → LegalIs a → a ≡ true → CrossingIs b → b ≡ true → WalkedAs walked → walked .matched ≡ true → after ≡ popped r (getD row areaAt 0) → Found walked after
+      found walked {after} a e b c f g q =
+          let there = hit (o .node) s walked (redrawn-sound x (h .drawing)) (f (p .drawing) s (h .walkable (measured measures)) .found-is) g in
+          let is = there .inputs in
+          record {
+            m = match is (there .fits);
+            below = below is (there .fits);
+            enters = subst (λ (u : WalkRecord). Entering l row ss walked (o .load) (o .delay) u (match is (there .fits)) (below is (there .fits))) (sym (q ∙ ap (popped r) (h .cell .area-is)))
+                (entering is (there .fits) (there .walks) (there .few) (there .pinned));
+            makes = λ u kept-after. subst (λ (v : Option Walk). SteppedIs v (record { right = true; walk = u })) (sym (stepped is (there .fits) (sym (legal-read a) ∙ e) (sym (crossing-read b) ∙ c))) (refl, kept-after);
+          }

@@ -2,7 +2,7 @@
 use Prim.Native.Nat.{ℕ, zero, suc, _+_, _-_, _*_, _≤_, _<_}
 use mathlib.Core.Path.{_≡_, refl, sym, ap, subst, _∙_}
 use mathlib.Core.Bool.{true, false, false≢true}
-use mathlib.Core.List.{List, [], _∷_, zipWith, List·Memᴰ, List·Memᴰ·head, List·Memᴰ·tail, List·Memᴰ·not-nil}
+use mathlib.Core.List.{List, [], _∷_, List·Memᴰ, List·Memᴰ·head, List·Memᴰ·tail, List·Memᴰ·not-nil}
 use mathlib.Core.Option.{Option, none, some, Option·none-ne-some, Option·some-injective}
 use native.Mathlib.Nat.{mul-le-mul}
 use native.Mathlib.Numerals.{add-one}
@@ -109,9 +109,9 @@ module _ {l : Library} (sound : SoundLibrary l) where
     where
       made : {o : Uncovered} {os : List Uncovered} → w .left ≡ o ∷ os → {v : Option Walk} → StepIs l o os (w .point) x v → v ≡ some w′ → Walking t (k + 1) w′
       made f wrong g = absurd (Option·none-ne-some w′ g)
-      made {o} {os} f (right m j n p) g =
+      made {o} {os} f (right m j n) g =
           subst (Walking t (k + 1)) (Option·some-injective (after l o os (w .point) m) w′ g)
-          (after-walking (w .point) (subst (Apart (h .low) (size (t .shape))) f (h .apart)) (λ u i. h .within u (subst (List·Memᴰ u) (sym f) i)) (h .area) j)
+          (after-walking (w .point) (subst (Apart (h .low) (size (t .shape))) f (h .apart)) (λ u i. h .within u (subst (List·Memᴰ u) (sym f) i)) (h .area) (j .legal-match))
 
       go : (us : List Uncovered) → w .left ≡ us → Walking t (k + 1) w′
       go [] f = absurd (Option·none-ne-some w′ (sym (step-past l (w .point) x) ∙ ap (λ (us : List Uncovered). step l (record { left = us; point = w .point }) x) (sym f) ∙ e))
@@ -119,22 +119,32 @@ module _ {l : Library} (sound : SoundLibrary l) where
 
 -- ---- the list
 
--- What is listed from position k on.
-pub placed-drop : (ns ps : List ℕ) (count k : ℕ) → k < count → count ≤ length ns → count ≤ length ps →
-    drop k (placedOf (take count ns) (take count ps)) ≡ record { node = getD ns k 0; pattern = getD ps k 0 } ∷ drop (suc k) (placedOf (take count ns) (take count ps))
-unfolding placedOf zipWith
-placed-drop ns ps zero k h a b = absurd (omega arith)
-placed-drop [] ps (suc c) k h a b = absurd (omega arith)
-placed-drop (n ∷ ns) [] (suc c) k h a b = absurd (omega arith)
-placed-drop (n ∷ ns) (p ∷ ps) (suc c) zero h a b = refl
-placed-drop (n ∷ ns) (p ∷ ps) (suc c) (suc k) h a b = placed-drop ns ps c k (omega arith) (omega arith) (omega arith)
+-- What the first of so many nodes, patterns and crossings list.
+abbrev pub listing : ℕ → (ns ps xs : List ℕ) → List Placed
+listing count ns ps xs = placedOf (take count ns) (take count ps) (take count xs)
 
-pub placed-end : (ns ps : List ℕ) (count : ℕ) → count ≤ length ns → count ≤ length ps → drop count (placedOf (take count ns) (take count ps)) ≡ []
-unfolding placedOf zipWith
-placed-end ns ps zero a b = refl
-placed-end [] ps (suc c) a b = absurd (omega arith)
-placed-end (n ∷ ns) [] (suc c) a b = absurd (omega arith)
-placed-end (n ∷ ns) (p ∷ ps) (suc c) a b = placed-end ns ps c (omega arith) (omega arith)
+-- Each of the three lists is so long.
+abbrev pub Roomy : ℕ → (ns ps xs : List ℕ) → Type 0
+Roomy count ns ps xs = (count ≤ length ns) × (count ≤ length ps) × (count ≤ length xs)
+
+-- What is listed from position k on.
+pub placed-drop : (ns ps xs : List ℕ) (count k : ℕ) → k < count → Roomy count ns ps xs →
+    drop k (listing count ns ps xs) ≡ record { node = getD ns k 0; pattern = getD ps k 0; crossing = getD xs k 0 } ∷ drop (suc k) (listing count ns ps xs)
+unfolding placedOf
+placed-drop ns ps xs zero k h r = absurd (omega arith)
+placed-drop [] ps xs (suc c) k h r = absurd (omega arith)
+placed-drop (n ∷ ns) [] xs (suc c) k h r = absurd (omega arith)
+placed-drop (n ∷ ns) (p ∷ ps) [] (suc c) k h r = absurd (omega arith)
+placed-drop (n ∷ ns) (p ∷ ps) (x ∷ xs) (suc c) zero h r = refl
+placed-drop (n ∷ ns) (p ∷ ps) (x ∷ xs) (suc c) (suc k) h r = placed-drop ns ps xs c k (omega arith) (omega arith, omega arith, omega arith)
+
+pub placed-end : (ns ps xs : List ℕ) (count : ℕ) → Roomy count ns ps xs → drop count (listing count ns ps xs) ≡ []
+unfolding placedOf
+placed-end ns ps xs zero r = refl
+placed-end [] ps xs (suc c) r = absurd (omega arith)
+placed-end (n ∷ ns) [] xs (suc c) r = absurd (omega arith)
+placed-end (n ∷ ns) (p ∷ ps) [] (suc c) r = absurd (omega arith)
+placed-end (n ∷ ns) (p ∷ ps) (x ∷ xs) (suc c) r = placed-end ns ps xs c (omega arith, omega arith, omega arith)
 
 module _ (l : Library) (t : Tree) (xs : List Placed) where
   -- The walk after k matches, as it is kept: what it will answer is what the whole walk answers.

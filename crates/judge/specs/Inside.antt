@@ -14,7 +14,7 @@ use Rattle.covers.specs.Match.{Input, Match}
 use Rattle.covers.specs.Curve.{base}
 use Rattle.covers.specs.Tradeoff.{Node, nodes}
 use Rattle.overlay.specs.declared.Walked.{Walked}
-use Rattle.overlay.specs.Standing.{Stands}
+use Rattle.overlay.specs.Standing.{Stands, DrawingHeld, Measured}
 use Rattle.overlay.specs.Held.{symbolLimit, CellHeld, Walkable, MatchHeld, Decoded}
 use Rattle.judgement.specs.Walk.{Uncovered, Walk, comeToInputs}
 use Rattle.judgement.specs.Order.{Apart}
@@ -107,7 +107,8 @@ pub record Taking (l : Library) (t : Tree) (row ss zs : List ℕ) (k : ℕ) (p :
   pub walking : Walking t k w
   pub kept : Kept w r
   pub few : k ≤ 62
-  pub walkable : Walkable row ss zs (lastOf r s .node) (p .drawing) s
+  pub drawn : DrawingHeld row (p .drawing)
+  pub walkable : {words : List ℕ} → Measured (p .drawing) words → Walkable row words ss zs (lastOf r s .node) (p .drawing) s
   pub cell : CellHeld l row (p .cell)
   pub sound : SoundCell (length (l .bins)) (p .cell)
   pub drawing : SoundDrawing (length (p .cell .pins)) (p .drawing)

@@ -1,5 +1,7 @@
 // The judge of covers that others hand in: the three sheets are read, the listed matches walked from the front, and the stated figures compared.
 use fields::Scan;
+use overlay::Crossing;
+use overlay::Extents;
 use overlay::Walked;
 use results::CoverRecord;
 use sheets::library::LibraryRecord;
@@ -10,8 +12,9 @@ ghost use mathlib.Core.Bool.{cond};
 ghost use mathlib.Core.Option.{some};
 ghost use Prim.Native.Nat.{ℕ, _+_, _<_, _≤_};
 ghost use Rattle.fields.specs.Reading.{start};
-ghost use Rattle.sheets.specs.Model.{Shape, Cell, Library, Pattern, Tree};
+ghost use Rattle.sheets.specs.Model.{Shape, nands as nandsOf, Cell, Library, Pattern, Tree};
 ghost use Rattle.sheets.specs.TreeSheet.{tree as treeOf};
+ghost use Rattle.covers.specs.Crossing.{isCrossing};
 ghost use Rattle.covers.specs.Match.{Match, legal};
 ghost use Rattle.covers.specs.Curve.{base};
 ghost use Rattle.covers.specs.CoverSheet.{coverRead};
@@ -156,11 +159,28 @@ fn is_legal(held: u32, highest: u32, load: u32) -> bool
     load <= highest
 }
 
-// The lowest of what is to be covered, by the pattern in a row.
-fn take_match<'a>(walk: WalkRecord, row: &'a [u32], symbols: &'a [u32], sizes: &'a [u8]) -> Stepped
+// Whether a number is a crossing of a drawing with so many NANDs: no bit of its five is set after theirs.
+fn is_crossing(nands: usize, crossing: u32) -> bool
+    requires { ⌜ nands ≤ 5 ⌝ }
+    ensures { λ r. ⌜ ((d : Shape) → nands ≡ nandsOf d → r ≡ isCrossing d crossing) ⌝ }
+{
+    if Crossing::NUMBERS <= crossing {
+        return false;
+    }
+    crossing % (Crossing::NUMBERS >> nands) == 0
+}
+
+// The lowest of what is to be covered, by the pattern in a row under a crossing.
+fn take_match<'a>(
+    walk: WalkRecord,
+    row: &'a [u32],
+    crossing: u32,
+    symbols: &'a [u32],
+    sizes: &'a [u8],
+) -> Stepped
     requires { ⌜ ((l : Library) × ((t : Tree) × ((k : ℕ) × ((p : Pattern) × ((s : Shape) × ((w : Walk) × Taking l t (now row) (now symbols) (now sizes) k p s w walk)))))) ⌝ }
     ensures { λ r. ⌜ ((l : Library) (t : Tree) (k : ℕ) (p : Pattern) (s : Shape) (w : Walk) (number : ℕ) → Taking l t (now (row .entry)) (now (symbols .entry)) (now (sizes .entry)) k p s w walk →
-        SteppedIs (taken l w (lastOf walk s) (matchAt number (lastOf walk s) (some p))) r) ⌝ }
+        SteppedIs (taken l w (lastOf walk s) (matchAt number crossing (lastOf walk s) (some p))) r) ⌝ }
 {
     let top = walk.count - 1;
     let node = walk.nodes[top] as usize;
@@ -169,7 +189,12 @@ fn take_match<'a>(walk: WalkRecord, row: &'a [u32], symbols: &'a [u32], sizes: &
     if !is_legal(row[PatternRow::HELD], row[PatternRow::HIGHEST], load) {
         return Stepped { right: false, walk };
     }
-    let walked = overlay::walk(row, symbols, sizes, node);
+    let extents = overlay::measure(row);
+    let words = extents.words;
+    if !is_crossing(words[0] as usize / Extents::NAND, crossing) {
+        return Stepped { right: false, walk };
+    }
+    let walked = overlay::walk(row, extents, crossing, symbols, sizes, node);
     if !walked.matched {
         return Stepped { right: false, walk };
     }
@@ -188,10 +213,11 @@ fn step<'a>(
     sizes: &'a [u8],
     node: u8,
     pattern: u8,
+    crossing: u8,
 ) -> Stepped
     requires { ⌜ ((l : Library) × ((t : Tree) × ((k : ℕ) × ((w : Walk) × Stepping l t (now rows) (now symbols) (now sizes) k w walk)))) ⌝ }
     ensures { λ r. ⌜ ((l : Library) (t : Tree) (k : ℕ) (w : Walk) → Stepping l t (now (rows .entry)) (now (symbols .entry)) (now (sizes .entry)) k w walk →
-        SteppedIs (stepOf l w (record { node = node; pattern = pattern })) r) ⌝ }
+        SteppedIs (stepOf l w (record { node = node; pattern = pattern; crossing = crossing })) r) ⌝ }
 {
     let count = walk.count;
     if count == 0 {
@@ -207,6 +233,7 @@ fn step<'a>(
     take_match(
         walk,
         &rows[first..first + PatternRow::WORDS],
+        crossing as u32,
         symbols,
         sizes,
     )
@@ -221,11 +248,20 @@ fn walk_cover(rows: &[u32], tree: TreeRecord, cover: CoverRecord) -> CoverJudged
     let sizes = tree.sizes;
     let nodes = cover.nodes;
     let patterns = cover.patterns;
+    let crossings = cover.crossings;
     let count = cover.count;
     let mut walk = come_to(begin(), symbols[0], 0, tree.load as u32, 0);
     let mut k: usize = 0;
     while k < count {
-        let stepped = step(walk, rows, &symbols, &sizes, nodes[k], patterns[k]);
+        let stepped = step(
+            walk,
+            rows,
+            &symbols,
+            &sizes,
+            nodes[k],
+            patterns[k],
+            crossings[k],
+        );
         if !stepped.right {
             return CoverJudged::Refused(Numbers::MATCH, k);
         }

@@ -2,7 +2,7 @@
 use Prim.Native.Nat.{ℕ, _+_, _≤_, _<_}
 use mathlib.Core.Path.{_≡_, refl, sym, ap, subst, _∙_}
 use mathlib.Core.Logic.{_⊎_, ⊎-elim, _≢_}
-use mathlib.Core.Bool.{Bool, true, false, not, cond, false≢true}
+use mathlib.Core.Bool.{Bool, true, false, not, _&&_, cond, false≢true}
 use mathlib.Core.List.{List, [], _∷_, List·Memᴰ, List·Memᴰ·head, List·Memᴰ·tail}
 use mathlib.Core.Option.{Option, none, some, Option·map, Option·none-ne-some, Option·some-injective}
 use native.Mathlib.Nat.{le-refl}
@@ -12,6 +12,7 @@ use lib.Dec.{eqb, ltb}
 use borrow.Author.Tests.{eq-eqb, ne-eqb, eqb-true, eqb-false, le-ltb, lt-ltb}
 use Rattle.sheets.specs.Model.{Shape, leaf, inv, nand, size, Cell, Library, Pattern, patterns}
 use Rattle.covers.specs.Lists.{any, keepIf, select, firstSuch}
+use Rattle.covers.specs.Crossing.{redrawn, isCrossing}
 use Rattle.covers.specs.Match.{Input, Match, matched, legal, pinLoad, IsMatch}
 use Rattle.covers.specs.Cover.{Point, Placed, raised, feeds, inputDelay}
 use Rattle.covers.specs.Curve.{gates}
@@ -101,23 +102,33 @@ module _ {low high : ℕ} {o : Uncovered} {os : List Uncovered} (r : Apart low h
 
 -- ---- one match
 
--- The legal match with a number.
-pub matched-is : (l : Library) (k : ℕ) (o : Uncovered) {m : Match} → matchAt k o (getElem? (patterns l) k) ≡ some m → IsMatch l (o .load) (o .node) (o .shape) m × (m .number ≡ k)
+-- The legal match with a number and a crossing.
+pub record Named (l : Library) (k x : ℕ) (o : Uncovered) (m : Match) : Type 0 where
+  pub legal-match : IsMatch l (o .load) (o .node) (o .shape) m
+  pub number-is : m .number ≡ k
+  pub crossing-is : m .crossing ≡ x
+
+pub matched-is : (l : Library) (k x : ℕ) (o : Uncovered) {m : Match} → matchAt k x o (getElem? (patterns l) k) ≡ some m → Named l k x o m
 unfolding matchAt
-matched-is l k o {m} e = go (getElem? (patterns l) k) refl e
+matched-is l k x o {m} e = go (getElem? (patterns l) k) refl e
   where
-    fit : (p : Pattern) → getElem? (patterns l) k ≡ some p → (b : Bool) → legal (p .cell) (o .load) ≡ b → (r : Option (List Input)) → matched (p .drawing) (o .node) (o .shape) ≡ r → cond b (Option·map (λ is. record { number = k; pattern = p; inputs = is }) r) none ≡ some m → IsMatch l (o .load) (o .node) (o .shape) m × (m .number ≡ k)
-    fit p f true g none h e = absurd (Option·none-ne-some m e)
-    fit p f true g (some is) h e = let same = Option·some-injective (record { number = k; pattern = p; inputs = is }) m e in subst (λ q. IsMatch l (o .load) (o .node) (o .shape) q × (q .number ≡ k)) same (record { numbered = f; allowed = g; fits = h }, refl)
-    fit p f false g r h e = absurd (Option·none-ne-some m e)
+    made : Pattern → List Input → Match
+    made p is = record { number = k; crossing = x; pattern = p; inputs = is }
 
-    go : (q : Option Pattern) → getElem? (patterns l) k ≡ q → matchAt k o q ≡ some m → IsMatch l (o .load) (o .node) (o .shape) m × (m .number ≡ k)
+    fit : (p : Pattern) → getElem? (patterns l) k ≡ some p → (b c : Bool) → legal (p .cell) (o .load) ≡ b → isCrossing (p .drawing) x ≡ c → (r : Option (List Input)) → matched (redrawn x (p .drawing)) (o .node) (o .shape) ≡ r → cond (b && c) (Option·map (made p) r) none ≡ some m → Named l k x o m
+    fit p f true true g j none h e = absurd (Option·none-ne-some m e)
+    fit p f true true g j (some is) h e =
+        subst (Named l k x o) (Option·some-injective (made p is) m e) record { legal-match = record { numbered = f; crossed = j; allowed = g; fits = h }; number-is = refl; crossing-is = refl }
+    fit p f true false g j r h e = absurd (Option·none-ne-some m e)
+    fit p f false c g j r h e = absurd (Option·none-ne-some m e)
+
+    go : (q : Option Pattern) → getElem? (patterns l) k ≡ q → matchAt k x o q ≡ some m → Named l k x o m
     go none f e = unfold matchAt in absurd (Option·none-ne-some m e)
-    go (some p) f e = unfold matchAt in fit p f (legal (p .cell) (o .load)) refl (matched (p .drawing) (o .node) (o .shape)) refl e
+    go (some p) f e = unfold matchAt in fit p f (legal (p .cell) (o .load)) (isCrossing (p .drawing) x) refl refl (matched (redrawn x (p .drawing)) (o .node) (o .shape)) refl e
 
-pub match-found : (l : Library) (o : Uncovered) {m : Match} → IsMatch l (o .load) (o .node) (o .shape) m → matchAt (m .number) o (getElem? (patterns l) (m .number)) ≡ some m
+pub match-found : (l : Library) {k x : ℕ} (o : Uncovered) {m : Match} → Named l k x o m → matchAt k x o (getElem? (patterns l) k) ≡ some m
 unfolding matchAt
-match-found l o {m} h = rw (h .numbered, h .allowed, h .fits)
+match-found l o h = let f = h .legal-match in rw (← h .number-is, ← h .crossing-is, f .numbered, f .allowed, f .crossed, f .fits)
 
 -- ---- one step
 
@@ -135,7 +146,7 @@ module _ (l : Library) {low high : ℕ} {o : Uncovered} {os : List Uncovered} (r
   step-elsewhere x d = rw (lowest-other r d)
 
   abbrev pub there : Placed → Option Match
-  there x = matchAt (x .pattern) o (getElem? (patterns l) (x .pattern))
+  there x = matchAt (x .pattern) (x .crossing) o (getElem? (patterns l) (x .pattern))
 
   pub step-none : (x : Placed) → x .node ≡ o .node → there x ≡ none → step l here x ≡ none
   unfolding step placedAt taken
@@ -148,14 +159,14 @@ module _ (l : Library) {low high : ℕ} {o : Uncovered} {os : List Uncovered} (r
 -- What a step is: a listed match stands wrongly, or it is a legal match at the first of what is to be covered.
 pub data StepIs (l : Library) (o : Uncovered) (os : List Uncovered) (p : Point) (x : Placed) : Option Walk → Type 0 where
   wrong : StepIs l o os p x none
-  right : (m : Match) → IsMatch l (o .load) (o .node) (o .shape) m → x .node ≡ o .node → m .number ≡ x .pattern → StepIs l o os p x (some (after l o os p m))
+  right : (m : Match) → Named l (x .pattern) (x .crossing) o m → x .node ≡ o .node → StepIs l o os p x (some (after l o os p m))
 
 pub step-is : (l : Library) {low high : ℕ} {o : Uncovered} {os : List Uncovered} → Apart low high (o ∷ os) → (p : Point) (x : Placed) → StepIs l o os p x (step l (record { left = o ∷ os; point = p }) x)
 step-is l {o = o} {os} r p x = node (eqb (x .node) (o .node)) refl
   where
     pattern : (q : Option Match) → there l r p x ≡ q → x .node ≡ o .node → StepIs l o os p x (step l (record { left = o ∷ os; point = p }) x)
     pattern none f e = subst (StepIs l o os p x) (sym (step-none l r p x e f)) wrong
-    pattern (some m) f e = let h = matched-is l (x .pattern) o f in subst (StepIs l o os p x) (sym (step-some l r p x e f)) (right m (h .0) e (h .1))
+    pattern (some m) f e = subst (StepIs l o os p x) (sym (step-some l r p x e f)) (right m (matched-is l (x .pattern) (x .crossing) o f) e)
 
     node : (b : Bool) → eqb (x .node) (o .node) ≡ b → StepIs l o os p x (step l (record { left = o ∷ os; point = p }) x)
     node true e = pattern (there l r p x) refl (eqb-true (x .node) (o .node) e)

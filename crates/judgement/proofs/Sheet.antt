@@ -14,15 +14,17 @@ use Rattle.fields.specs.Written.{widths}
 use Rattle.fields.proofs.Laws.{length-times}
 use Rattle.fields.proofs.Packed.{Laid, packed-only, Found, found-live, found-field, found-then, found-times, ended-live, found-all}
 use Rattle.covers.specs.Cover.{Placed, Cover}
-use Rattle.covers.specs.CoverSheet.{areaWidth, arrivalWidth, matchCountWidth, nodeWidth, patternWidth, placedFields, coverFields, coverSheet, placedRead, coverRead, CoverReads}
+use Rattle.covers.specs.CoverSheet.{areaWidth, arrivalWidth, matchCountWidth, nodeWidth, patternWidth, crossingWidth, placedFields, coverFields, coverSheet, placedRead, coverRead, CoverReads}
 
 -- One match that was not refused.
 placed-found : (s : List ℕ) (xs : List Placed) (c : Scan) → Live (placedRead s xs c .1) → Found s (placedFields (placedRead s xs c .0 ∷ [])) c (placedRead s xs c .1)
 unfolding placedRead placedFields
 placed-found s xs c h =
-    let node = field s nodeWidth free c in
-    let pattern = found-field s patternWidth free (node .1) h in
-    found-then (found-field s nodeWidth free c (found-live pattern)) pattern
+    let n = field s nodeWidth free c in
+    let p = field s patternWidth free (n .1) in
+    let crossing = found-field s crossingWidth free (p .1) h in
+    let pattern = found-field s patternWidth free (n .1) (found-live crossing) in
+    found-then (found-field s nodeWidth free c (found-live pattern)) (found-then pattern crossing)
 
 -- A cover as it was read, with its scan: its fields stand in the bytes, these end after them, and there the scan stands.
 abbrev Whole : List ℕ → Cover × Scan → Type 0

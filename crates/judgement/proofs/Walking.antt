@@ -6,9 +6,10 @@ use mathlib.Core.List.{List, [], _∷_, _++_, append-nil, append-assoc, cons≢n
 use mathlib.Core.Option.{Option, none, some, Option·none-ne-some}
 use native.Mathlib.Nat.{le-refl}
 use native.Mathlib.Omega.{arith}
-use lib.ListN.{getElem?, length, length-append}
+use lib.ListN.{length, length-append}
 use Rattle.fields.specs.Answer.{Answer, refused, success}
-use Rattle.sheets.specs.Model.{Shape, leaf, inv, nand, size, Cell, Library, patterns, Tree}
+use Rattle.sheets.specs.Model.{Shape, leaf, inv, nand, size, Cell, Library, Tree}
+use Rattle.covers.specs.Crossing.{redrawn}
 use Rattle.covers.specs.Match.{Input, Match, IsMatch, joined, laid, matched, pinLoad}
 use Rattle.covers.specs.Cover.{Point, Placed, Cover, IsCover, bare, matching, AreCovers, done, more, beside, late, raised, leafPoint, leafCover, nothing, together, delayed, topped, feeds, inputDelay}
 use Rattle.covers.specs.Curve.{gates}
@@ -16,8 +17,8 @@ use Rattle.covers.specs.Promise.{RootCover}
 use Rattle.covers.proofs.Points.{point-path}
 use Rattle.covers.proofs.Matching.{Whenever, never, holds, whenever, match-inside}
 use Rattle.judgement.specs.Order.{Apart, last, next}
-use Rattle.judgement.specs.Walk.{Uncovered, Walk, comeTo, comeToInputs, started, matchAt, ended, onward, walk}
-use Rattle.judgement.proofs.Order.{come-apart, inputs-apart, match-found, after, there, step-some, StepIs, wrong, right, step-is}
+use Rattle.judgement.specs.Walk.{Uncovered, Walk, comeTo, comeToInputs, started, ended, onward, walk}
+use Rattle.judgement.proofs.Order.{come-apart, inputs-apart, Named, match-found, after, step-some, StepIs, wrong, right, step-is}
 
 -- ---- covers of several nodes
 
@@ -197,7 +198,7 @@ module _ (l : Library) (p : Point) where
   module _ (o : Uncovered) (os : List Uncovered) (q : Point) where
     -- A match has an input, so that its delay counts.
     counts : {m : Match} (w : Walk) → IsMatch l (o .load) (o .node) (o .shape) m → Counts (m .pattern .cell) (o .load) (o .delay) (m .inputs) w
-    counts {m} w f e = absurd (omega (arith, matched-some (m .pattern .drawing) (o .node) (o .shape) (f .fits)))
+    counts {m} w f e = absurd (omega (arith, matched-some (redrawn (m .crossing) (m .pattern .drawing)) (o .node) (o .shape) (f .fits)))
 
     beside-top : (m : Match) (d : Cover) → beside (late (o .delay) (topped (o .node) m d .point)) q ≡ beside (late (o .delay) (d .point)) (raised (m .pattern .cell .area) q)
     unfolding topped raised beside late
@@ -206,9 +207,8 @@ module _ (l : Library) (p : Point) where
     -- The first listed match stands at the first node, and the rest make up the rest.
     record FirstMatch (x : Placed) (xs : List Placed) : Type 0 where
       m : Match
-      legal : IsMatch l (o .load) (o .node) (o .shape) m
+      named : Named l (x .pattern) (x .crossing) o m
       node-is : x .node ≡ o .node
-      pattern-is : m .number ≡ x .pattern
       rest : Covered l (after l o os q m .left) xs (after l o os q m .point) p
 
     first-uncovered : {x : Placed} {xs : List Placed} → 0 < gates (o .shape) → Covered l (o ∷ os) (x ∷ xs) q p → FirstMatch x xs
@@ -217,12 +217,15 @@ module _ (l : Library) (p : Point) where
         let t = top-of l g h in
         let m = t .m in
         let w : Walk = record { left = os; point = raised (m .pattern .cell .area) q } in
-        let list : x ∷ xs ≡ record { node = o .node; pattern = m .number } ∷ (t .below .placed ++ ys) = e ∙ ap (λ (c : Cover). c .placed ++ ys) (t .whole) in
+        let list : x ∷ xs ≡ record { node = o .node; pattern = m .number; crossing = m .crossing } ∷ (t .below .placed ++ ys) = e ∙ ap (λ (c : Cover). c .placed ++ ys) (t .whole) in
         record {
           m = m;
-          legal = t .legal;
+          named = record {
+            legal-match = t .legal;
+            number-is = sym (ap (λ (y : Placed). y .pattern) (head-eq-of-cons-eq list));
+            crossing-is = sym (ap (λ (y : Placed). y .crossing) (head-eq-of-cons-eq list));
+          };
           node-is = ap (λ (y : Placed). y .node) (head-eq-of-cons-eq list);
-          pattern-is = sym (ap (λ (y : Placed). y .pattern) (head-eq-of-cons-eq list));
           rest = inputs-covered (m .pattern .cell) (o .load) (o .delay) (m .inputs) w (counts w (t .legal)) record {
             d = t .below;
             ys = ys;
@@ -236,10 +239,11 @@ module _ (l : Library) (p : Point) where
     unfolding topped after
     first-covered {x} {xs} f =
         let m = f .m in
+        let g = f .named in
         let w : Walk = record { left = os; point = raised (m .pattern .cell .area) q } in
-        let h = inputs-uncovered (m .pattern .cell) (o .load) (o .delay) (m .inputs) w (counts w (f .legal)) (f .rest) in
-        let same : x ≡ record { node = o .node; pattern = m .number } = λ i. record { node = f .node-is i; pattern = sym (f .pattern-is) i } in
-        one-left (topped (o .node) m (h .d)) (matching m (f .legal) (h .legal) refl) (ap₂ _∷_ same (h .parts))
+        let h = inputs-uncovered (m .pattern .cell) (o .load) (o .delay) (m .inputs) w (counts w (g .legal-match)) (f .rest) in
+        let same : x ≡ record { node = o .node; pattern = m .number; crossing = m .crossing } = λ i. record { node = f .node-is i; pattern = sym (g .number-is) i; crossing = sym (g .crossing-is) i } in
+        one-left (topped (o .node) m (h .d)) (matching m (g .legal-match) (h .legal) refl) (ap₂ _∷_ same (h .parts))
         (subst (λ (r : Point). Covered l os (h .ys) r p) (sym (beside-top m (h .d))) (h .rest))
 
 -- ---- the whole walk
@@ -271,7 +275,7 @@ module _ (l : Library) (p : Point) where
           ((m : Match) → IsMatch l (o .load) (o .node) (o .shape) m → walk l (suc k) xs (after l o os q m) ≡ success p → Covered l (after l o os q m .left) xs (after l o os q m .point) p) →
           Covered l (o ∷ os) (x ∷ xs) q p
       go wrong e later = unfold onward in absurd (answer-none e)
-      go (right m f h j) e later = unfold onward in first-covered l p o os q record { m = m; legal = f; node-is = h; pattern-is = j; rest = later m f e }
+      go (right m f h) e later = unfold onward in first-covered l p o os q record { m = m; named = f; node-is = h; rest = later m (f .legal-match) e }
 
   covers-walk : (xs : List Placed) (k : ℕ) (os : List Uncovered) (q : Point) {low high : ℕ} → Apart low high os → Covered l os xs q p → walk l k xs (at os q) ≡ success p
   unfolding walk ended onward topped
@@ -280,9 +284,8 @@ module _ (l : Library) (p : Point) where
   covers-walk (x ∷ xs) k [] q r (none-left e f) = absurd (cons≢nil e)
   covers-walk (x ∷ xs) k (o ∷ os) q r h =
       let f = first-uncovered l p o os q (is-gate r) h in
-      let found : there l r q x ≡ some (f .m) = subst (λ (i : ℕ). matchAt i o (getElem? (patterns l) i) ≡ some (f .m)) (f .pattern-is) (match-found l o (f .legal)) in
-      ap (onward k (walk l (suc k) xs)) (step-some l r q x (f .node-is) found)
-      ∙ covers-walk xs (suc k) (after l o os q (f .m) .left) (after l o os q (f .m) .point) (after-apart l q r (f .legal)) (f .rest)
+      ap (onward k (walk l (suc k) xs)) (step-some l r q x (f .node-is) (match-found l o (f .named)))
+      ∙ covers-walk xs (suc k) (after l o os q (f .m) .left) (after l o os q (f .m) .point) (after-apart l q r (f .named .legal-match)) (f .rest)
 
 -- From the root: a walk comes to its end with the figures of a legal cover, and every legal cover is walked to its end.
 pub started-apart : (t : Tree) → Apart 0 (size (t .shape)) (started t .left)

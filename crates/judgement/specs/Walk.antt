@@ -1,6 +1,6 @@
 -- Document 02, Paper 1: "The list is walked from the front: each match must stand at the lowest INV or NAND still to be covered."
 use Prim.Native.Nat.{ℕ, suc, _+_}
-use mathlib.Core.Bool.{not, cond}
+use mathlib.Core.Bool.{not, _&&_, cond}
 use mathlib.Core.List.{List, [], _∷_}
 use mathlib.Core.Option.{Option, none, some, Option·map}
 use lib.ListN.{getElem?}
@@ -8,6 +8,7 @@ use lib.Dec.{eqb, ltb}
 use Rattle.fields.specs.Answer.{Answer, refused, success}
 use Rattle.sheets.specs.Model.{Shape, leaf, inv, nand, Cell, Library, Pattern, patterns, patternsFrom, drawn, Tree}
 use Rattle.covers.specs.Lists.{any, select, firstSuch}
+use Rattle.covers.specs.Crossing.{redrawn, isCrossing}
 use Rattle.covers.specs.Match.{Input, Match, matched, legal, pinLoad}
 use Rattle.covers.specs.Cover.{Point, Placed, beside, late, raised, leafPoint, feeds, inputDelay}
 
@@ -51,11 +52,11 @@ unfoldable pub others : ℕ → List Uncovered → List Uncovered
 unfolding select
 others n os = select (λ o. not (eqb (o .node) n)) os
 
--- The match of pattern number k at what is to be covered: none if there is no such pattern, if it does not match there, or if it is not legal under the load.
-unfoldable pub matchAt : ℕ → Uncovered → Option Pattern → Option Match
-unfolding legal matched
-matchAt k o none = none
-matchAt k o (some p) = cond (legal (p .cell) (o .load)) (Option·map (λ is. record { number = k; pattern = p; inputs = is }) (matched (p .drawing) (o .node) (o .shape))) none
+-- The match of pattern number k under a crossing at what is to be covered: none if there is no such pattern, if that is no crossing of it, if it does not match there, or if it is not legal under the load.
+unfoldable pub matchAt : ℕ → ℕ → Uncovered → Option Pattern → Option Match
+unfolding legal isCrossing redrawn matched
+matchAt k x o none = none
+matchAt k x o (some p) = cond (legal (p .cell) (o .load) && isCrossing (p .drawing) x) (Option·map (λ is. record { number = k; crossing = x; pattern = p; inputs = is }) (matched (redrawn x (p .drawing)) (o .node) (o .shape))) none
 
 -- The walk after a match was taken at what is to be covered: its inputs are come to in its place.
 unfoldable pub taken : Library → Walk → Uncovered → Option Match → Option Walk
@@ -69,13 +70,13 @@ taken l w o (some m) =
 unfoldable pub placedAt : Library → Walk → Placed → Option Uncovered → Option Walk
 unfolding taken matchAt patterns patternsFrom drawn
 placedAt l w x none = none
-placedAt l w x (some o) = taken l w o (matchAt (x .pattern) o (getElem? (patterns l) (x .pattern)))
+placedAt l w x (some o) = taken l w o (matchAt (x .pattern) (x .crossing) o (getElem? (patterns l) (x .pattern)))
 
 unfoldable pub step : Library → Walk → Placed → Option Walk
 unfolding placedAt lowestAt
 step l w x = placedAt l w x (lowestAt (x .node) (w .left))
 
--- "23 for the first match that is misplaced or not legal, or a list that ends early or late."
+-- "23 for the first match that is misplaced or not legal, or a list that ends early or late", and "where a bit is wrong".
 abbrev pub matchNumber : ℕ
 matchNumber = 23
 

@@ -147,7 +147,7 @@ module _ {most : ℕ} {l : Library} {t : Tree} {rows : List ℕ} {tree : TreeRec
           let c = chosen .0 in
           let is = h c (chosen .1) in
           let p : pointOf w ≡ c .point = Option·some-injective _ _ (sym least-here ∙ sym (choice-point l (tree .load) 0 (t .shape) (tree .required)) ∙ ap (Option·map (λ (d : Cover). d .point)) (chosen .1)) in
-          let whole : coverOf cover ≡ c = ap coverOf is ∙ appended-cover (bareCover (w / base) (w % base)) (c .placed) refl (omega (arith, few-placed)) (omega (arith, few-placed)) ∙ ap (λ (q : Point). record { point = q; placed = c .placed }) p in
+          let whole : coverOf cover ≡ c = ap coverOf is ∙ appended-cover (bareCover (w / base) (w % base)) (c .placed) refl (omega (arith, few-placed)) (omega (arith, few-placed)) (omega (arith, few-placed)) ∙ ap (λ (q : Point). record { point = q; placed = c .placed }) p in
           record { answer-is = ap success whole ∙ chosen-is (some c) (chosen .1); few = omega (arith, ap (λ (r : CoverRecord). r .count) is, few-placed) }
 
       -- What the choice is lent.

@@ -27,7 +27,7 @@ ofListed work r = ofFinding (pointsOf (r .count) work) (r .finding)
 
 -- A cover's record with no match yet, and a refusal beside one.
 unfoldable pub bareCover : (area arrival : ℕ) → CoverRecord
-bareCover area arrival = record { area = area; arrival = arrival; count = 0; nodes = replicate 64 0; patterns = replicate 64 0 }
+bareCover area arrival = record { area = area; arrival = arrival; count = 0; nodes = replicate 64 0; patterns = replicate 64 0; crossings = replicate 64 0 }
 
 unfoldable pub refusedWith : (number place : ℕ) → Mapped
 refusedWith number place = record { finding = Refused number place; cover = bareCover 0 0 }

@@ -63,6 +63,7 @@ fn bare(area: u32, arrival: u32) -> CoverRecord
         count: 0,
         nodes: [0u8; 64],
         patterns: [0u8; 64],
+        crossings: [0u8; 64],
     }
 }
 
@@ -95,7 +96,7 @@ fn map_leaf(symbol: u32, load: u32, time: u32) -> Mapped
 }
 
 // The root's cover under its required time, from the curves.
-fn map_root(rows: &[u32], tree: TreeRecord, most: usize, found: &mut [u32], work: &[u64]) -> Mapped
+fn map_root(rows: &[u32], tree: TreeRecord, most: usize, found: &mut [u8], work: &[u64]) -> Mapped
     requires { ⌜ ((l : Library) × ((t : Tree) × Curved most l t (now rows) tree (length (now found)) (now work))) ⌝ }
     ensures { λ r. ⌜ ((l : Library) (t : Tree) → Curved most l t (now (rows .entry)) tree (length (now (found .entry))) (now (work .entry)) → MappedIs most l t r) ⌝ }
 {
@@ -130,8 +131,9 @@ pub fn map_tree(rows: &[u32], bins: Bins, tree: TreeRecord, most: usize, work: &
     requires { ⌜ ((l : Library) × ((t : Tree) × FillStart l t (now rows) bins tree most (replicate matchTable 0) (now work))) ⌝ }
     ensures { λ r. ⌜ ((l : Library) (t : Tree) → FillStart l t (now (rows .entry)) bins tree most (replicate matchTable 0) (now (work .entry)) → MappedIs most l t r) ⌝ }
 {
-    let mut found = [0u32; Row::TABLE];
-    let filling = filling::fill(rows, bins, tree, most, &mut found, work);
+    let mut found = [0u8; Row::TABLE];
+    let mut kept = [0u64; Row::MATCHES];
+    let filling = filling::fill(rows, bins, tree, most, &mut found, work, &mut kept);
     match filling {
         Filling::Overfull(node) => refuse(Numbers::OVERFULL, node),
         Filling::Whole => map_root(rows, tree, most, &mut found, work),
@@ -190,8 +192,9 @@ pub fn list_tree(
     requires { ⌜ ((l : Library) × ((t : Tree) × FillStart l t (now rows) bins tree most (replicate matchTable 0) (now work))) ⌝ }
     ensures { λ r. ⌜ ((l : Library) (t : Tree) → FillStart l t (now (rows .entry)) bins tree most (replicate matchTable 0) (now (work .entry)) → ListedIs most l t (now (work .exit)) r) ⌝ }
 {
-    let mut found = [0u32; Row::TABLE];
-    let filling = filling::fill(rows, bins, tree, most, &mut found, work);
+    let mut found = [0u8; Row::TABLE];
+    let mut kept = [0u64; Row::MATCHES];
+    let filling = filling::fill(rows, bins, tree, most, &mut found, work, &mut kept);
     match filling {
         Filling::Overfull(node) => Listed {
             finding: Finding::Refused(Numbers::OVERFULL, node),

@@ -1,3 +1,4 @@
 -- The laws of `matching`, in reading order.
 pub mod Written
+pub mod Crossings
 pub mod Patterns

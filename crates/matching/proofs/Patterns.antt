@@ -1,204 +1,286 @@
--- The patterns of a sound library, tried one after another at a node.
-use Prim.Native.Nat.{ℕ, suc, _+_, _*_, _≤_, _<_}
+-- The patterns of a sound library, tried one after another at a node, each under its crossings.
+use Prim.Native.Nat.{ℕ, suc, _+_, _-_, _*_, _/_, _^_, _≤_, _<_}
 use mathlib.Core.Path.{_≡_, refl, sym, ap, ap₂, subst, _∙_}
-use mathlib.Core.Bool.{true, false}
-use mathlib.Core.List.{List, [], _∷_, _++_, map, map-append, List·Memᴰ, List·Memᴰ·head, List·Memᴰ·tail, List·Memᴰ·not-nil, List·Memᴰ·eq-of-singleton, Memᴰ·of-map}
+use mathlib.Core.Bool.{Bool, true, false, cond, true≢false, false≢true}
+use mathlib.Core.List.{List, [], _∷_, _++_, map, map-append, append-assoc, append-nil, List·Memᴰ, List·Memᴰ·head, List·Memᴰ·tail, List·Memᴰ·not-nil, Memᴰ·of-map}
 use mathlib.Core.Option.{Option, none, some}
 use native.Mathlib.Nat.{zero-add, add-zero, add-suc, suc-add}
 use native.Mathlib.Numerals.{add-one}
 use native.Mathlib.Omega.{arith}
-use lib.ListN.{length, getD, take, drop, length-append, length-map}
+use lib.ListN.{length, getD, set, take, drop, length-append, length-map}
 use lib.Seq.{sets, take-suc, length-take-le}
 use borrow.Rule.Slice.PartMut.{putMid}
 use Rattle.fields.proofs.Lists.{mid-sets, at-map}
-use Rattle.sheets.specs.Model.{Shape, Library, Pattern, Tree, patterns}
+use Rattle.sheets.specs.Model.{Shape, Library, Pattern, Tree, patterns, nands}
 use Rattle.sheets.specs.Layout.{tableFrom, rowWords}
-use Rattle.covers.specs.Match.{Input, Match, laid, matched, putFirst, fittingFrom, fitting}
-use Rattle.covers.proofs.Matching.{whenever}
-use Rattle.overlay.specs.declared.Walked.{Walked}
-use Rattle.overlay.specs.Held.{WalkedIs, MatchHeld}
-use Rattle.overlay.proofs.Patterns.{missed, hit, FromDrawing, laid-from, matched-laid, noPattern, patternAt, at-hand, row-held}
-use Rattle.matching.specs.Found.{matchWords, matchTable, matchRow}
-use Rattle.sheets.specs.Sound.{SoundCell, SoundLibrary}
-use Rattle.matching.specs.Promises.{Tried, Ready}
+use Rattle.sheets.specs.Sound.{SoundDrawing, SoundCell, SoundLibrary}
 use Rattle.sheets.proofs.Laws.{table-append}
 use Rattle.sheets.proofs.Tables.{row-at}
 use Rattle.sheets.proofs.Patterns.{SoundPattern, sound-pattern}
+use Rattle.covers.specs.Lists.{keepIf, select}
+use Rattle.covers.specs.Crossing.{crossingLimit, redrawn, isCrossing, counted, crossings}
+use Rattle.covers.specs.Match.{Input, Match, laid, matched, putFirst, fittingUnder, fittingFrom, fitting}
+use Rattle.covers.proofs.Basics.{at-in}
+use Rattle.covers.proofs.Matching.{whenever, IsFitting, fitting-are}
+use Rattle.covers.proofs.Nodes.{root-in}
+use Rattle.overlay.specs.declared.Walked.{Walked}
+use Rattle.overlay.specs.Standing.{extent, Measured}
+use Rattle.overlay.specs.Held.{WalkedIs, WalkIs}
+use Rattle.overlay.proofs.Patterns.{redrawn-sound, FromDrawing, laid-from, matched-laid, noPattern, patternAt, at-hand, row-held, walkable}
+use Rattle.matching.specs.Found.{matchBytes, matchTable, inputsAt, inputsBytes, matchRow}
+use Rattle.matching.specs.Promises.{Few, Writable, Trying, Ready}
 use Rattle.matching.proofs.Written.{length-row}
+use Rattle.matching.proofs.Crossings.{next, next-above, matchesBelow, matchesAt, below-more, bits, bits-few, passed-over, crossing-after}
 
--- ---- one pattern that was walked
+-- ---- one pattern under one crossing
 
-module _ (l : Library) (walked : Walked) (row : List ℕ) (p : Pattern) (n : ℕ) (s : Shape) (t : Tried l walked row p n s) where
-  pub nowhere : walked .matched ≡ false → matched (p .drawing) n s ≡ none
-  nowhere = missed n s walked (t .drawing) (t .walked-is)
+-- What a sound drawing finds: at most six inputs, each at a pin of its cell.
+module _ {pins : ℕ} {d : Shape} (sound : SoundDrawing pins d) (few-pins : pins ≤ 6) (n : ℕ) (s : Shape) (x : ℕ) where
+  gate : matched (redrawn x d) n s ≡ laid (redrawn x d) n s
+  gate = matched-laid (redrawn x d) n s (redrawn-sound x sound .gate)
 
-  -- The match, numbered k.
-  pub record Numbered (k : ℕ) : Type 0 where
-    pub inputs : List Input
-    pub fits : matched (p .drawing) n s ≡ some inputs
-    pub writable : MatchHeld l walked row (record { number = k; pattern = p; inputs = inputs })
+  pub record Sound (is : List Input) : Type 0 where
+    pub few : length is ≤ 6
+    pub pinned : (i : Input) → List·Memᴰ i is → i .pin < pins
 
-  pub numbered : (k : ℕ) → walked .matched ≡ true → Numbered k
-  numbered k e =
-      let h = hit n s walked (t .drawing) (t .walked-is) e in
-      record { inputs = h .inputs; fits = h .fits; writable = record { walks = h .walks; cell = t .cell; sound = t .sound; few = h .few; pinned = h .pinned } }
+  pub inputs-sound : {is : List Input} → matched (redrawn x d) n s ≡ some is → Sound is
+  inputs-sound e =
+      let again = redrawn-sound x sound in
+      let f : FromDrawing (redrawn x d) _ = whenever (laid-from (redrawn x d) n s) (sym gate ∙ e) in
+      record { few = omega (arith, f .few, again .nands); pinned = λ i m. again .leaves (i .pin) (f .pins i m) }
 
--- What is written for it.
-pub wrote-none : (l : Library) (k : ℕ) (p : Pattern) (o : Option (List Input)) (t : List ℕ) → o ≡ none →
-    (0 ≡ length (putFirst k p o [])) × (t ≡ tableFrom matchWords t 0 (map (matchRow l) (putFirst k p o [])))
-unfolding putFirst tableFrom
-wrote-none l k p o t e = rw e (refl, refl)
+  pub writable : {walked : Walked} → WalkIs d s n x walked → Writable (matched (redrawn x d) n s) walked
+  writable {walked} w = record { walked-is = subst (λ o. WalkedIs o walked) (sym gate) (w .found-is); few = go (matched (redrawn x d) n s) refl }
+    where
+      go : (o : Option (List Input)) → matched (redrawn x d) n s ≡ o → Few o
+      go none e = tt
+      go (some is) e = inputs-sound e .few
 
-pub wrote-one : (l : Library) (k : ℕ) (p : Pattern) (o : Option (List Input)) (is : List Input) (t t′ : List ℕ) → o ≡ some is →
-    t′ ≡ sets t 0 (matchRow l (record { number = k; pattern = p; inputs = is })) →
-    (1 ≡ length (putFirst k p o [])) × (t′ ≡ tableFrom matchWords t 0 (map (matchRow l) (putFirst k p o [])))
-unfolding putFirst tableFrom
-wrote-one l k p o is t t′ e h = rw e (refl, h)
+-- What is written for a walk.
+pub missing : {o : Option (List Input)} {walked : Walked} → Writable o walked → walked .matched ≡ false → o ≡ none
+missing {o} {walked} w e = go o (w .walked-is)
+  where
+    go : (o : Option (List Input)) → WalkedIs o walked → o ≡ none
+    go none h = refl
+    go (some is) h = absurd (false≢true (sym e ∙ h .matches))
 
--- ---- all matches of a node
+pub record There (o : Option (List Input)) (walked : Walked) : Type 0 where
+  pub inputs : List Input
+  pub is-there : o ≡ some inputs
+  pub writable : Writable (some inputs) walked
 
-module _ (n : ℕ) (s : Shape) where
-  found-append : (k : ℕ) (p : Pattern) (o : Option (List Input)) (ms qs : List Match) → putFirst k p o (ms ++ qs) ≡ putFirst k p o ms ++ qs
-  unfolding putFirst
-  found-append k p none ms qs = refl
-  found-append k p (some is) ms qs = refl
+pub there : {o : Option (List Input)} {walked : Walked} → Writable o walked → walked .matched ≡ true → There o walked
+there {o} {walked} w e = go o refl w
+  where
+    go : (u : Option (List Input)) → o ≡ u → Writable u walked → There o walked
+    go none f h = absurd (true≢false (sym e ∙ h .walked-is))
+    go (some is) f h = record { inputs = is; is-there = f; writable = h }
 
-  pub fitting-more : (k : ℕ) (ps : List Pattern) (p : Pattern) →
-      fittingFrom n s k (ps ++ (p ∷ [])) ≡ fittingFrom n s k ps ++ putFirst (k + length ps) p (matched (p .drawing) n s) []
-  unfolding fittingFrom
-  fitting-more k [] p = ap (λ (i : ℕ). putFirst i p (matched (p .drawing) n s) []) (sym (add-zero k))
-  fitting-more k (q ∷ ps) p =
-      ap (putFirst k q (matched (q .drawing) n s)) (fitting-more (suc k) ps p ∙ ap (λ (i : ℕ). fittingFrom n s (suc k) ps ++ putFirst i p (matched (p .drawing) n s) []) (suc-add k (length ps) ∙ sym (add-suc k (length ps))))
-      ∙ found-append k q (matched (q .drawing) n s) (fittingFrom n s (suc k) ps) (putFirst (k + suc (length ps)) p (matched (p .drawing) n s) [])
+module _ (k x : ℕ) (p : Pattern) (t : List ℕ) where
+  pub wrote-none : {o : Option (List Input)} → o ≡ none → (0 ≡ length (putFirst k p x o [])) × (t ≡ tableFrom matchBytes t 0 (map matchRow (putFirst k p x o [])))
+  unfolding putFirst tableFrom
+  wrote-none e = rw e (refl, refl)
 
-  found-few : (k : ℕ) (p : Pattern) (o : Option (List Input)) (ms : List Match) → length (putFirst k p o ms) ≤ suc (length ms)
-  unfolding putFirst
-  found-few k p none ms = omega arith
-  found-few k p (some is) ms = omega arith
+  pub wrote-one : {o : Option (List Input)} {t′ : List ℕ} {count : ℕ} (is : List Input) → o ≡ some is → count ≡ length is → t′ ≡ sets (set (set (set t 0 k) 1 x) 2 count) inputsAt (inputsBytes is) →
+      (1 ≡ length (putFirst k p x o [])) × (t′ ≡ tableFrom matchBytes t 0 (map matchRow (putFirst k p x o [])))
+  unfolding putFirst tableFrom matchRow
+  wrote-one is e c h = rw e (refl, h ∙ ap (λ n. sets (set (set (set t 0 k) 1 x) 2 n) inputsAt (inputsBytes is)) c)
 
-  few-from : (k : ℕ) (ps : List Pattern) → length (fittingFrom n s k ps) ≤ length ps
-  unfolding fittingFrom
-  few-from k [] = omega arith
-  few-from k (p ∷ ps) = omega (arith, few-from (suc k) ps, found-few k p (matched (p .drawing) n s) (fittingFrom n s (suc k) ps))
+-- ---- one turn of the loop over the crossings
 
-  -- Each match is of one of the patterns.
-  abbrev Of : List Pattern → Match → Type 0
-  Of ps m = List·Memᴰ (m .pattern) ps × (matched (m .pattern .drawing) n s ≡ some (m .inputs))
+-- What one turn wrote into the part that it was lent stands in the table.
+lent-back : (t : List ℕ) (count m : ℕ) (rs : List (List ℕ)) → m ≡ matchBytes → matchBytes * count + m ≤ length t → length rs ≤ 1 → ((r : List ℕ) → List·Memᴰ r rs → length r ≤ matchBytes) →
+    putMid (matchBytes * count) m t (tableFrom matchBytes (take m (drop (matchBytes * count) t)) 0 rs) ≡ tableFrom matchBytes t count rs
+unfolding tableFrom
+lent-back t count m [] e h g f = mid-sets t (matchBytes * count) m [] h (omega arith)
+lent-back t count m (r ∷ []) e h g f = mid-sets t (matchBytes * count) m r h (omega (arith, f r (List·Memᴰ·head refl)))
+lent-back t count m (r ∷ (q ∷ rs)) e h g f = absurd (omega arith)
 
-  found-of : (k : ℕ) (p : Pattern) (ps : List Pattern) (o : Option (List Input)) {ms : List Match} {m : Match} → matched (p .drawing) n s ≡ o →
-      (List·Memᴰ m ms → Of ps m) → List·Memᴰ m (putFirst k p o ms) → Of (p ∷ ps) m
-  unfolding putFirst
-  found-of k p ps none e f h = let r = f h in (List·Memᴰ·tail (r .0), r .1)
-  found-of k p ps (some is) e f (List·Memᴰ·head q) =
-      (List·Memᴰ·head (ap (λ (m : Match). m .pattern) q), ap (λ (m : Match). matched (m .pattern .drawing) n s) q ∙ e ∙ sym (ap (λ (m : Match). some (m .inputs)) q))
-  found-of k p ps (some is) e f (List·Memᴰ·tail h) = let r = f h in (List·Memᴰ·tail (r .0), r .1)
+put-more : (k : ℕ) (p : Pattern) (x : ℕ) (o : Option (List Input)) (ms : List Match) → length (putFirst k p x o ms) ≤ suc (length ms)
+unfolding putFirst
+put-more k p x none ms = omega arith
+put-more k p x (some is) ms = omega arith
 
-  fitting-of : (k : ℕ) (ps : List Pattern) {m : Match} → List·Memᴰ m (fittingFrom n s k ps) → Of ps m
-  unfolding fittingFrom
-  fitting-of k [] h = absurd (List·Memᴰ·not-nil h)
-  fitting-of k (p ∷ ps) h = found-of k p ps (matched (p .drawing) n s) refl (λ j. fitting-of (suc k) ps j) h
+pub put-few : (k : ℕ) (p : Pattern) (x : ℕ) (o : Option (List Input)) → length (putFirst k p x o []) ≤ 1
+put-few k p x o = put-more k p x o []
 
-  pub fitting-few : (l : Library) → length (fitting l n s) ≤ length (patterns l)
-  unfolding fitting
-  fitting-few l = few-from 0 (patterns l)
+put-small : (k : ℕ) (p : Pattern) (x : ℕ) (o : Option (List Input)) → Few o → (r : List ℕ) → List·Memᴰ r (map matchRow (putFirst k p x o [])) → length r ≤ matchBytes
+unfolding putFirst
+put-small k p x none f r m = absurd (List·Memᴰ·not-nil m)
+put-small k p x (some is) f r (List·Memᴰ·head e) = omega (arith, ap length e, length-row (record { number = k; crossing = x; pattern = p; inputs = is }))
+put-small k p x (some is) f r (List·Memᴰ·tail m) = absurd (List·Memᴰ·not-nil m)
 
-  module _ (l : Library) where
-    -- A match of a sound library has at most 16 inputs, each at a pin of its cell.
-    pub record SoundMatch (m : Match) : Type 0 where
-      pub few : length (m .inputs) ≤ 16
-      pub pinned : (i : Input) → List·Memᴰ i (m .inputs) → i .pin < length (m .pattern .cell .pins)
-      pub cell : SoundCell (length (l .bins)) (m .pattern .cell)
-      pub fits : matched (m .pattern .drawing) n s ≡ some (m .inputs)
-      pub row-few : length (matchRow l m) ≤ matchWords
+module _ (n : ℕ) (s : Shape) (k : ℕ) (p : Pattern) (x : ℕ) {walked : Walked} (w : Writable (matched (redrawn x (p .drawing)) n s) walked) where
+  -- The matches under the crossings so far, and one crossing more.
+  pub crossing-turn : (t₀ t part : List ℕ) (count found r m x′ : ℕ) → m ≡ matchBytes → matchBytes * found + m ≤ length t →
+      matchesBelow n s k p x′ ≡ matchesBelow n s k p x ++ matchesAt n s k p x →
+      found ≡ count + length (matchesBelow n s k p x) → t ≡ tableFrom matchBytes t₀ count (map matchRow (matchesBelow n s k p x)) →
+      (r ≡ length (matchesAt n s k p x)) × (part ≡ tableFrom matchBytes (take m (drop (matchBytes * found) t)) 0 (map matchRow (matchesAt n s k p x))) →
+      (found + r ≡ count + length (matchesBelow n s k p x′)) × (putMid (matchBytes * found) m t part ≡ tableFrom matchBytes t₀ count (map matchRow (matchesBelow n s k p x′)))
+  crossing-turn t₀ t part count found r m x′ e g more ec et h =
+      let fs = matchesBelow n s k p x in
+      let ms = matchesAt n s k p x in
+      let o = matched (redrawn x (p .drawing)) n s in (
+        omega (arith, ap length more, length-append fs ms, h .0),
+        ap (putMid (matchBytes * found) m t) (h .1)
+            ∙ lent-back t found m (map matchRow ms) e g (omega (arith, length-map ms matchRow, put-few k p x o)) (put-small k p x o (w .few))
+            ∙ ap₂ (λ t′ i. tableFrom matchBytes t′ i (map matchRow ms)) et (ec ∙ ap (λ i. count + i) (sym (length-map fs matchRow)))
+            ∙ sym (table-append matchBytes t₀ count (map matchRow fs) (map matchRow ms))
+            ∙ ap (tableFrom matchBytes t₀ count) (sym (ap (map matchRow) more ∙ map-append matchRow fs ms)),
+      )
 
-    match-sound : (m : Match) → SoundPattern l (m .pattern) → matched (m .pattern .drawing) n s ≡ some (m .inputs) → SoundMatch m
-    match-sound m p e =
-        let f : FromDrawing (m .pattern .drawing) (m .inputs) =
-        whenever (laid-from (m .pattern .drawing) n s) (sym (matched-laid (m .pattern .drawing) n s (p .drawing .gate)) ∙ e) in
-        record {
-          few = omega (arith, f .few, p .drawing .size);
-          pinned = λ j k. p .drawing .leaves (j .pin) (f .pins j k);
-          cell = p .cell;
-          fits = e;
-          row-few = omega (arith, length-row l m, f .few, p .drawing .size);
-        }
+-- Those below the last are all.
+pub all-below : (n : ℕ) (s : Shape) (k : ℕ) (p : Pattern) {x : ℕ} → x ≡ crossingLimit → matchesBelow n s k p x ≡ fittingUnder n s k p (crossings (p .drawing))
+unfolding crossings
+all-below n s k p e = ap (matchesBelow n s k p) e
 
-    pub fitting-sound : SoundLibrary l → {m : Match} → List·Memᴰ m (fitting l n s) → SoundMatch m
-    unfolding fitting
-    fitting-sound h {m} i = let r = fitting-of 0 (patterns l) i in match-sound m (sound-pattern l h (r .0)) (r .1)
+-- What a walk of a pattern under a crossing says of the crossings after it.
+module _ {row ss zs : List ℕ} {n k room count : ℕ} {p : Pattern} {s : Shape} (t : Trying row ss zs n k room count p s) where
+  pub few-nands : nands (p .drawing) ≤ 5
+  few-nands = omega (arith, t .sound .nands, t .few-pins)
 
--- The rows of all matches fit, and each is read back.
-pub match-row-at : (l : Library) (n : ℕ) (s : Shape) → SoundLibrary l → (t : List ℕ) → length t ≡ matchTable → (d : Match) (j c : ℕ) → j < length (fitting l n s) →
-    c < length (matchRow l (getD (fitting l n s) j d)) →
-    getD (tableFrom matchWords t 0 (map (matchRow l) (fitting l n s))) (matchWords * j + c) 0 ≡ getD (matchRow l (getD (fitting l n s) j d)) c 0
-match-row-at l n s h t e d j c g k =
-    let ms = fitting l n s in
-    let here : getD (map (matchRow l) ms) j [] ≡ matchRow l (getD ms j d) = at-map (matchRow l) ms j d [] g in
-    row-at matchWords t (map (matchRow l) ms) j c
-    (λ r i. let m = Memᴰ·of-map (matchRow l) ms i in omega (arith, fitting-sound n s l h (m .1) .row-few, ap length (m .2)))
-    (omega (arith, length-map ms (matchRow l), fitting-few n s l, h .few-patterns)) (omega (arith, length-map ms (matchRow l))) (omega (arith, ap length here))
-    ∙ ap (λ (r : List ℕ). getD r c 0) here
+  -- How many NANDs the extents tell.
+  pub nands-told : {words : List ℕ} → Measured (p .drawing) words → getD words 0 0 / 32 ≡ nands (p .drawing)
+  unfolding extent
+  nands-told m = omega (arith, m .each (record { number = 0; shape = p .drawing }) (root-in 0 (p .drawing)), t .sound .size)
+
+  module _ (x : ℕ) (crossing : isCrossing (p .drawing) x ≡ true) {walked : Walked} (walk-is : WalkIs (p .drawing) s n x walked)
+      (told decides : ℕ) (told-is : told ≡ nands (p .drawing)) (decides-is : decides ≡ cond (walked .matched) told (walked .used)) where
+    same : decides ≡ bits (t .sound) few-nands walk-is crossing
+    same = decides-is ∙ ap (λ i. cond (walked .matched) i (walked .used)) told-is
+
+    pub decides-few : decides ≤ 5
+    decides-few = omega (arith, same, bits-few (t .sound) few-nands walk-is crossing, few-nands)
+
+    module _ (x′ : ℕ) (next-is : x′ ≡ next x (5 - decides)) where
+      same-next : x′ ≡ next x (5 - bits (t .sound) few-nands walk-is crossing)
+      same-next = next-is ∙ ap (λ i. next x (5 - i)) same
+
+      pub more-below : matchesBelow n s k p x′ ≡ matchesBelow n s k p x ++ matchesAt n s k p x
+      more-below =
+          below-more n s k p x x′ (subst (λ i. x < i) (sym same-next) (next-above x (5 - bits (t .sound) few-nands walk-is crossing))) crossing
+          (λ y a b. passed-over (t .sound) few-nands walk-is crossing y a (subst (λ i. y < i) same-next b))
+
+      pub next-crosses : x′ < crossingLimit → isCrossing (p .drawing) x′ ≡ true
+      next-crosses h = subst (λ i. isCrossing (p .drawing) i ≡ true) (sym same-next) (crossing-after (t .sound) few-nands walk-is crossing (subst (λ i. i < crossingLimit) same-next h))
 
 -- ---- one turn of the loop over the patterns
 
--- The matches among the first k patterns.
+-- The matches among the first k patterns, and those of pattern j.
 abbrev pub matchesBefore : Library → ℕ → Shape → ℕ → List Match
 matchesBefore l n s k = fittingFrom n s 0 (take k (patterns l))
 
--- And those of pattern j: one or none.
 abbrev pub matchesOf : Library → ℕ → Shape → ℕ → List Match
-matchesOf l n s j = putFirst j (patternAt l j) (matched (patternAt l j .drawing) n s) []
+matchesOf l n s j = fittingUnder n s j (patternAt l j) (crossings (patternAt l j .drawing))
 
-pub before-more : (l : Library) (n : ℕ) (s : Shape) (j : ℕ) → j < length (patterns l) → matchesBefore l n s (j + 1) ≡ matchesBefore l n s j ++ matchesOf l n s j
+fitting-more : (n : ℕ) (s : Shape) (k : ℕ) (ps : List Pattern) (p : Pattern) →
+    fittingFrom n s k (ps ++ (p ∷ [])) ≡ fittingFrom n s k ps ++ fittingUnder n s (k + length ps) p (crossings (p .drawing))
+unfolding fittingFrom
+fitting-more n s k [] p = append-nil (fittingUnder n s k p (crossings (p .drawing))) ∙ ap (λ i. fittingUnder n s i p (crossings (p .drawing))) (sym (add-zero k))
+fitting-more n s k (q ∷ ps) p =
+    let first = fittingUnder n s k q (crossings (q .drawing)) in
+    ap (λ r. first ++ r) (fitting-more n s (suc k) ps p ∙ ap (λ i. fittingFrom n s (suc k) ps ++ fittingUnder n s i p (crossings (p .drawing))) (suc-add k (length ps) ∙ sym (add-suc k (length ps))))
+    ∙ sym (append-assoc first (fittingFrom n s (suc k) ps) (fittingUnder n s (k + suc (length ps)) p (crossings (p .drawing))))
+
+before-more : (l : Library) (n : ℕ) (s : Shape) (j : ℕ) → j < length (patterns l) → matchesBefore l n s (j + 1) ≡ matchesBefore l n s j ++ matchesOf l n s j
 before-more l n s j h =
     let ps = patterns l in
     let p = patternAt l j in
-    ap (fittingFrom n s 0) (ap (λ (i : ℕ). take i ps) (add-one j) ∙ take-suc ps j noPattern h)
+    ap (fittingFrom n s 0) (ap (λ i. take i ps) (add-one j) ∙ take-suc ps j noPattern h)
     ∙ fitting-more n s 0 (take j ps) p
-    ∙ ap (λ (i : ℕ). fittingFrom n s 0 (take j ps) ++ putFirst i p (matched (p .drawing) n s) []) (zero-add (length (take j ps)) ∙ length-take-le j ps (omega arith))
+    ∙ ap (λ i. fittingFrom n s 0 (take j ps) ++ fittingUnder n s i p (crossings (p .drawing))) (zero-add (length (take j ps)) ∙ length-take-le j ps (omega arith))
 
--- What one turn wrote into the part that it was lent stands in the table.
-pub lent-back : (t : List ℕ) (count m : ℕ) (rs : List (List ℕ)) → m ≡ matchWords → matchWords * count + m ≤ length t → length rs ≤ 1 → ((r : List ℕ) → List·Memᴰ r rs → length r ≤ matchWords) →
-    putMid (matchWords * count) m t (tableFrom matchWords (take m (drop (matchWords * count) t)) 0 rs) ≡ tableFrom matchWords t count rs
-unfolding tableFrom
-lent-back t count m [] e h g f = mid-sets t (matchWords * count) m [] h (omega arith)
-lent-back t count m (r ∷ []) e h g f = mid-sets t (matchWords * count) m r h (omega (arith, f r (List·Memᴰ·head refl)))
-lent-back t count m (r ∷ (q ∷ rs)) e h g f = absurd (omega arith)
+pub pattern-turn : (l : Library) (n : ℕ) (s : Shape) (j : ℕ) → j < length (patterns l) → (t₀ t t′ : List ℕ) (count r : ℕ) →
+    count ≡ length (matchesBefore l n s j) → t ≡ tableFrom matchBytes t₀ 0 (map matchRow (matchesBefore l n s j)) →
+    (r ≡ count + length (matchesOf l n s j)) × (t′ ≡ tableFrom matchBytes t count (map matchRow (matchesOf l n s j))) →
+    (r ≡ length (matchesBefore l n s (j + 1))) × (t′ ≡ tableFrom matchBytes t₀ 0 (map matchRow (matchesBefore l n s (j + 1))))
+pattern-turn l n s j h t₀ t t′ count r ec et w =
+    let fs = matchesBefore l n s j in
+    let ms = matchesOf l n s j in
+    let more = before-more l n s j h in (
+      omega (arith, ap length more, length-append fs ms, w .0),
+      w .1
+          ∙ ap₂ (λ a i. tableFrom matchBytes a i (map matchRow ms)) et (ec ∙ sym (zero-add (length (map matchRow fs)) ∙ length-map fs matchRow))
+          ∙ sym (table-append matchBytes t₀ 0 (map matchRow fs) (map matchRow ms))
+          ∙ ap (tableFrom matchBytes t₀ 0) (sym (ap (map matchRow) more ∙ map-append matchRow fs ms)),
+    )
 
-module _ {l : Library} {t : Tree} {rows ss zs : List ℕ} {n room : ℕ} {s : Shape} (ready : Ready l t rows ss zs n room s) (j : ℕ)
-    (h : j < length (patterns l)) where
-  sound-at : SoundPattern l (patternAt l j)
-  sound-at = at-hand (ready .decoded) j h
+-- How many matches there may be.
+under-few : (n : ℕ) (s : Shape) (k : ℕ) (p : Pattern) (xs : List ℕ) → length (fittingUnder n s k p xs) ≤ length xs
+unfolding fittingUnder
+under-few n s k p [] = omega arith
+under-few n s k p (x ∷ xs) = omega (arith, put-more k p x (matched (redrawn x (p .drawing)) n s) (fittingUnder n s k p xs), under-few n s k p xs)
 
-  pub tried : (m : ℕ) → m ≡ rowWords → (walked : Walked) → WalkedIs (laid (patternAt l j .drawing) n s) walked → Tried l walked (take m (drop (rowWords * j) rows)) (patternAt l j) n s
-  tried m e walked w = record { walked-is = w; cell = row-held (ready .decoded) j h m e .cell; sound = sound-at .cell; drawing = sound-at .drawing }
+keep-few : (b : Bool) (x : ℕ) (ys : List ℕ) → length (keepIf b x ys) ≤ suc (length ys)
+unfolding keepIf
+keep-few true x ys = omega arith
+keep-few false x ys = omega arith
 
-  rows-small : (r : List ℕ) → List·Memᴰ r (map (matchRow l) (matchesOf l n s j)) → length r ≤ matchWords
-  rows-small r i =
-      let p = patternAt l j in
-      let m = Memᴰ·of-map (matchRow l) (matchesOf l n s j) i in
-      let o = found-of n s j p [] (matched (p .drawing) n s) refl (λ h. absurd (List·Memᴰ·not-nil h)) (m .1) in
-      let sound = subst (SoundPattern l) (sym (List·Memᴰ·eq-of-singleton (o .0))) sound-at in
-      omega (arith, match-sound n s l (m .0) sound (o .1) .row-few, ap length (m .2))
+select-few : (test : ℕ → Bool) (xs : List ℕ) → length (select test xs) ≤ length xs
+unfolding select
+select-few test [] = omega arith
+select-few test (x ∷ xs) = omega (arith, keep-few (test x) x (select test xs), select-few test xs)
 
-  -- What the loop has written so far, and one pattern more.
-  pub find-turn : (t₀ t part : List ℕ) (count r m : ℕ) → m ≡ matchWords → matchWords * count + m ≤ length t →
-      count ≡ length (matchesBefore l n s j) → t ≡ tableFrom matchWords t₀ 0 (map (matchRow l) (matchesBefore l n s j)) →
-      (r ≡ length (matchesOf l n s j)) × (part ≡ tableFrom matchWords (take m (drop (matchWords * count) t)) 0 (map (matchRow l) (matchesOf l n s j))) →
-      (count + r ≡ length (matchesBefore l n s (j + 1)))
-      × (putMid (matchWords * count) m t part ≡ tableFrom matchWords t₀ 0 (map (matchRow l) (matchesBefore l n s (j + 1))))
-  find-turn t₀ t part count r m e g ec et w =
-      let p = patternAt l j in
-      let fs = matchesBefore l n s j in
-      let ms = matchesOf l n s j in
-      let more = before-more l n s j h in (
-        omega (arith, ap length more, length-append fs ms, w .0),
-        ap (putMid (matchWords * count) m t) (w .1)
-            ∙ lent-back t count m (map (matchRow l) ms) e g (omega (arith, length-map ms (matchRow l), found-few n s j p (matched (p .drawing) n s) [])) rows-small
-            ∙ ap₂ (λ (t′ : List ℕ) (i : ℕ). tableFrom matchWords t′ i (map (matchRow l) ms)) et (ec ∙ sym (zero-add (length (map (matchRow l) fs)) ∙ length-map fs (matchRow l)))
-            ∙ sym (table-append matchWords t₀ 0 (map (matchRow l) fs) (map (matchRow l) ms))
-            ∙ ap (tableFrom matchWords t₀ 0) (sym (ap (map (matchRow l)) more ∙ map-append (matchRow l) fs ms)),
-      )
+crossings-few : (d : Shape) → length (crossings d) ≤ 32
+unfolding crossings counted
+crossings-few d = select-few (isCrossing d) (counted 0 crossingLimit)
 
-  pub one-at-most : (r : ℕ) → r ≡ length (matchesOf l n s j) → r ≤ 1
-  one-at-most r e = omega (arith, found-few n s j (patternAt l j) (matched (patternAt l j .drawing) n s) [])
+pub of-few : (l : Library) (n : ℕ) (s : Shape) (j : ℕ) → length (matchesOf l n s j) ≤ 32
+of-few l n s j = let d = patternAt l j .drawing in omega (arith, under-few n s j (patternAt l j) (crossings d), crossings-few d)
+
+from-few : (n : ℕ) (s : Shape) (k : ℕ) (ps : List Pattern) → length (fittingFrom n s k ps) ≤ 32 * length ps
+unfolding fittingFrom
+from-few n s k [] = omega arith
+from-few n s k (p ∷ ps) =
+    let xs = crossings (p .drawing) in
+    omega (arith, length-append (fittingUnder n s k p xs) (fittingFrom n s (suc k) ps), under-few n s k p xs, crossings-few (p .drawing), from-few n s (suc k) ps)
+
+pub fitting-few : (l : Library) (n : ℕ) (s : Shape) → length (fitting l n s) ≤ 32 * length (patterns l)
+unfolding fitting
+fitting-few l n s = from-few n s 0 (patterns l)
+
+-- The row of pattern j, over the node.
+pub trying : {l : Library} {t : Tree} {rows ss zs : List ℕ} {n room : ℕ} {s : Shape} → Ready l t rows ss zs n room s → (j : ℕ) → j < length (patterns l) → (m : ℕ) → m ≡ rowWords →
+    {count : ℕ} → count ≤ 32 * j → Trying (take m (drop (rowWords * j) rows)) ss zs n j room count (patternAt l j) s
+trying {l} ready j h m e {count} few =
+    let d = ready .decoded in
+    let p = at-hand d j h in
+    record {
+      drawing = row-held d j h m e .drawing;
+      pins = length (patternAt l j .cell .pins);
+      few-pins = p .cell .few-pins;
+      sound = p .drawing;
+      walkable = λ words measured. walkable d j h m e measured (ready .here);
+      number-small = omega (arith, d .library .few-patterns);
+      room-is = ready .room-is;
+      count-small = few;
+    }
+
+-- ---- the matches found
+
+module _ (l : Library) (n : ℕ) (s : Shape) where
+  -- A match of a sound library has at most six inputs, each at a pin of its cell.
+  pub record SoundMatch (m : Match) : Type 0 where
+    pub few : length (m .inputs) ≤ 6
+    pub pinned : (i : Input) → List·Memᴰ i (m .inputs) → i .pin < length (m .pattern .cell .pins)
+    pub cell : SoundCell (length (l .bins)) (m .pattern .cell)
+    pub fitting-is : IsFitting l n s m
+    pub row-few : length (matchRow m) ≤ matchBytes
+
+  pub fitting-sound : SoundLibrary l → {m : Match} → List·Memᴰ m (fitting l n s) → SoundMatch m
+  fitting-sound h {m} i =
+      let f = fitting-are l n s i in
+      let p = sound-pattern l h (at-in (patterns l) (m .number) (f .numbered)) in
+      let g = inputs-sound (p .drawing) (p .cell .few-pins) n s (m .crossing) (f .fits) in
+      record { few = g .few; pinned = g .pinned; cell = p .cell; fitting-is = f; row-few = omega (arith, length-row m, g .few) }
+
+  -- The rows of all matches fit, and each is read back.
+  pub match-row-at : SoundLibrary l → (t : List ℕ) → length t ≡ matchTable → (d : Match) (j c : ℕ) → j < length (fitting l n s) → c < length (matchRow (getD (fitting l n s) j d)) →
+      getD (tableFrom matchBytes t 0 (map matchRow (fitting l n s))) (matchBytes * j + c) 0 ≡ getD (matchRow (getD (fitting l n s) j d)) c 0
+  match-row-at h t e d j c g k =
+      let ms = fitting l n s in
+      let here : getD (map matchRow ms) j [] ≡ matchRow (getD ms j d) = at-map matchRow ms j d [] g in
+      row-at matchBytes t (map matchRow ms) j c
+      (λ r i. let m = Memᴰ·of-map matchRow ms i in omega (arith, fitting-sound h (m .1) .row-few, ap length (m .2)))
+      (omega (arith, length-map ms matchRow, fitting-few l n s, h .few-patterns)) (omega (arith, length-map ms matchRow)) (omega (arith, ap length here))
+      ∙ ap (λ r. getD r c 0) here

@@ -1,28 +1,43 @@
 -- What the functions of this crate are lent and what they promise, by the definitions of matches and of their rows.
-use Prim.Native.Nat.{ℕ}
+use Prim.Native.Nat.{ℕ, _*_, _≤_, _<_}
 use mathlib.Core.Path.{_≡_}
 use mathlib.Core.List.{List, List·Memᴰ}
+use mathlib.Core.Option.{Option, none, some}
 use lib.ListN.{length}
-use Rattle.sheets.specs.Model.{Shape, Library, Pattern, Tree}
-use Rattle.sheets.specs.Sound.{SoundDrawing, SoundCell}
-use Rattle.covers.specs.Match.{laid}
+use Rattle.sheets.specs.Model.{Shape, size, nands, Library, Pattern, Tree}
+use Rattle.sheets.specs.Sound.{SoundDrawing}
+use Rattle.covers.specs.Match.{Input}
 use Rattle.covers.specs.Tradeoff.{nodes}
 use Rattle.overlay.specs.declared.Walked.{Walked}
-use Rattle.overlay.specs.Held.{CellHeld, WalkedIs, Decoded}
+use Rattle.overlay.specs.Standing.{DrawingHeld, Measured}
+use Rattle.overlay.specs.Held.{WalkedIs, Walkable, Decoded}
 use Rattle.matching.specs.Found.{matchTable}
 
--- ---- a match
+-- ---- one pattern
 
--- A sound pattern as it was walked over the subtree s at node n, with its row.
-pub record Tried (l : Library) (walked : Walked) (row : List ℕ) (p : Pattern) (n : ℕ) (s : Shape) : Type 0 where
-  pub walked-is : WalkedIs (laid (p .drawing) n s) walked
-  pub cell : CellHeld l row (p .cell)
-  pub sound : SoundCell (length (l .bins)) (p .cell)
-  pub drawing : SoundDrawing (length (p .cell .pins)) (p .drawing)
+-- A walk found these inputs, at most six, or none.
+abbrev pub Few : Option (List Input) → Type 0
+Few none = Unit {0}
+Few (some is) = length is ≤ 6
+
+pub record Writable (o : Option (List Input)) (walked : Walked) : Type 0 where
+  pub walked-is : WalkedIs o walked
+  pub few : Few o
+
+-- The row of a sound pattern with a number, over the subtree s at node n, and room for its matches after so many rows.
+pub record Trying (row ss zs : List ℕ) (n number room count : ℕ) (p : Pattern) (s : Shape) : Type 0 where
+  pub drawing : DrawingHeld row (p .drawing)
+  pub pins : ℕ
+  pub few-pins : pins ≤ 6
+  pub sound : SoundDrawing pins (p .drawing)
+  pub walkable : (words : List ℕ) → Measured (p .drawing) words → Walkable row words ss zs n (p .drawing) s
+  pub number-small : number < 128
+  pub room-is : room ≡ matchTable
+  pub count-small : count ≤ 32 * number
 
 -- ---- all matches of a node
 
--- The library l and the tree t as decoded, (n, s), which is a node of the tree, and room for a row of each pattern.
+-- The library l and the tree t as decoded, (n, s), which is a node of the tree, and room for a row of each pattern under each crossing.
 pub record Ready (l : Library) (t : Tree) (rows ss zs : List ℕ) (n room : ℕ) (s : Shape) : Type 0 where
   pub decoded : Decoded l t rows ss zs
   pub here : List·Memᴰ (record { number = n; shape = s }) (nodes 0 (t .shape))

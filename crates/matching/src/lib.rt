@@ -1,129 +1,141 @@
-// Which patterns match at a node of the subject tree. They are found once for a node, and serve every load and every deadline.
+// Which patterns match at a node of the subject tree, and under which crossings. They are found once for a node, and serve every load and every
+// deadline.
+use overlay::Crossing;
+use overlay::Extents;
 use overlay::Walked;
 use sheets::library::PatternRow;
 ghost use mathlib.Core.Path.{_≡_};
-ghost use mathlib.Core.Bool.{Bool, cond, not};
-ghost use mathlib.Core.List.{[], map};
-ghost use Prim.Native.Nat.{ℕ, suc, _+_, _<_, _≤_};
+ghost use mathlib.Core.Bool.{cond};
+ghost use mathlib.Core.List.{List, [], map};
+ghost use mathlib.Core.Option.{Option};
+ghost use Prim.Native.Nat.{ℕ, _+_, _-_, _*_, _/_, _^_, _<_, _≤_};
 ghost use lib.ListN.{length};
 ghost use lib.Seq.{sets};
 ghost use Rattle.sheets.specs.Model.{Shape, Library, Pattern, Tree};
-ghost use Rattle.covers.specs.Match.{Match, matched, putFirst, fitting};
-ghost use Rattle.overlay.specs.Held.{MatchHeld};
-ghost use Rattle.matching.specs.Found.{matchWords, inputsAt, inputsWords, matchRow};
 ghost use Rattle.sheets.specs.Layout.{tableFrom};
-ghost use Rattle.matching.specs.Promises.{Tried, Ready};
+ghost use Rattle.covers.specs.Crossing.{crossingLimit, crossings};
+ghost use Rattle.covers.specs.Match.{Input, putFirst, fittingUnder, fitting};
+ghost use Rattle.overlay.specs.Held.{Walks, WalkedIs};
+ghost use Rattle.matching.specs.Found.{matchBytes, inputsAt, inputsBytes, matchRow};
+ghost use Rattle.matching.specs.Promises.{Writable, Trying, Ready};
 
-// A match's row: its pattern, its cell's area, the first load that is not legal and how many inputs it has, then five words for each input:
-// its node, and the load bin, the load, the intrinsic delay and the drive of its pin.
+// A match's row: its pattern, its crossing and how many inputs it has, then two bytes for each input: the pin that it feeds, and its node.
 pub struct Row {}
 
 impl Row {
     pub const PATTERN: usize = 0;
 
-    pub const AREA: usize = 1;
+    pub const CROSSING: usize = 1;
 
-    pub const FIRST_ILLEGAL: usize = 2;
+    pub const COUNT: usize = 2;
 
-    pub const COUNT: usize = 3;
+    pub const INPUTS: usize = 3;
 
-    pub const INPUTS: usize = 4;
+    pub const INPUT: usize = 2;
 
-    pub const INPUT: usize = 5;
+    // Within an input's bytes, after its pin.
+    pub const NODE: usize = 1;
 
-    // Within an input's words, after its node.
-    pub const BIN: usize = 1;
+    pub const BYTES: usize = 16;
 
-    pub const LOAD: usize = 2;
+    pub const MATCHES: usize = 4096;
 
-    pub const INTRINSIC: usize = 3;
-
-    pub const DRIVE: usize = 4;
-
-    pub const WORDS: usize = 84;
-
-    pub const TABLE: usize = 10752;
+    pub const TABLE: usize = 65536;
 }
 
-// The first load at which a match of a cell is not legal.
-fn first_illegal(held: u32, highest: u32) -> u32
-    requires { ⌜ highest ≤ 255 ⌝ }
-    ensures { λ r. ⌜ ((h : Bool) → held ≡ cond h 1 0 → r ≡ cond (not h) (suc highest) 0) ⌝ }
-{
-    if held == 1 {
-        return 0;
-    }
-    highest + 1
-}
-
-// The words of a match's inputs: after an input's node, what the pattern's row says of its pin.
-fn write_inputs<'a>(table: &mut [u32], walked: Walked, row: &'a [u32])
-    requires { ⌜ (length (now table) ≡ matchWords) × ((l : Library) × ((m : Match) × MatchHeld l walked (now row) m)) ⌝ }
-    ensures { λ r. ⌜ ((l : Library) (m : Match) → MatchHeld l walked (now (row .entry)) m →
-        now (table .exit) ≡ sets (now (table .entry)) inputsAt (inputsWords l (m .pattern .cell) (m .inputs))) ⌝ }
+// The bytes of a match's inputs.
+fn write_inputs(table: &mut [u8], walked: Walked)
+    requires { ⌜ (length (now table) ≡ matchBytes) × ((is : List Input) × (Walks is walked × (length is ≤ 6))) ⌝ }
+    ensures { λ r. ⌜ ((is : List Input) → Walks is walked → length is ≤ 6 → now (table .exit) ≡ sets (now (table .entry)) inputsAt (inputsBytes is)) ⌝ }
 {
     let count = walked.count;
     let mut k: usize = 0;
     while k < count {
         let at = Row::INPUTS + Row::INPUT * k;
-        let figures = PatternRow::FIGURES + PatternRow::PIN * walked.pins[k] as usize;
-        table[at] = walked.nodes[k] as u32;
-        sheets::library::write_words(
-            table,
-            at + Row::BIN,
-            row[figures + PatternRow::BIN],
-            row[figures + PatternRow::LOAD],
-            row[figures + PatternRow::INTRINSIC],
-            row[figures + PatternRow::DRIVE],
-        );
+        table[at] = walked.pins[k];
+        table[at + Row::NODE] = walked.nodes[k];
         k += 1;
     }
 }
 
-// A match's row.
-fn write_row<'a>(table: &mut [u32], walked: Walked, row: &'a [u32], pattern: usize)
-    requires { ⌜ (length (now table) ≡ matchWords) × (pattern < 128) × ((l : Library) × ((m : Match) × MatchHeld l walked (now row) m)) ⌝ }
-    ensures { λ r. ⌜ ((l : Library) (m : Match) → MatchHeld l walked (now (row .entry)) m → m .number ≡ pattern →
-        now (table .exit) ≡ sets (now (table .entry)) 0 (matchRow l m)) ⌝ }
-{
-    let illegal = first_illegal(row[PatternRow::HELD], row[PatternRow::HIGHEST]);
-    sheets::library::write_words(
-        table,
-        Row::PATTERN,
-        pattern as u32,
-        row[PatternRow::AREA],
-        illegal,
-        walked.count as u32,
-    );
-    write_inputs(table, walked, row);
-}
-
 // The row of a pattern that was walked, if it matched. Answers how many rows were written.
-fn write_match<'a>(table: &mut [u32], walked: Walked, row: &'a [u32], pattern: usize) -> usize
-    requires { ⌜ (length (now table) ≡ matchWords) × (pattern < 128) × ((l : Library) × ((p : Pattern) × ((n : ℕ) × ((s : Shape) × Tried l walked (now row) p n s)))) ⌝ }
-    ensures { λ r. ⌜ ((l : Library) (p : Pattern) (n : ℕ) (s : Shape) → Tried l walked (now (row .entry)) p n s →
-        (r ≡ length (putFirst pattern p (matched (p .drawing) n s) []))
-        × (now (table .exit) ≡ tableFrom matchWords (now (table .entry)) 0 (map (matchRow l) (putFirst pattern p (matched (p .drawing) n s) [])))) ⌝ }
+fn write_match(table: &mut [u8], walked: Walked, pattern: usize, crossing: u32) -> usize
+    requires { ⌜ (length (now table) ≡ matchBytes) × (pattern < 128) × (crossing < crossingLimit) × ((o : Option (List Input)) × Writable o walked) ⌝ }
+    ensures { λ r. ⌜ ((o : Option (List Input)) → Writable o walked → (p : Pattern) →
+        (r ≡ length (putFirst pattern p crossing o []))
+        × (now (table .exit) ≡ tableFrom matchBytes (now (table .entry)) 0 (map matchRow (putFirst pattern p crossing o [])))) ⌝ }
 {
     if !walked.matched {
         return 0;
     }
-    write_row(table, walked, row, pattern);
+    table[Row::PATTERN] = pattern as u8;
+    table[Row::CROSSING] = crossing as u8;
+    table[Row::COUNT] = walked.count as u8;
+    write_inputs(table, walked);
     1
 }
 
-// The matches of a node: a row for each in the table, in the order of pattern numbers. Answers how many there are.
+// The next crossing that differs from this one in its first bits, so many.
+fn next_crossing(crossing: u32, bits: usize) -> u32
+    requires { ⌜ (crossing < crossingLimit) × (bits ≤ 5) ⌝ }
+    ensures { λ r. ⌜ (r ≡ (crossing / 2 ^ (5 - bits) + 1) * 2 ^ (5 - bits)) × (crossing < r) × (r ≤ crossingLimit) ⌝ }
+{
+    let unused = 5 - bits;
+    ((crossing >> unused) + 1) << unused
+}
+
+// How many bits of a crossing decide what the walk found: after a match, those of all the pattern's NANDs.
+fn deciding(walked: Walked, nands: usize) -> usize
+    ensures { λ r. ⌜ r ≡ cond (walked .matched) nands (walked .used) ⌝ }
+{
+    if walked.matched {
+        return nands;
+    }
+    walked.used
+}
+
+// The matches of one pattern: a row for each after `count` rows, in the order of crossing numbers. Crossings that begin with the bits which ruled
+// out one are not tried. Answers how many rows there are then.
+fn find_crossings<'a>(
+    row: &'a [u32],
+    symbols: &'a [u32],
+    sizes: &'a [u8],
+    n: usize,
+    pattern: usize,
+    table: &mut [u8],
+    count: usize,
+) -> usize
+    requires { ⌜ ((p : Pattern) × ((s : Shape) × Trying (now row) (now symbols) (now sizes) n pattern (length (now table)) count p s)) ⌝ }
+    ensures { λ r. ⌜ ((p : Pattern) (s : Shape) → Trying (now (row .entry)) (now (symbols .entry)) (now (sizes .entry)) n pattern (length (now (table .entry))) count p s →
+        (r ≡ count + length (fittingUnder n s pattern p (crossings (p .drawing))))
+        × (now (table .exit) ≡ tableFrom matchBytes (now (table .entry)) count (map matchRow (fittingUnder n s pattern p (crossings (p .drawing)))))) ⌝ }
+{
+    let extents = overlay::measure(row);
+    let words = extents.words;
+    let nands = words[0] as usize / Extents::NAND;
+    let mut found = count;
+    let mut crossing: u32 = 0;
+    while crossing < Crossing::NUMBERS {
+        let walked = overlay::walk(row, extents, crossing, symbols, sizes, n);
+        let at = Row::BYTES * found;
+        found += write_match(&mut table[at..at + Row::BYTES], walked, pattern, crossing);
+        crossing = next_crossing(crossing, deciding(walked, nands));
+    }
+    found
+}
+
+// The matches of a node: a row for each in the table, in the order of pattern numbers and then of crossing numbers. Answers how many there are.
 pub fn find_matches<'a>(
     rows: &'a [u32],
     symbols: &'a [u32],
     sizes: &'a [u8],
     n: usize,
-    table: &mut [u32],
+    table: &mut [u8],
 ) -> usize
     requires { ⌜ ((l : Library) × ((t : Tree) × ((s : Shape) × Ready l t (now rows) (now symbols) (now sizes) n (length (now table)) s))) ⌝ }
     ensures { λ r. ⌜ ((l : Library) (t : Tree) (s : Shape) → Ready l t (now (rows .entry)) (now (symbols .entry)) (now (sizes .entry)) n (length (now (table .entry))) s →
         (r ≡ length (fitting l n s))
-        × (now (table .exit) ≡ tableFrom matchWords (now (table .entry)) 0 (map (matchRow l) (fitting l n s)))) ⌝ }
+        × (now (table .exit) ≡ tableFrom matchBytes (now (table .entry)) 0 (map matchRow (fitting l n s)))) ⌝ }
 {
     let total = rows.len() / PatternRow::WORDS;
     let mut count: usize = 0;
@@ -131,9 +143,7 @@ pub fn find_matches<'a>(
     while p < total {
         let first = PatternRow::WORDS * p;
         let row = &rows[first..first + PatternRow::WORDS];
-        let walked = overlay::walk(row, symbols, sizes, n);
-        let at = Row::WORDS * count;
-        count += write_match(&mut table[at..at + Row::WORDS], walked, row, p);
+        count = find_crossings(row, symbols, sizes, n, p, table, count);
         p += 1;
     }
     count

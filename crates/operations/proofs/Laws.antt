@@ -1,7 +1,7 @@
 -- From the records that the readers hand over to what the core is given, and from what it answers to the reply, the output and the work area.
 use mathlib.Core.Path.{_≡_, refl, sym, ap, ap₂, subst, _∙_}
 use mathlib.Core.Bool.{false}
-use mathlib.Core.List.{List, [], _∷_, _++_, map, zipWith}
+use mathlib.Core.List.{List, [], _∷_, _++_, map}
 use mathlib.Core.Option.{Option, none, some}
 use Prim.Native.Nat.{ℕ, _-_, _*_, _≤_, _<_}
 use native.Mathlib.Omega.{arith}
@@ -125,11 +125,12 @@ module _ (l : Library) (t : Tree) (g : SoundTree t) (entry exit : List ℕ) wher
       let said : refused n p ≡ listed capacity l t = ap (ofFinding (pointsOf (r .count) work)) (sym e) ∙ h in
       refusal-replied listSheet said (refused-bounded (overfullNode capacity l t) (nonempty (tradeoffs l (t .load) 0 (t .shape))) (λ j f. node-small l g f) (sym said)) k
 
-placed-few : (ns ps : List ℕ) → length (placedOf ns ps) ≤ length ns
-unfolding placedOf zipWith
-placed-few [] ps = omega arith
-placed-few (n ∷ ns) [] = omega arith
-placed-few (n ∷ ns) (p ∷ ps) = omega (arith, placed-few ns ps)
+placed-few : (ns ps xs : List ℕ) → length (placedOf ns ps xs) ≤ length ns
+unfolding placedOf
+placed-few [] ps xs = omega arith
+placed-few (n ∷ ns) [] xs = omega arith
+placed-few (n ∷ ns) (p ∷ ps) [] = omega arith
+placed-few (n ∷ ns) (p ∷ ps) (x ∷ xs) = omega (arith, placed-few ns ps xs)
 
 points-few : (count : ℕ) (ws : List ℕ) → length (pointsOf count ws) ≤ count
 unfolding pointsOf
@@ -137,7 +138,7 @@ points-few count ws = omega (arith, length-reverse (map pointOf (take count ws))
 
 pub map-found : (l : Library) (t : Tree) {entry exit : List ℕ} (r : Mapped) (n : ℕ) → ofMapped r ≡ mapped capacity l t → r .finding ≡ Finding.Found → r .cover .count ≤ 63 → Written (coverSheet (coverOf (r .cover))) entry exit n → Replied (mapAnswer capacity l t) entry exit (Reply.Sheet n)
 unfolding mapAnswer ofMapped ofFinding
-map-found l t r n h e few w = sheet-replied coverSheet (ap (ofFinding (coverOf (r .cover))) (sym e) ∙ h) w (omega (arith, w .bytes, cover-sheet-fits (coverOf (r .cover)) (omega (arith, few, length-take (r .cover .count) (r .cover .nodes), placed-few (take (r .cover .count) (r .cover .nodes)) (take (r .cover .count) (r .cover .patterns))))))
+map-found l t r n h e few w = sheet-replied coverSheet (ap (ofFinding (coverOf (r .cover))) (sym e) ∙ h) w (omega (arith, w .bytes, cover-sheet-fits (coverOf (r .cover)) (omega (arith, few, length-take (r .cover .count) (r .cover .nodes), placed-few (take (r .cover .count) (r .cover .nodes)) (take (r .cover .count) (r .cover .patterns)) (take (r .cover .count) (r .cover .crossings))))))
 
 pub list-found : (l : Library) (t : Tree) {entry exit : List ℕ} (work : List ℕ) (r : Listed) (n : ℕ) → ofListed work r ≡ listed capacity l t → r .finding ≡ Finding.Found → r .count ≤ capacity → Written (listSheet (pointsOf (r .count) work)) entry exit n → Replied (listAnswer capacity l t) entry exit (Reply.Sheet n)
 unfolding listAnswer ofListed ofFinding

@@ -1,35 +1,38 @@
 -- What a walk notes of a drawing, and the patterns of a decoded library.
 use Prim.Native.Nat.{ℕ, suc, _+_, _*_, _≤_, _<_}
 use mathlib.Core.Path.{_≡_, refl, sym, ap, subst, _∙_}
-use mathlib.Core.Logic.{⊎-elim}
-use mathlib.Core.Bool.{true, false, false≢true}
+use mathlib.Core.Logic.{_⊎_, inl, inr, ⊎-elim}
+use mathlib.Core.Bool.{Bool, true, false, false≢true}
 use mathlib.Core.List.{List, [], _∷_, _++_, map, List·Memᴰ, List·Memᴰ·head, List·Memᴰ·append-cases, List·Memᴰ·eq-of-singleton, Memᴰ·append-left, Memᴰ·append-right}
 use mathlib.Core.Option.{Option, none, some}
 use native.Mathlib.Nat.{add-zero}
 use native.Mathlib.Omega.{arith}
 use lib.ListN.{length, getD, take, drop, length-append, length-map}
 use Rattle.fields.proofs.Lists.{at-mem, at-map}
-use Rattle.sheets.specs.Model.{Shape, leaf, inv, nand, size, leaves, Library, Pattern, Tree, patterns}
+use Rattle.sheets.specs.Model.{Shape, leaf, inv, nand, size, leaves, nands, Library, Pattern, Tree, patterns}
 use Rattle.sheets.specs.Layout.{padded, pinsMost, pinWords, figuresAt, rowWords}
 use Rattle.sheets.specs.Sound.{IsGate, SoundDrawing}
 use Rattle.sheets.proofs.Laws.{in-padded}
 use Rattle.sheets.proofs.Patterns.{SoundPattern, sound-pattern, Told, row-told, table-long, pin-laid}
+use Rattle.covers.specs.Crossing.{exchanged, ordered, redrawnFrom, redrawn}
 use Rattle.covers.specs.Match.{Input, joined, laid, matched, pinAt, pinLoad}
 use Rattle.covers.specs.Tradeoff.{nodes}
 use Rattle.covers.proofs.Matching.{Whenever, never, holds, whenever}
 use Rattle.overlay.specs.Held.{PatternHeld, Walkable, Walks, WalkedIs, Decoded}
 use Rattle.overlay.specs.declared.Walked.{Walked}
+use Rattle.overlay.specs.Standing.{Measured}
 use Rattle.overlay.proofs.Standing.{subject-everywhere}
+use Rattle.overlay.proofs.Measuring.{drawn}
 
 -- ---- the inputs of one match
 
--- There are no more inputs than the drawing has nodes, and each pin stands at a leaf of the drawing.
+-- There is an input for each leaf, one more than NANDs, and each pin stands at a leaf of the drawing.
 pub record FromDrawing (d : Shape) (is : List Input) : Type 0 where
-  pub few : length is ≤ size d
+  pub few : length is ≤ suc (nands d)
   pub pins : (i : Input) → List·Memᴰ i is → List·Memᴰ (i .pin) (leaves d)
 
 pub laid-from : (d : Shape) (n : ℕ) (s : Shape) → Whenever (FromDrawing d) (laid d n s)
-unfolding laid size leaves
+unfolding laid nands leaves
 laid-from (leaf x) n s = holds {is = record { pin = x; node = n; shape = s } ∷ []} (record {
   few = omega arith;
   pins = λ i m. List·Memᴰ·head (ap (λ (j : Input). j .pin) (List·Memᴰ·eq-of-singleton m));
@@ -39,7 +42,7 @@ laid-from (inv d) n (inv s) = go (laid-from d (suc n) s)
   where
     go : {o : Option (List Input)} → Whenever (FromDrawing d) o → Whenever (FromDrawing (inv d)) o
     go never = never
-    go (holds {is} f) = holds {is = is} (record { few = omega (arith, f .few); pins = f .pins })
+    go (holds {is} f) = holds {is = is} (record { few = f .few; pins = f .pins })
 laid-from (inv d) n (nand s t) = never
 laid-from (nand d e) n (leaf x) = never
 laid-from (nand d e) n (inv s) = never
@@ -59,6 +62,64 @@ matched-laid (leaf x) n s h = absurd h
 matched-laid (inv d) n s h = refl
 matched-laid (nand d e) n s h = refl
 
+-- A NAND has the same nodes and leaves either way.
+ordered-size : (b : Bool) (p q : Shape) → size (ordered b p q) ≡ suc (size p + size q)
+unfolding ordered size
+ordered-size false p q = refl
+ordered-size true p q = omega arith
+
+ordered-nands : (b : Bool) (p q : Shape) → nands (ordered b p q) ≡ suc (nands p + nands q)
+unfolding ordered nands
+ordered-nands false p q = refl
+ordered-nands true p q = omega arith
+
+ordered-leaves : (b : Bool) (p q : Shape) {y : ℕ} → List·Memᴰ y (leaves (ordered b p q)) → List·Memᴰ y (leaves p) ⊎ List·Memᴰ y (leaves q)
+unfolding ordered leaves
+ordered-leaves false p q m = List·Memᴰ·append-cases (leaves p) m
+ordered-leaves true p q m = ⊎-elim (λ i. inr i) (λ i. inl i) (List·Memᴰ·append-cases (leaves q) m)
+
+ordered-gate : (b : Bool) (p q : Shape) → IsGate (ordered b p q)
+unfolding ordered
+ordered-gate false p q = tt
+ordered-gate true p q = tt
+
+-- So a redrawing of a sound drawing is sound.
+module _ (x : ℕ) where
+  redrawn-size : (j : ℕ) (d : Shape) → size (redrawnFrom x j d) ≡ size d
+  unfolding redrawnFrom size
+  redrawn-size j (leaf y) = refl
+  redrawn-size j (inv d) = ap suc (redrawn-size j d)
+  redrawn-size j (nand d e) = omega (arith, ordered-size (exchanged x j) (redrawnFrom x (suc j) d) (redrawnFrom x (suc j + nands d) e), redrawn-size (suc j) d, redrawn-size (suc j + nands d) e)
+
+  redrawn-nands : (j : ℕ) (d : Shape) → nands (redrawnFrom x j d) ≡ nands d
+  unfolding redrawnFrom nands
+  redrawn-nands j (leaf y) = refl
+  redrawn-nands j (inv d) = redrawn-nands j d
+  redrawn-nands j (nand d e) = omega (arith, ordered-nands (exchanged x j) (redrawnFrom x (suc j) d) (redrawnFrom x (suc j + nands d) e), redrawn-nands (suc j) d, redrawn-nands (suc j + nands d) e)
+
+  redrawn-leaves : (j : ℕ) (d : Shape) {y : ℕ} → List·Memᴰ y (leaves (redrawnFrom x j d)) → List·Memᴰ y (leaves d)
+  unfolding redrawnFrom leaves
+  redrawn-leaves j (leaf z) m = m
+  redrawn-leaves j (inv d) m = redrawn-leaves j d m
+  redrawn-leaves j (nand d e) m =
+      ⊎-elim (λ i. Memᴰ·append-left (leaves e) (redrawn-leaves (suc j) d i)) (λ i. Memᴰ·append-right (leaves d) (redrawn-leaves (suc j + nands d) e i))
+      (ordered-leaves (exchanged x j) (redrawnFrom x (suc j) d) (redrawnFrom x (suc j + nands d) e) m)
+
+  redrawn-gate : (j : ℕ) (d : Shape) → IsGate d → IsGate (redrawnFrom x j d)
+  unfolding redrawnFrom
+  redrawn-gate j (leaf y) h = absurd h
+  redrawn-gate j (inv d) h = tt
+  redrawn-gate j (nand d e) h = ordered-gate (exchanged x j) (redrawnFrom x (suc j) d) (redrawnFrom x (suc j + nands d) e)
+
+  pub redrawn-sound : {pins : ℕ} {d : Shape} → SoundDrawing pins d → SoundDrawing pins (redrawn x d)
+  unfolding redrawn
+  redrawn-sound {d = d} h = record {
+    size = rw (redrawn-size 0 d) (h .size);
+    gate = redrawn-gate 0 d (h .gate);
+    leaves = λ y m. h .leaves y (redrawn-leaves 0 d m);
+    nands = rw (redrawn-nands 0 d) (h .nands);
+  }
+
 -- What a walk over a sound drawing says of the match.
 module _ {pins : ℕ} {d : Shape} (n : ℕ) (s : Shape) (walked : Walked) (sound : SoundDrawing pins d) (walk-is : WalkedIs (laid d n s) walked) where
   pub missed : walked .matched ≡ false → matched d n s ≡ none
@@ -72,7 +133,7 @@ module _ {pins : ℕ} {d : Shape} (n : ℕ) (s : Shape) (walked : Walked) (sound
     pub inputs : List Input
     pub fits : matched d n s ≡ some inputs
     pub walks : Walks inputs walked
-    pub few : length inputs ≤ 16
+    pub few : length inputs ≤ pins
     pub pinned : (i : Input) → List·Memᴰ i inputs → i .pin < pins
 
   pub hit : walked .matched ≡ true → Hit
@@ -82,16 +143,16 @@ module _ {pins : ℕ} {d : Shape} (n : ℕ) (s : Shape) (walked : Walked) (sound
       go none q w = absurd (false≢true (sym w ∙ e))
       go (some is) q w =
           let f : FromDrawing d is = whenever (laid-from d n s) q in
-          record { inputs = is; fits = matched-laid d n s (sound .gate) ∙ q; walks = w; few = omega (arith, f .few, sound .size); pinned = λ i m. sound .leaves (i .pin) (f .pins i m) }
+          record { inputs = is; fits = matched-laid d n s (sound .gate) ∙ q; walks = w; few = omega (arith, f .few, sound .nands); pinned = λ i m. sound .leaves (i .pin) (f .pins i m) }
 
 abbrev pub noInput : Input
 noInput = record { pin = 0; node = 0; shape = leaf 0 }
 
 -- What a walk noted of the input k.
-pub noted : (f : Input → ℕ) (ws : List ℕ) (is : List Input) (k : ℕ) → ws ≡ padded 16 0 (map f is) → length is ≤ 16 → k < length is → getD ws k 0 ≡ f (getD is k noInput)
+pub noted : (f : Input → ℕ) (ws : List ℕ) (is : List Input) (k : ℕ) → ws ≡ padded 6 0 (map f is) → length is ≤ 6 → k < length is → getD ws k 0 ≡ f (getD is k noInput)
 noted f ws is k e h g =
     ap (λ (l : List ℕ). getD l k 0) e
-    ∙ in-padded 16 0 0 (map f is) k (omega (arith, length-map is f)) (omega (arith, length-map is f))
+    ∙ in-padded 6 0 0 (map f is) k (omega (arith, length-map is f)) (omega (arith, length-map is f))
     ∙ at-map f is k noInput 0 g
 
 -- ---- the patterns of a decoded library
@@ -144,10 +205,14 @@ module _ {l : Library} {t : Tree} {rows ss zs : List ℕ} (decoded : Decoded l t
           subst (λ (rs : List ℕ). PatternHeld l (take m (drop (rowWords * j) rs)) (patternAt l j)) (sym (decoded .rows-are))
           (holds-pattern l (patternAt l j) (at-hand .cell .few-pins) (row-told l (decoded .library) noPattern j m h e))
 
-      pub walkable : {n : ℕ} {s : Shape} → List·Memᴰ (record { number = n; shape = s }) (nodes 0 (t .shape)) → Walkable (take m (drop (rowWords * j) rows)) ss zs n (patternAt l j .drawing) s
-      walkable {n} {s} here = record {
-        drawing = row-held .drawing;
+      pub walkable : {words : List ℕ} {n : ℕ} {s : Shape} → Measured (patternAt l j .drawing) words → List·Memᴰ (record { number = n; shape = s }) (nodes 0 (t .shape)) →
+          Walkable (take m (drop (rowWords * j) rows)) words ss zs n (patternAt l j .drawing) s
+      walkable {n = n} {s = s} measured here = record {
+        long = row-held .drawing .long;
+        words-long = measured .long;
+        drawn = drawn (row-held .drawing) measured;
         small = at-hand .drawing .size;
+        few = omega (arith, at-hand .drawing .nands, at-hand .cell .few-pins);
         pinned = λ x i. omega (arith, at-hand .drawing .leaves x i, at-hand .cell .few-pins);
         subject = subject-everywhere decoded (record { number = n; shape = s }) here;
       }

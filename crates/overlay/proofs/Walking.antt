@@ -1,25 +1,29 @@
--- The walk over a pattern's symbols and the tree's: where it stands is two lists of shapes side by side, drawings and subtrees.
-use Prim.Native.Nat.{ℕ, suc, _+_, _-_, _≤_, _<_}
+-- The walk over a pattern and the tree: where it stands is parts of the drawing, as the crossing orders them, side by side with as many subtrees.
+use Prim.Native.Nat.{ℕ, suc, _+_, _-_, _*_, _/_, _%_, _^_, _≤_, _<_, max}
 use mathlib.Core.Path.{_≡_, refl, sym, ap, ap₂, subst, _∙_}
-use mathlib.Core.Logic.{_≢_, ⊎-elim}
-use mathlib.Core.Bool.{true, false}
-use mathlib.Core.List.{List, [], _∷_, _++_, map, map-append, append-assoc, append-nil, cons≢nil, head-eq-of-cons-eq, tail-eq-of-cons-eq, List·Memᴰ, List·Memᴰ·head, List·Memᴰ·tail, List·Memᴰ·not-nil, List·Memᴰ·append-cases, Memᴰ·append-left, Memᴰ·append-right}
+use mathlib.Core.Logic.{_≢_}
+use mathlib.Core.Bool.{Bool, true, false, cond, true≢false}
+use mathlib.Core.List.{List, [], _∷_, _++_, map, map-append, append-assoc, append-nil, List·Memᴰ, List·Memᴰ·head, List·Memᴰ·tail, List·Memᴰ·not-nil, Memᴰ·append-left, Memᴰ·append-right}
 use mathlib.Core.Option.{Option, none, some}
-use native.Mathlib.Numerals.{add-one}
 use native.Mathlib.Omega.{arith}
-use lib.ListN.{getD, length, set, drop, replicate, length-append, length-map}
-use lib.Seq.{drop-cons, drop-length}
-use Rattle.shapes.specs.Shape.{symbols}
-use Rattle.shapes.proofs.Drawn.{length-symbols}
-use Rattle.sheets.specs.Layout.{padded, sizeAt, symbolsAt, rowWords}
+use borrow.Author.Tests.{ne-eqb}
+use lib.Dec.{eqb}
+use lib.ListN.{getD, length, set, replicate, length-append, length-map, length-set, length-replicate}
+use lib.Pow.{shr-shr}
+use lib.Seq.{getD-set-same, getD-set-other}
+use Rattle.sheets.specs.Layout.{padded, symbolsAt, rowWords}
 use Rattle.sheets.proofs.Laws.{padded-more}
-use Rattle.sheets.specs.Model.{Shape, leaf, inv, nand, size, leaves}
+use Rattle.sheets.specs.Model.{Shape, leaf, inv, nand, size, leaves, nands}
+use Rattle.covers.specs.Crossing.{exchanged, ordered, redrawnFrom, redrawn}
 use Rattle.covers.specs.Match.{Input, joined, laid}
+use Rattle.covers.proofs.Basics.{each}
 use Rattle.covers.proofs.Matching.{size-pos}
+use Rattle.overlay.specs.declared.Left.{Left}
 use Rattle.overlay.specs.declared.Walked.{Walked}
-use Rattle.overlay.specs.Standing.{Stands}
-use Rattle.overlay.specs.Held.{WalkedIs, Walkable}
-use Rattle.fields.proofs.Lists.{at-mem}
+use Rattle.overlay.specs.Standing.{Stands, Subject, extent, Drawn}
+use Rattle.overlay.specs.Held.{Passable, branched, passed, resumed, WalkedIs, SameBits, WalkIs, Walkable}
+
+-- ---- drawings laid in a row
 
 joined-assoc : (a b c : Option (List Input)) → joined a (joined b c) ≡ joined (joined a b) c
 unfolding joined
@@ -28,297 +32,527 @@ joined-assoc (some is) none c = refl
 joined-assoc (some is) (some js) none = refl
 joined-assoc (some is) (some js) (some ks) = ap {B = Option (List Input)} some (sym (append-assoc is js ks))
 
--- The symbols of several drawings, one after another.
-unfoldable pub symbolsOf : List Shape → List ℕ
-symbolsOf [] = []
-symbolsOf (p ∷ ps) = symbols p ++ symbolsOf ps
+noting : (noted : List Input) (i : Input) (o : Option (List Input)) → joined (some noted) (joined (some (i ∷ [])) o) ≡ joined (some (noted ++ (i ∷ []))) o
+noting noted i o = joined-assoc (some noted) (some (i ∷ [])) o ∙ (unfold joined in refl)
 
 -- Several drawings laid over as many subtrees, the first of which stands at node n.
-unfoldable pub laidInRow : List Shape → ℕ → List Shape → Option (List Input)
+unfoldable laidInRow : List Shape → ℕ → List Shape → Option (List Input)
 laidInRow [] n ss = some []
 laidInRow (p ∷ ps) n [] = none
 laidInRow (p ∷ ps) n (s ∷ ss) = joined (laid p n s) (laidInRow ps (n + size s) ss)
 
-unfoldable pub rowSize : List Shape → ℕ
+unfoldable rowSize : List Shape → ℕ
 rowSize [] = 0
 rowSize (s ∷ ss) = size s + rowSize ss
 
-module _ (ss zs : List ℕ) where
-  pub stands-size : (n : ℕ) (s : Shape) → Stands ss zs n s → getD zs n 0 ≡ size s
-  unfolding size
-  stands-size n (leaf x) h = h .1
-  stands-size n (inv s) h = h .1
-  stands-size n (nand s t) h = h .1
+pub stands-size : (ss zs : List ℕ) (n : ℕ) (s : Shape) → Stands ss zs n s → getD zs n 0 ≡ size s
+unfolding size
+stands-size ss zs n (leaf x) h = h .1
+stands-size ss zs n (inv s) h = h .1
+stands-size ss zs n (nand s t) h = h .1
 
-  -- Subtrees that stand one after another.
-  abbrev pub StandInRow : ℕ → List Shape → Type 0
-  StandInRow n [] = Unit {0}
-  StandInRow n (s ∷ ts) = Stands ss zs n s × StandInRow (n + size s) ts
+-- Subtrees that stand one after another.
+abbrev StandInRow : List ℕ → List ℕ → ℕ → List Shape → Type 0
+StandInRow ss zs n [] = Unit {0}
+StandInRow ss zs n (s ∷ ts) = Stands ss zs n s × StandInRow ss zs (n + size s) ts
 
-  -- Where a walk stands that is to find `whole` and has noted these inputs: before the node `last`, with as many drawings as subtrees left.
-  pub record Abreast (whole : Option (List Input)) (noted : List Input) (ds : List ℕ) (n last : ℕ) : Type 0 where
-    pub patterns : List Shape
-    pub subtrees : List Shape
-    pub drawn : ds ≡ symbolsOf patterns
-    pub paired : length patterns ≡ length subtrees
-    pub stand : StandInRow n subtrees
-    pub ends : n + rowSize subtrees ≡ last
-    pub finds : whole ≡ joined (some noted) (laidInRow patterns n subtrees)
+-- ---- bits of a crossing
 
-  pub abreast-start : (p : Shape) (n : ℕ) (s : Shape) → Stands ss zs n s → Abreast (laid p n s) [] (symbols p) n (n + size s)
-  unfolding symbolsOf rowSize laidInRow joined
-  abreast-start p n s h = record {
-    patterns = p ∷ [];
-    subtrees = s ∷ [];
-    drawn = sym (append-nil (symbols p));
-    paired = refl;
-    stand = (h, tt);
-    ends = omega arith;
-    finds = go (laid p n s);
-  }
-    where
-      go : (a : Option (List Input)) → a ≡ joined (some []) (joined a (some []))
-      go none = refl
-      go (some is) = ap {B = Option (List Input)} some (sym (append-nil is))
+-- Fewer bits are the same too.
+same-fewer : (u v x y : ℕ) → u ≤ v → v ≤ 5 → SameBits v x y → SameBits u x y
+same-fewer u v x y h g e =
+    let k : (5 - v) + (v - u) ≡ 5 - u = omega arith in
+    let go : (z : ℕ) → z / 2 ^ (5 - v) / 2 ^ (v - u) ≡ z / 2 ^ (5 - u) = λ z. shr-shr z (5 - v) (v - u) ∙ ap (λ i. z / 2 ^ i) k in
+    sym (go x) ∙ ap (λ i. i / 2 ^ (v - u)) e ∙ go y
 
-  -- With no symbol left, all inputs are noted.
-  pub abreast-end : {whole : Option (List Input)} {noted : List Input} {n last : ℕ} → Abreast whole noted [] n last → whole ≡ some noted
-  abreast-end {whole} {noted} {n} {last} a = go (a .patterns) (a .subtrees) (a .drawn) (a .finds)
-    where
-      go : (ps ts : List Shape) → [] ≡ symbolsOf ps → whole ≡ joined (some noted) (laidInRow ps n ts) → whole ≡ some noted
-      go [] ts e f = unfold laidInRow joined in f ∙ ap {B = Option (List Input)} some (append-nil noted)
-      go (leaf x ∷ ps) ts e f = unfold symbolsOf symbols in absurd (cons≢nil (sym e))
-      go (inv p ∷ ps) ts e f = unfold symbolsOf symbols in absurd (cons≢nil (sym e))
-      go (nand p q ∷ ps) ts e f = unfold symbolsOf symbols in absurd (cons≢nil (sym e))
+-- A NAND among those whose bits are the same is exchanged by both or by none.
+same-exchanged : (j u x y : ℕ) → j < u → u ≤ 5 → SameBits u x y → exchanged x j ≡ exchanged y j
+unfolding exchanged
+same-exchanged j u x y h g e =
+    let k : 5 - suc j ≡ 4 - j = omega arith in
+    let go : x / 2 ^ (4 - j) ≡ y / 2 ^ (4 - j) = subst (λ i. x / 2 ^ i ≡ y / 2 ^ i) k (same-fewer (suc j) u x y h g e) in
+    ap (λ i. eqb (i % 2) 1) go
 
-  -- Past a pattern leaf: its input is noted.
-  pub record Skipped (whole : Option (List Input)) (noted : List Input) (d : ℕ) (ds : List ℕ) (n last : ℕ) : Type 0 where
-    pub input : Input
-    pub pin-is : input .pin ≡ d - 2
-    pub node-is : input .node ≡ n
-    pub abreast : Abreast whole (noted ++ (input ∷ [])) ds (n + getD zs n 0) last
+-- A NAND's branches under a crossing.
+redrawn-nand : (y j : ℕ) (p q : Shape) {b : Bool} → exchanged y j ≡ b → redrawnFrom y j (nand p q) ≡ ordered b (redrawnFrom y (j + 1) p) (redrawnFrom y (j + 1 + nands p) q)
+unfolding redrawnFrom
+redrawn-nand y j p q {b} e = let f : suc j ≡ j + 1 = omega arith in rw (e, f)
 
-  module _ {whole : Option (List Input)} {noted : List Input} {d : ℕ} {ds : List ℕ} {n last : ℕ} where
-    -- A node is left to look at as long as the pattern has one.
-    pub abreast-before : Abreast whole noted (d ∷ ds) n last → n + getD zs n 0 ≤ last
-    abreast-before a = go (a .patterns) (a .subtrees) (a .drawn) (a .paired) (a .stand) (a .ends)
-      where
-        go : (ps ts : List Shape) → d ∷ ds ≡ symbolsOf ps → length ps ≡ length ts → StandInRow n ts → n + rowSize ts ≡ last → n + getD zs n 0 ≤ last
-        go [] ts e f h g = unfold symbolsOf in absurd (cons≢nil e)
-        go (p ∷ ps) [] e f h g = absurd (omega arith)
-        go (p ∷ ps) (s ∷ ts) e f h g = unfold rowSize in omega (arith, stands-size n s (h .0))
+-- ---- parts of a drawing
 
-    pub abreast-some : Abreast whole noted (d ∷ ds) n last → 0 < getD zs n 0
-    abreast-some a = go (a .patterns) (a .subtrees) (a .drawn) (a .paired) (a .stand)
-      where
-        go : (ps ts : List Shape) → d ∷ ds ≡ symbolsOf ps → length ps ≡ length ts → StandInRow n ts → 0 < getD zs n 0
-        go [] ts e f h = unfold symbolsOf in absurd (cons≢nil e)
-        go (p ∷ ps) [] e f h = absurd (omega arith)
-        go (p ∷ ps) (s ∷ ts) e f h = omega (arith, stands-size n s (h .0), size-pos s)
+-- A part still to be laid: where it stands in the drawing, how many NANDs come before it, and its shape.
+record Part : Type 0 where
+  place : ℕ
+  before : ℕ
+  shape : Shape
 
-    pub abreast-skip : Abreast whole noted (d ∷ ds) n last → 2 ≤ d → Skipped whole noted d ds n last
-    abreast-skip a z = go (a .patterns) (a .subtrees) (a .drawn) (a .paired) (a .stand) (a .ends) (a .finds)
-      where
-        go : (ps ts : List Shape) → d ∷ ds ≡ symbolsOf ps → length ps ≡ length ts → StandInRow n ts → n + rowSize ts ≡ last →
-            whole ≡ joined (some noted) (laidInRow ps n ts) → Skipped whole noted d ds n last
-        go [] ts e f h g k = unfold symbolsOf in absurd (cons≢nil e)
-        go (p ∷ ps) [] e f h g k = absurd (omega arith)
-        go (leaf x ∷ ps) (s ∷ ts) e f h g k =
-            unfold symbolsOf symbols rowSize laidInRow laid in
-            let w = stands-size n s (h .0) in
-            let i : Input = record { pin = x; node = n; shape = s } in
-            record {
-              input = i;
-              pin-is = omega (arith, head-eq-of-cons-eq e);
-              node-is = refl;
-              abreast = rw w record {
-                patterns = ps;
-                subtrees = ts;
-                drawn = tail-eq-of-cons-eq e;
-                paired = omega arith;
-                stand = h .1;
-                ends = omega arith;
-                finds = k ∙ joined-assoc (some noted) (some (i ∷ [])) (laidInRow ps (n + size s) ts) ∙ (unfold joined in refl);
-              };
-            }
-        go (inv p ∷ ps) (s ∷ ts) e f h g k = unfold symbolsOf symbols in absurd (omega (arith, head-eq-of-cons-eq e))
-        go (nand p q ∷ ps) (s ∷ ts) e f h g k = unfold symbolsOf symbols in absurd (omega (arith, head-eq-of-cons-eq e))
+abbrev partWord : Part → ℕ
+partWord p = p .place + 32 * p .before
 
-    -- Past two equal symbols.
-    pub abreast-next : Abreast whole noted (d ∷ ds) n last → d < 2 → getD ss n 0 ≡ d → Abreast whole noted ds (suc n) last
-    abreast-next a z c = go (a .patterns) (a .subtrees) (a .drawn) (a .paired) (a .stand) (a .ends) (a .finds)
-      where
-        go : (ps ts : List Shape) → d ∷ ds ≡ symbolsOf ps → length ps ≡ length ts → StandInRow n ts → n + rowSize ts ≡ last →
-            whole ≡ joined (some noted) (laidInRow ps n ts) → Abreast whole noted ds (suc n) last
-        go [] ts e f h g k = unfold symbolsOf in absurd (cons≢nil e)
-        go (p ∷ ps) [] e f h g k = absurd (omega arith)
-        go (leaf x ∷ ps) (s ∷ ts) e f h g k = unfold symbolsOf symbols in absurd (omega (arith, head-eq-of-cons-eq e))
-        go (inv p ∷ ps) (leaf x ∷ ts) e f h g k = unfold symbolsOf symbols in absurd (omega (arith, head-eq-of-cons-eq e, h .0 .0))
-        go (inv p ∷ ps) (inv s ∷ ts) e f h g k =
-            unfold symbolsOf symbols rowSize size laidInRow laid in
-            let w : n + suc (size s) ≡ suc n + size s = omega arith in
-            record {
-              patterns = p ∷ ps;
-              subtrees = s ∷ ts;
-              drawn = tail-eq-of-cons-eq e;
-              paired = f;
-              stand = (h .0 .2, rw w at (h .1));
-              ends = omega arith;
-              finds = rw w at k;
-            }
-        go (inv p ∷ ps) (nand s t ∷ ts) e f h g k = unfold symbolsOf symbols in absurd (omega (arith, head-eq-of-cons-eq e, h .0 .0))
-        go (nand p q ∷ ps) (leaf x ∷ ts) e f h g k = unfold symbolsOf symbols in absurd (omega (arith, head-eq-of-cons-eq e, h .0 .0))
-        go (nand p q ∷ ps) (inv s ∷ ts) e f h g k = unfold symbolsOf symbols in absurd (omega (arith, head-eq-of-cons-eq e, h .0 .0))
-        go (nand p q ∷ ps) (nand s t ∷ ts) e f h g k =
-            unfold symbolsOf symbols rowSize size laidInRow laid in
-            let w : n + suc (size s + size t) ≡ suc n + size s + size t = omega arith in
-            record {
-              patterns = p ∷ q ∷ ps;
-              subtrees = s ∷ t ∷ ts;
-              drawn = tail-eq-of-cons-eq e ∙ append-assoc (symbols p) (symbols q) (symbolsOf ps);
-              paired = omega arith;
-              stand = (h .0 .2, (h .0 .3, rw w at (h .1)));
-              ends = omega arith;
-              finds = (rw w at k) ∙ ap (joined (some noted)) (sym (joined-assoc (laid p (suc n) s) (laid q (suc n + size s) t) (laidInRow ps (suc n + size s + size t) ts)));
-            }
+abbrev redrawnPart : ℕ → Part → Shape
+redrawnPart y p = redrawnFrom y (p .before) (p .shape)
 
-    -- Where two symbols differ, there is no match.
-    pub abreast-differs : Abreast whole noted (d ∷ ds) n last → d < 2 → getD ss n 0 ≢ d → whole ≡ none
-    abreast-differs a z c = go (a .patterns) (a .subtrees) (a .drawn) (a .paired) (a .stand) (a .finds)
-      where
-        go : (ps ts : List Shape) → d ∷ ds ≡ symbolsOf ps → length ps ≡ length ts → StandInRow n ts →
-            whole ≡ joined (some noted) (laidInRow ps n ts) → whole ≡ none
-        go [] ts e f h k = unfold symbolsOf in absurd (cons≢nil e)
-        go (p ∷ ps) [] e f h k = absurd (omega arith)
-        go (leaf x ∷ ps) (s ∷ ts) e f h k = unfold symbolsOf symbols in absurd (omega (arith, head-eq-of-cons-eq e))
-        go (inv p ∷ ps) (leaf x ∷ ts) e f h k = unfold laidInRow laid joined in k
-        go (inv p ∷ ps) (inv s ∷ ts) e f h k = unfold symbolsOf symbols in absurd (c (h .0 .0 ∙ sym (head-eq-of-cons-eq e)))
-        go (inv p ∷ ps) (nand s t ∷ ts) e f h k = unfold laidInRow laid joined in k
-        go (nand p q ∷ ps) (leaf x ∷ ts) e f h k = unfold laidInRow laid joined in k
-        go (nand p q ∷ ps) (inv s ∷ ts) e f h k = unfold laidInRow laid joined in k
-        go (nand p q ∷ ps) (nand s t ∷ ts) e f h k = unfold symbolsOf symbols in absurd (c (h .0 .0 ∙ sym (head-eq-of-cons-eq e)))
+-- A NAND's branches.
+abbrev firstOf : ℕ → ℕ → Shape → Part
+firstOf place before p = record { place = place + 1; before = before + 1; shape = p }
 
-  -- The walk after k of a drawing's symbols: what it noted stands in the two arrays.
-  pub record Going (d s : Shape) (n : ℕ) (pins nodes : List ℕ) (count at k : ℕ) : Type 0 where
-    pub noted : List Input
-    pub abreast : Abreast (laid d n s) noted (drop k (symbols d)) at (n + size s)
-    pub count-is : count ≡ length noted
-    pub few : count ≤ k
-    pub pins-are : pins ≡ padded 16 0 (map (λ (i : Input). i .pin) noted)
-    pub nodes-are : nodes ≡ padded 16 0 (map (λ (i : Input). i .node) noted)
+abbrev secondOf : ℕ → ℕ → Shape → Shape → Part
+secondOf place before p q = record { place = place + 1 + size p; before = before + 1 + nands p; shape = q }
 
-  module _ (d s : Shape) (n : ℕ) where
-    pub going-start : Stands ss zs n s → Going d s n (replicate 16 0) (replicate 16 0) 0 n 0
-    going-start h = record { noted = []; abreast = abreast-start d n s h; count-is = refl; few = omega arith; pins-are = refl; nodes-are = refl }
+abbrev inputAt : ℕ → ℕ → Shape → Input
+inputAt at x t = record { pin = x; node = at; shape = t }
 
-    module _ {pins nodes : List ℕ} {count at k : ℕ} where
-      -- As long as a symbol is left.
-      ahead : k < size d → (g : Going d s n pins nodes count at k) →
-          Abreast (laid d n s) (g .noted) (getD (symbols d) k 0 ∷ drop (k + 1) (symbols d)) at (n + size s)
-      ahead h g =
-          subst (λ (ds : List ℕ). Abreast (laid d n s) (g .noted) ds at (n + size s))
-          (drop-cons (symbols d) k 0 (omega (arith, length-symbols d)) ∙ ap (λ (i : ℕ). getD (symbols d) k 0 ∷ drop i (symbols d)) (sym (add-one k)))
-          (g .abreast)
+-- How many leaves some parts have.
+unfoldable partsLeaves : List Part → ℕ
+partsLeaves [] = 0
+partsLeaves (p ∷ ps) = suc (nands (p .shape) + partsLeaves ps)
 
-      pub going-within : Going d s n pins nodes count at k → k < size d → (0 < getD zs at 0) × (at + getD zs at 0 ≤ n + size s)
-      going-within g h = (abreast-some (ahead h g), abreast-before (ahead h g))
+parts-few : (ps : List Part) → length ps ≤ partsLeaves ps
+unfolding partsLeaves
+parts-few [] = omega arith
+parts-few (p ∷ ps) = omega (arith, parts-few ps)
 
-      pub going-next : Going d s n pins nodes count at k → k < size d → getD (symbols d) k 0 < 2 → getD ss at 0 ≡ getD (symbols d) k 0 → Going d s n pins nodes count (at + 1) (k + 1)
-      going-next g h z e = record {
-        noted = g .noted;
-        abreast = rw (add-one at) (abreast-next (ahead h g) z e);
-        count-is = g .count-is;
-        few = omega (arith, g .few);
-        pins-are = g .pins-are;
-        nodes-are = g .nodes-are;
-      }
+-- An array holds the words of the parts that wait, the next one last.
+abbrev Stacked : List ℕ → List Part → Type 0
+Stacked ws [] = Unit {0}
+Stacked ws (p ∷ ps) = (getD ws (length ps) 0 ≡ partWord p) × Stacked ws ps
 
-      pub going-differs : Going d s n pins nodes count at k → k < size d → getD (symbols d) k 0 < 2 → getD ss at 0 ≢ getD (symbols d) k 0 → laid d n s ≡ none
-      going-differs g h z e = abreast-differs (ahead h g) z e
+stacked-set : (ws : List ℕ) (i x : ℕ) (ps : List Part) → length ps ≤ i → Stacked ws ps → Stacked (set ws i x) ps
+stacked-set ws i x [] h k = tt
+stacked-set ws i x (p ∷ ps) h k = (getD-set-other ws i (length ps) x 0 (λ e. omega arith) ∙ k .0, stacked-set ws i x ps (omega arith) (k .1))
 
-      pub going-skip : Going d s n pins nodes count at k → k < size d → 2 ≤ getD (symbols d) k 0 →
-          Going d s n (set pins count (getD (symbols d) k 0 - 2)) (set nodes count at) (count + 1) (at + getD zs at 0) (k + 1)
-      going-skip g h z =
-          let x = abreast-skip (ahead h g) z in
-          let i = x .input in
-          record {
-            noted = g .noted ++ (i ∷ []);
-            abreast = x .abreast;
-            count-is = omega (arith, length-append (g .noted) (i ∷ []), g .count-is);
-            few = omega (arith, g .few);
-            pins-are =
-                ap₂ (λ (l : List ℕ) (v : ℕ). set l count v) (g .pins-are) (sym (x .pin-is))
-                ∙ padded-more 16 0 (i .pin) (map (λ (j : Input). j .pin) (g .noted)) count (g .count-is ∙ sym (length-map (g .noted) (λ (j : Input). j .pin)))
-                ∙ ap (padded 16 0) (sym (map-append (λ (j : Input). j .pin) (g .noted) (i ∷ [])));
-            nodes-are =
-                ap₂ (λ (l : List ℕ) (v : ℕ). set l count v) (g .nodes-are) (sym (x .node-is))
-                ∙ padded-more 16 0 (i .node) (map (λ (j : Input). j .node) (g .noted)) count (g .count-is ∙ sym (length-map (g .noted) (λ (j : Input). j .node)))
-                ∙ ap (padded 16 0) (sym (map-append (λ (j : Input). j .node) (g .noted) (i ∷ [])));
-          }
+-- What passing a gate makes of where the walk stands.
+module _ (left : Left) (words : List ℕ) (crossing : ℕ) {symbol : ℕ} where
+  pub passed-inv : symbol ≡ 0 → record { place = left .place + 1; depth = left .depth; waiting = left .waiting; used = left .used } ≡ passed left symbol words crossing
+  unfolding passed
+  passed-inv e = rw e
 
-      pub going-end : Going d s n pins nodes count at k → k ≡ size d → WalkedIs (laid d n s) (record { matched = true; count = count; pins = pins; nodes = nodes })
-      going-end g e =
-          let done : drop k (symbols d) ≡ [] = ap (λ (i : ℕ). drop i (symbols d)) (e ∙ sym (length-symbols d)) ∙ drop-length (symbols d) in
-          let all : laid d n s ≡ some (g .noted) = abreast-end (subst (λ (ds : List ℕ). Abreast (laid d n s) (g .noted) ds at (n + size s)) done (g .abreast)) in
-          subst (λ (o : Option (List Input)). WalkedIs o (record { matched = true; count = count; pins = pins; nodes = nodes })) (sym all)
-          (record { matches = refl; count-is = g .count-is; pins-are = g .pins-are; nodes-are = g .nodes-are })
+  pub passed-nand : {b : Bool} {used : ℕ} → symbol ≢ 0 → exchanged crossing (left .place / 32) ≡ b → used ≡ max (left .used) (left .place / 32 + 1) →
+      let first = left .place + 33 in
+      let second = first + getD words (first % 32) 0 in
+      record { place = cond b second first; depth = left .depth + 1; waiting = set (left .waiting) (left .depth) (cond b first second); used = used } ≡ passed left symbol words crossing
+  unfolding passed branched
+  passed-nand e f g = rw (ne-eqb symbol 0 e, f, g)
 
--- What the walk may read and write next.
-pub record Within (row ss zs : List ℕ) (count at k : ℕ) : Type 0 where
-  pub row-long : length row ≡ rowWords
-  pub symbols-long : length ss ≡ 64
-  pub sizes-long : length zs ≡ 64
-  pub k-small : k < 16
-  pub count-small : count < 16
-  pub at-some : 0 < getD zs at 0
-  pub at-small : at + getD zs at 0 ≤ 64
-  pub symbol-small : getD row (symbolsAt + k) 0 < 8
+module _ (row words ss zs : List ℕ) (d s : Shape) (n crossing : ℕ) where
+  -- The part of the drawing d at a place.
+  record PartIn (p : Part) : Type 0 where
+    drawn : Drawn row words (p .place) (p .shape)
+    ends : p .place + size (p .shape) ≤ size d
+    numbers : p .before + nands (p .shape) ≤ nands d
+    pinned : (x : ℕ) → List·Memᴰ x (leaves (p .shape)) → x < 6
 
-symbols-below : (d : Shape) (b : ℕ) → ((x : ℕ) → List·Memᴰ x (leaves d) → x < b) → (y : ℕ) → List·Memᴰ y (symbols d) → y < 2 + b
-unfolding symbols leaves
-symbols-below (leaf x) b h y (List·Memᴰ·head e) = omega (arith, h x (List·Memᴰ·head refl))
-symbols-below (leaf x) b h y (List·Memᴰ·tail m) = absurd (List·Memᴰ·not-nil m)
-symbols-below (inv a) b h y (List·Memᴰ·head e) = omega arith
-symbols-below (inv a) b h y (List·Memᴰ·tail m) = symbols-below a b h y m
-symbols-below (nand a c) b h y (List·Memᴰ·head e) = omega arith
-symbols-below (nand a c) b h y (List·Memᴰ·tail m) =
-    ⊎-elim (symbols-below a b (λ x i. h x (Memᴰ·append-left (leaves c) i)) y) (symbols-below c b (λ x i. h x (Memᴰ·append-right (leaves a) i)) y)
-    (List·Memᴰ·append-cases (symbols a) m)
+  -- What is to be found under a crossing.
+  abbrev whole : ℕ → Option (List Input)
+  whole y = laid (redrawn y d) n s
 
-pub within : {row ss zs : List ℕ} {n : ℕ} {d s : Shape} {pins nodes : List ℕ} {count at k : ℕ} →
-    Walkable row ss zs n d s → Going ss zs d s n pins nodes count at k → k < getD row sizeAt 0 → Within row ss zs count at k
-within {row} {ss} {zs} {n} {d} {s} {pins} {nodes} {count} {at} {k} w g h =
-    let here : k < size d = omega (arith, w .drawing .size-is) in
-    let b = going-within ss zs d s n g here in
-    record {
-      row-long = w .drawing .long;
-      symbols-long = w .subject .symbols-long;
-      sizes-long = w .subject .sizes-long;
-      k-small = omega (arith, w .small);
-      count-small = omega (arith, g .few, w .small);
-      at-some = b .0;
-      at-small = omega (arith, b .1, w .subject .ends);
-      symbol-small = omega (arith, w .drawing .symbols-are k here, symbols-below d 6 (w .pinned) (getD (symbols d) k 0) (at-mem (symbols d) k 0 (omega (arith, length-symbols d))));
+  -- A walk that has noted these inputs: before the node `at`, with a part and those that wait, and as many subtrees. All of it holds for every crossing with the bits used.
+  record Abreast (used : ℕ) (noted : List Input) (place before : ℕ) (shape : Shape) (ps : List Part) (at : ℕ) (t : Shape) (ts : List Shape) : Type 0 where
+    paired : length ps ≡ length ts
+    first : PartIn (record { place = place; before = before; shape = shape })
+    inside : (p : Part) → List·Memᴰ p ps → PartIn p
+    stands : Stands ss zs at t
+    stand : StandInRow ss zs (at + size t) ts
+    ends : at + (size t + rowSize ts) ≡ n + size s
+    finds : (y : ℕ) → SameBits used crossing y → whole y ≡ joined (some noted) (joined (laid (redrawnFrom y before shape) at t) (laidInRow (map (redrawnPart y) ps) (at + size t) ts))
+    counted : length noted + suc (nands shape + partsLeaves ps) ≡ suc (nands d)
+    used-few : used ≤ nands d
+
+  -- Past the last leaf all inputs are noted.
+  abreast-end : {used : ℕ} {noted : List Input} {place before at x : ℕ} {t : Shape} {ts : List Shape} → Abreast used noted place before (leaf x) [] at t ts →
+      (y : ℕ) → SameBits used crossing y → whole y ≡ some (noted ++ (inputAt at x t ∷ []))
+  unfolding redrawnFrom laid laidInRow
+  abreast-end {noted} {at} {x} {t} a y e = a .finds y e ∙ noting noted (inputAt at x t) (some []) ∙ (unfold joined in ap {B = Option (List Input)} some (append-nil (noted ++ (inputAt at x t ∷ []))))
+
+  module _ (few : nands d ≤ 5) {used : ℕ} {noted : List Input} {place before : ℕ} {ps : List Part} {at : ℕ} where
+    -- Past another leaf the part that waits is next.
+    abreast-skip : {x : ℕ} {t t′ : Shape} {ts : List Shape} {p : Part} → Abreast used noted place before (leaf x) (p ∷ ps) at t (t′ ∷ ts) →
+        Abreast used (noted ++ (inputAt at x t ∷ [])) (p .place) (p .before) (p .shape) ps (at + size t) t′ ts
+    unfolding redrawnFrom laid laidInRow partsLeaves rowSize nands
+    abreast-skip {x} {t} {t′} {ts} {p} a = record {
+      paired = omega (arith, a .paired);
+      first = a .inside p (List·Memᴰ·head refl);
+      inside = λ q m. a .inside q (List·Memᴰ·tail m);
+      stands = a .stand .0;
+      stand = a .stand .1;
+      ends = omega (arith, a .ends);
+      finds = λ y e. a .finds y e ∙ noting noted (inputAt at x t) (laidInRow (map (redrawnPart y) (p ∷ ps)) (at + size t) (t′ ∷ ts));
+      counted = omega (arith, a .counted, length-append noted (inputAt at x t ∷ []));
+      used-few = a .used-few;
     }
 
--- One turn of the loop, by the symbol that it reads in the row.
-module _ {row ss zs : List ℕ} {n : ℕ} {d s : Shape} {pins nodes : List ℕ} {count at k : ℕ}
-    (w : Walkable row ss zs n d s) (g : Going ss zs d s n pins nodes count at k) (h : k < getD row sizeAt 0) where
-  left : k < size d
-  left = omega (arith, w .drawing .size-is)
+    -- Past an inverter its branch is next.
+    abreast-inv : {q t : Shape} {ts : List Shape} → Abreast used noted place before (inv q) ps at (inv t) ts → Abreast used noted (place + 1) before q ps (at + 1) t ts
+    unfolding redrawnFrom laid size nands leaves
+    abreast-inv {q} {t} {ts} a =
+        let e : suc place ≡ place + 1 = omega arith in
+        let f : at + suc (size t) ≡ at + 1 + size t = omega arith in
+        let g : suc at ≡ at + 1 = omega arith in
+        record {
+          paired = a .paired;
+          first = record { drawn = subst (λ k. Drawn row words k q) e (a .first .drawn .1); ends = omega (arith, a .first .ends); numbers = a .first .numbers; pinned = a .first .pinned };
+          inside = a .inside;
+          stands = subst (λ k. Stands ss zs k t) g (a .stands .2);
+          stand = subst (λ k. StandInRow ss zs k ts) f (a .stand);
+          ends = omega (arith, a .ends);
+          finds = λ y h. a .finds y h ∙ ap₂ (λ k l. joined (some noted) (joined (laid (redrawnFrom y before q) k t) (laidInRow (map (redrawnPart y) ps) l ts))) g f;
+          counted = a .counted;
+          used-few = a .used-few;
+        }
 
-  reads : getD row (symbolsAt + k) 0 ≡ getD (symbols d) k 0
-  reads = w .drawing .symbols-are k left
+    -- Past a NAND the branch that stands first under the crossing is next, and the other waits.
+    module _ {p q t t′ : Shape} {ts : List Shape} (a : Abreast used noted place before (nand p q) ps at (nand t t′) ts) where
+      abbrev used′ : ℕ
+      used′ = max used (before + 1)
 
-  pub next-turn : {pins′ nodes′ : List ℕ} {count′ at′ : ℕ} → getD row (symbolsAt + k) 0 < 2 → getD ss at 0 ≡ getD row (symbolsAt + k) 0 →
-      pins′ ≡ pins → nodes′ ≡ nodes → count′ ≡ count → at′ ≡ at + 1 → Going ss zs d s n pins′ nodes′ count′ at′ (k + 1)
-  next-turn z e e₁ e₂ e₃ e₄ = rw (e₁, e₂, e₃, e₄) (going-next ss zs d s n g left (omega (arith, reads)) (e ∙ reads))
+      used-five : used′ ≤ 5
+      used-five = unfold nands in omega (arith, a .used-few, a .first .numbers)
 
-  pub skip-turn : {pins′ nodes′ : List ℕ} {count′ at′ : ℕ} → 2 ≤ getD row (symbolsAt + k) 0 →
-      pins′ ≡ set pins count (getD row (symbolsAt + k) 0 - 2) → nodes′ ≡ set nodes count at → count′ ≡ count + 1 → at′ ≡ at + getD zs at 0 →
-      Going ss zs d s n pins′ nodes′ count′ at′ (k + 1)
-  skip-turn z e₁ e₂ e₃ e₄ = rw (e₁, e₂, e₃, e₄, reads) (going-skip ss zs d s n g left (omega (arith, reads)))
+      first-in : PartIn (firstOf place before p)
+      unfolding size nands leaves
+      first-in = let e : suc place ≡ place + 1 = omega arith in record {
+        drawn = subst (λ k. Drawn row words k p) e (a .first .drawn .2);
+        ends = omega (arith, a .first .ends);
+        numbers = omega (arith, a .first .numbers);
+        pinned = λ x m. a .first .pinned x (Memᴰ·append-left (leaves q) m);
+      }
 
-  pub differs-turn : (r : Walked) → getD row (symbolsAt + k) 0 < 2 → getD ss at 0 ≢ getD row (symbolsAt + k) 0 → r .matched ≡ false → WalkedIs (laid d n s) r
-  differs-turn r z e f =
-      subst (λ (o : Option (List Input)). WalkedIs o r) (sym (going-differs ss zs d s n g left (omega (arith, reads)) (λ q. e (q ∙ sym reads)))) f
+      second-in : PartIn (secondOf place before p q)
+      unfolding size nands leaves
+      second-in = let e : suc place + size p ≡ place + 1 + size p = omega arith in record {
+        drawn = subst (λ k. Drawn row words k q) e (a .first .drawn .3);
+        ends = omega (arith, a .first .ends);
+        numbers = omega (arith, a .first .numbers);
+        pinned = λ x m. a .first .pinned x (Memᴰ·append-right (leaves p) m);
+      }
+
+      -- What is to be found, with the branches in the order of the crossing.
+      abreast-nand : (u v : Part) → PartIn u → PartIn v → nands (u .shape) + nands (v .shape) ≡ nands p + nands q →
+          ((y : ℕ) → exchanged y before ≡ exchanged crossing before → redrawnFrom y before (nand p q) ≡ nand (redrawnPart y u) (redrawnPart y v)) →
+          Abreast used′ noted (u .place) (u .before) (u .shape) (v ∷ ps) (at + 1) t (t′ ∷ ts)
+      unfolding laid laidInRow partsLeaves rowSize size nands
+      abreast-nand u v g h k e =
+          let f : suc at ≡ at + 1 = omega arith in
+          let i : suc at + size t ≡ at + 1 + size t = omega arith in
+          let j : at + suc (size t + size t′) ≡ at + 1 + size t + size t′ = omega arith in
+          record {
+            paired = omega (arith, a .paired);
+            first = g;
+            inside = each {P = PartIn} h (a .inside);
+            stands = subst (λ k. Stands ss zs k t) f (a .stands .2);
+            stand = (subst (λ k. Stands ss zs k t′) i (a .stands .3), subst (λ k. StandInRow ss zs k ts) j (a .stand));
+            ends = omega (arith, a .ends);
+            finds = λ y same.
+                let rest = laidInRow (map (redrawnPart y) ps) (at + 1 + size t + size t′) ts in
+                a .finds y (same-fewer used used′ crossing y (omega arith) used-five same)
+                ∙ ap (λ r. joined (some noted) (joined (laid r at (nand t t′)) (laidInRow (map (redrawnPart y) ps) (at + suc (size t + size t′)) ts))) (e y (sym (same-exchanged before used′ crossing y (omega arith) used-five same)))
+                ∙ ap (λ l. joined (some noted) (joined (joined (laid (redrawnPart y u) (suc at) t) (laid (redrawnPart y v) (suc at + size t) t′)) (laidInRow (map (redrawnPart y) ps) l ts))) j
+                ∙ ap₂ (λ k l. joined (some noted) (joined (joined (laid (redrawnPart y u) k t) (laid (redrawnPart y v) l t′)) rest)) f i
+                ∙ ap (joined (some noted)) (sym (joined-assoc (laid (redrawnPart y u) (at + 1) t) (laid (redrawnPart y v) (at + 1 + size t) t′) rest));
+            counted = omega (arith, a .counted, k);
+            used-few = omega (arith, a .used-few, a .first .numbers);
+          }
+
+  -- ---- the walk's own records
+
+  -- What the walk noted stands in two arrays, and where it stands in `left`.
+  pub record Going (pins nodes : List ℕ) (count : ℕ) (left : Left) (at : ℕ) : Type 0 where
+    noted : List Input
+    place : ℕ
+    before : ℕ
+    shape : Shape
+    ps : List Part
+    t : Shape
+    ts : List Shape
+    abreast : Abreast (left .used) noted place before shape ps at t ts
+    place-is : left .place ≡ place + 32 * before
+    depth-is : left .depth ≡ length ps
+    stacked : Stacked (left .waiting) ps
+    waiting-long : length (left .waiting) ≡ 6
+    count-is : count ≡ length noted
+    pins-are : pins ≡ padded 6 0 (map (λ (i : Input). i .pin) noted)
+    nodes-are : nodes ≡ padded 6 0 (map (λ (i : Input). i .node) noted)
+
+  -- The word at the place where it stands.
+  abbrev symbolAt : Left → ℕ
+  symbolAt left = getD row (symbolsAt + left .place % 32) 0
+
+  module _ (w : Walkable row words ss zs n d s) where
+    pub going-start : Going (replicate 6 0) (replicate 6 0) 0 (record { place = 0; depth = 0; waiting = replicate 6 0; used = 0 }) n
+    unfolding laidInRow rowSize partsLeaves joined redrawn
+    going-start = record {
+      noted = [];
+      place = 0;
+      before = 0;
+      shape = d;
+      ps = [];
+      t = s;
+      ts = [];
+      abreast = record {
+        paired = refl;
+        first = record { drawn = w .drawn; ends = omega arith; numbers = omega arith; pinned = w .pinned };
+        inside = λ p m. absurd (List·Memᴰ·not-nil m);
+        stands = w .subject .stands;
+        stand = tt;
+        ends = omega arith;
+        finds = λ y e. go (laid (redrawnFrom y 0 d) n s);
+        counted = omega arith;
+        used-few = omega arith;
+      };
+      place-is = refl;
+      depth-is = refl;
+      stacked = tt;
+      waiting-long = length-replicate {A = ℕ} 6 0;
+      count-is = refl;
+      pins-are = refl;
+      nodes-are = refl;
+    }
+      where
+        go : (a : Option (List Input)) → a ≡ joined (some []) (joined a (some []))
+        go none = refl
+        go (some is) = ap {B = Option (List Input)} some (sym (append-nil is))
+
+    module _ {pins nodes : List ℕ} {count : ℕ} {left : Left} {at : ℕ} (g : Going pins nodes count left at) where
+      -- The place in the row, the NANDs before it, and how much is noted and waits.
+      pub record Within : Type 0 where
+        placed : left .place % 32 ≡ g .place
+        numbered : left .place / 32 ≡ g .before
+        inside : g .place + size (g .shape) ≤ 16
+        pub place-small : left .place % 32 < 16
+        pub noted-few : count + left .depth < 6
+        pub at-some : 0 < getD zs at 0
+        pub at-ends : at + getD zs at 0 ≤ 64
+
+      pub within : Within
+      within =
+          let a = g .abreast in
+          let z = size-pos (g .shape) in
+          let inside : g .place + size (g .shape) ≤ 16 = omega (arith, a .first .ends, w .small) in
+          let ended = stands-size ss zs at (g .t) (a .stands) in
+          record {
+            placed = omega (arith, g .place-is);
+            numbered = omega (arith, g .place-is);
+            inside = inside;
+            place-small = omega (arith, g .place-is);
+            noted-few = omega (arith, a .counted, w .few, parts-few (g .ps), g .count-is, g .depth-is);
+            at-some = omega (arith, ended, size-pos (g .t));
+            at-ends = omega (arith, ended, a .ends, w .subject .ends);
+          }
+
+      abbrev Here : Shape → Shape → Type 0
+      Here x t = Abreast (left .used) (g .noted) (g .place) (g .before) x (g .ps) at t (g .ts)
+
+      -- The symbol there, by the part's shape.
+      symbol-is : {v : ℕ} → getD row (symbolsAt + g .place) 0 ≡ v → symbolAt left ≡ v
+      symbol-is e = ap (λ k. getD row (symbolsAt + k) 0) (within .placed) ∙ e
+
+      pub symbol-small : symbolAt left < 8
+      symbol-small = go (g .shape) (g .abreast .first)
+        where
+          go : (x : Shape) → PartIn (record { place = g .place; before = g .before; shape = x }) → symbolAt left < 8
+          go (leaf x) p = unfold leaves in omega (arith, symbol-is (p .drawn), p .pinned x (List·Memᴰ·head refl))
+          go (inv p) h = omega (arith, symbol-is (h .drawn .0))
+          go (nand p q) h = omega (arith, symbol-is (h .drawn .0))
+
+      -- Two symbols differ: no crossing with the bits used has a match.
+      pub going-differs : symbolAt left < 2 → getD ss at 0 ≢ symbolAt left → (y : ℕ) → SameBits (left .used) crossing y → whole y ≡ none
+      going-differs h c y e = go (g .shape) (g .t) (g .abreast)
+        where
+          nothing : (b : Bool) (p q t : Shape) (o : Option (List Input)) → ((p q : Shape) → laid (nand p q) at t ≡ none) → joined (some (g .noted)) (joined (laid (ordered b p q) at t) o) ≡ none
+          nothing false p q t o f = unfold ordered joined in ap (λ r. joined (some (g .noted)) (joined r o)) (f p q)
+          nothing true p q t o f = unfold ordered joined in ap (λ r. joined (some (g .noted)) (joined r o)) (f q p)
+
+          go : (x t : Shape) → Here x t → whole y ≡ none
+          go (leaf x) t a = absurd (omega (arith, symbol-is (a .first .drawn)))
+          go (inv p) (leaf z) a = a .finds y e ∙ (unfold redrawnFrom laid joined in refl)
+          go (inv p) (inv t) a = absurd (c (a .stands .0 ∙ sym (symbol-is (a .first .drawn .0))))
+          go (inv p) (nand t u) a = a .finds y e ∙ (unfold redrawnFrom laid joined in refl)
+          go (nand p q) (leaf z) a = a .finds y e ∙ (unfold redrawnFrom in nothing (exchanged y (g .before)) _ _ (leaf z) _ (λ p q. unfold laid in refl))
+          go (nand p q) (inv t) a = a .finds y e ∙ (unfold redrawnFrom in nothing (exchanged y (g .before)) _ _ (inv t) _ (λ p q. unfold laid in refl))
+          go (nand p q) (nand t u) a = absurd (c (a .stands .0 ∙ sym (symbol-is (a .first .drawn .0))))
+
+      -- Past two equal symbols of gates.
+      -- At a NAND: its number, and where its second branch stands.
+      record AtNand : Type 0 where
+        number : left .place / 32 ≤ 4
+        first : (left .place + 33) % 32 < 16
+        second : left .place + 33 + getD words ((left .place + 33) % 32) 0 ≤ 255
+
+      at-nand : symbolAt left < 2 → symbolAt left ≢ 0 → AtNand
+      at-nand h z = go (g .shape) (g .abreast .first) within
+        where
+          go : (x : Shape) → PartIn (record { place = g .place; before = g .before; shape = x }) → Within → AtNand
+          go (leaf x) p b = absurd (omega (arith, symbol-is (p .drawn)))
+          go (inv p) q b = absurd (z (symbol-is (q .drawn .0)))
+          go (nand p q) r b = unfold size nands extent in
+              let e : (left .place + 33) % 32 ≡ suc (g .place) = omega (arith, b .placed, b .inside) in
+              let f : getD words ((left .place + 33) % 32) 0 ≡ size p + 32 * nands p = ap (λ k. getD words k 0) e ∙ r .drawn .1 in
+              record { number = omega (arith, b .numbered, r .numbers, w .few); first = omega (arith, r .ends, w .small, size-pos p, size-pos q); second = omega (arith, f, r .ends, r .numbers, w .few, w .small, g .place-is) }
+
+      pub passable : symbolAt left < 2 → Passable left (symbolAt left) words
+      passable h =
+          let b = within in
+          record {
+            near = omega (arith, g .place-is, b .inside, g .abreast .first .numbers, w .few);
+            few = omega (arith, b .noted-few);
+            waiting-long = g .waiting-long;
+            words-long = w .words-long;
+            used-few = omega (arith, g .abreast .used-few, w .few);
+            number = λ z. at-nand h z .number;
+            first = λ z. at-nand h z .first;
+            second = λ z. at-nand h z .second;
+          }
+
+      -- Past two NANDs.
+      module _ (p q t u : Shape) (a : Here (nand p q) (nand t u)) where
+        extent-is : getD words ((left .place + 33) % 32) 0 ≡ size p + 32 * nands p
+        unfolding size extent
+        extent-is =
+            let b = within in
+            let e : (left .place + 33) % 32 ≡ suc (g .place) = omega (arith, b .placed, a .first .ends, w .small) in
+            ap (λ k. getD words k 0) e ∙ a .first .drawn .1
+
+        nand-symbol : symbolAt left ≢ 0
+        nand-symbol e = absurd (omega (arith, symbol-is (a .first .drawn .0)))
+
+        used-is : max (left .used) (g .before + 1) ≡ max (left .used) (left .place / 32 + 1)
+        used-is = ap (λ k. max (left .used) (k + 1)) (sym (within .numbered))
+
+        -- With the branch that is next, and the one that waits.
+        branch-going : (x y : Part) → Abreast (max (left .used) (g .before + 1)) (g .noted) (x .place) (x .before) (x .shape) (y ∷ g .ps) (at + 1) t (u ∷ g .ts) →
+            {next waits : ℕ} → next ≡ partWord x → waits ≡ partWord y →
+            Going pins nodes count (record { place = next; depth = left .depth + 1; waiting = set (left .waiting) (left .depth) waits; used = max (left .used) (g .before + 1) }) (at + 1)
+        branch-going x y b {next} {waits} e f = record {
+          noted = g .noted;
+          place = x .place;
+          before = x .before;
+          shape = x .shape;
+          ps = y ∷ g .ps;
+          t = t;
+          ts = u ∷ g .ts;
+          abreast = b;
+          place-is = e;
+          depth-is = omega (arith, g .depth-is);
+          stacked = (
+            ap (λ k. getD (set (left .waiting) (left .depth) waits) k 0) (sym (g .depth-is)) ∙ getD-set-same (left .waiting) (left .depth) waits 0 (omega (arith, g .waiting-long, within .noted-few)) ∙ f,
+            stacked-set (left .waiting) (left .depth) waits (g .ps) (omega (arith, g .depth-is)) (g .stacked),
+          );
+          waiting-long = length-set (left .waiting) (left .depth) waits ∙ g .waiting-long;
+          count-is = g .count-is;
+          pins-are = g .pins-are;
+          nodes-are = g .nodes-are;
+        }
+
+        branches : (b : Bool) → exchanged crossing (g .before) ≡ b → Going pins nodes count (passed left (symbolAt left) words crossing) (at + 1)
+        branches false e =
+            rw (← passed-nand left words crossing nand-symbol (ap (exchanged crossing) (within .numbered) ∙ e) used-is, extent-is)
+            (branch-going (firstOf (g .place) (g .before) p) (secondOf (g .place) (g .before) p q)
+            (abreast-nand (w .few) a _ _ (first-in (w .few) a) (second-in (w .few) a) refl (λ y f. unfold ordered in redrawn-nand y (g .before) p q (f ∙ e))) (omega (arith, g .place-is)) (omega (arith, g .place-is)))
+        branches true e =
+            rw (← passed-nand left words crossing nand-symbol (ap (exchanged crossing) (within .numbered) ∙ e) used-is, extent-is)
+            (branch-going (secondOf (g .place) (g .before) p q) (firstOf (g .place) (g .before) p)
+            (abreast-nand (w .few) a _ _ (second-in (w .few) a) (first-in (w .few) a) (omega arith) (λ y f. unfold ordered in redrawn-nand y (g .before) p q (f ∙ e))) (omega (arith, g .place-is)) (omega (arith, g .place-is)))
+
+      -- Past two equal symbols.
+      pub going-pass : symbolAt left < 2 → getD ss at 0 ≡ symbolAt left → Going pins nodes count (passed left (symbolAt left) words crossing) (at + 1)
+      going-pass h c = go (g .shape) (g .t) (g .abreast)
+        where
+          go : (x t : Shape) → Here x t → Going pins nodes count (passed left (symbolAt left) words crossing) (at + 1)
+          go (leaf x) t a = absurd (omega (arith, symbol-is (a .first .drawn)))
+          go (inv p) (leaf z) a = absurd (omega (arith, c, symbol-is (a .first .drawn .0), a .stands .0))
+          go (inv p) (inv t) a =
+              let e : symbolAt left ≡ 0 = symbol-is (a .first .drawn .0) in
+              rw (← passed-inv left words crossing e) record {
+                noted = g .noted;
+                place = g .place + 1;
+                before = g .before;
+                shape = p;
+                ps = g .ps;
+                t = t;
+                ts = g .ts;
+                abreast = abreast-inv (w .few) a;
+                place-is = omega (arith, g .place-is);
+                depth-is = g .depth-is;
+                stacked = g .stacked;
+                waiting-long = g .waiting-long;
+                count-is = g .count-is;
+                pins-are = g .pins-are;
+                nodes-are = g .nodes-are;
+              }
+          go (inv p) (nand t u) a = absurd (omega (arith, c, symbol-is (a .first .drawn .0), a .stands .0))
+          go (nand p q) (leaf z) a = absurd (omega (arith, c, symbol-is (a .first .drawn .0), a .stands .0))
+          go (nand p q) (inv t) a = absurd (omega (arith, c, symbol-is (a .first .drawn .0), a .stands .0))
+          go (nand p q) (nand t u) a = branches p q t u a (exchanged crossing (g .before)) refl
+
+      -- Past a pattern's leaf its input is noted.
+      module _ (x : ℕ) where
+        abbrev noted′ : List Input
+        noted′ = g .noted ++ (inputAt at x (g .t) ∷ [])
+
+        count-noted : count + 1 ≡ length noted′
+        count-noted = omega (arith, length-append (g .noted) (inputAt at x (g .t) ∷ []), g .count-is)
+
+        array-noted : {l : List ℕ} (f : Input → ℕ) (v : ℕ) → l ≡ padded 6 0 (map f (g .noted)) → v ≡ f (inputAt at x (g .t)) → set l count v ≡ padded 6 0 (map f noted′)
+        array-noted f v e h =
+            ap₂ (λ k i. set k count i) e h
+            ∙ padded-more 6 0 (f (inputAt at x (g .t))) (map f (g .noted)) count (g .count-is ∙ sym (length-map (g .noted) f))
+            ∙ ap (padded 6 0) (sym (map-append f (g .noted) (inputAt at x (g .t) ∷ [])))
+
+      -- The part that waited last is next.
+      pub going-skip : 2 ≤ symbolAt left → 0 < left .depth → Going (set pins count (symbolAt left - 2)) (set nodes count at) (count + 1) (resumed left) (at + getD zs at 0)
+      unfolding resumed
+      going-skip h z = go (g .shape) (g .ps) (g .ts) (g .abreast) (g .depth-is) (g .stacked)
+        where
+          go : (x : Shape) (ps : List Part) (ts : List Shape) → Abreast (left .used) (g .noted) (g .place) (g .before) x ps at (g .t) ts → left .depth ≡ length ps → Stacked (left .waiting) ps →
+              Going (set pins count (symbolAt left - 2)) (set nodes count at) (count + 1) (resumed left) (at + getD zs at 0)
+          go (inv p) ps ts a k m = absurd (omega (arith, symbol-is (a .first .drawn .0)))
+          go (nand p q) ps ts a k m = absurd (omega (arith, symbol-is (a .first .drawn .0)))
+          go (leaf x) [] ts a k m = absurd (omega arith)
+          go (leaf x) (p ∷ ps) [] a k m = absurd (omega (arith, a .paired))
+          go (leaf x) (p ∷ ps) (t ∷ ts) a k m =
+              let e : left .depth - 1 ≡ length ps = omega (arith, k) in
+              rw (stands-size ss zs at (g .t) (a .stands)) record {
+                noted = noted′ x;
+                place = p .place;
+                before = p .before;
+                shape = p .shape;
+                ps = ps;
+                t = t;
+                ts = ts;
+                abreast = abreast-skip (w .few) a;
+                place-is = ap (λ i. getD (left .waiting) i 0) e ∙ m .0;
+                depth-is = e;
+                stacked = m .1;
+                waiting-long = g .waiting-long;
+                count-is = count-noted x;
+                pins-are = array-noted x (λ i. i .pin) _ (g .pins-are) (omega (arith, symbol-is (a .first .drawn)));
+                nodes-are = array-noted x (λ i. i .node) _ (g .nodes-are) refl;
+              }
+
+      -- After the last leaf the walk has found the match.
+      pub going-end : 2 ≤ symbolAt left → left .depth ≡ 0 → WalkIs d s n crossing (record { matched = true; used = left .used; count = count + 1; pins = set pins count (symbolAt left - 2); nodes = set nodes count at })
+      going-end h z = go (g .shape) (g .ps) (g .abreast) (g .depth-is)
+        where
+          go : (x : Shape) (ps : List Part) → Abreast (left .used) (g .noted) (g .place) (g .before) x ps at (g .t) (g .ts) → left .depth ≡ length ps →
+              WalkIs d s n crossing (record { matched = true; used = left .used; count = count + 1; pins = set pins count (symbolAt left - 2); nodes = set nodes count at })
+          go (inv p) ps a k = absurd (omega (arith, symbol-is (a .first .drawn .0)))
+          go (nand p q) ps a k = absurd (omega (arith, symbol-is (a .first .drawn .0)))
+          go (leaf x) (p ∷ ps) a k = absurd (omega arith)
+          go (leaf x) [] a k = record {
+            found-is = rw (abreast-end a crossing refl) record {
+              matches = refl;
+              count-is = count-noted x;
+              pins-are = array-noted x (λ i. i .pin) _ (g .pins-are) (omega (arith, symbol-is (a .first .drawn)));
+              nodes-are = array-noted x (λ i. i .node) _ (g .nodes-are) refl;
+            };
+            used-few = a .used-few;
+            ruled-out = λ e. absurd (true≢false e);
+          }
+
+      -- Where two symbols differ it has found none.
+      pub going-missed : symbolAt left < 2 → getD ss at 0 ≢ symbolAt left → (r : Walked) → r .matched ≡ false → r .used ≡ left .used → WalkIs d s n crossing r
+      going-missed h c r e f = record {
+        found-is = subst (λ o. WalkedIs o r) (sym (going-differs h c crossing refl)) e;
+        used-few = omega (arith, f, g .abreast .used-few);
+        ruled-out = λ z y b. going-differs h c y (subst (λ u. SameBits u crossing y) f b);
+      }

@@ -1,19 +1,23 @@
 -- What the functions of this crate are lent and what they promise, and when tables and records hold a sound library and a sound tree.
-use Prim.Native.Nat.{ℕ, _+_, _*_, _≤_, _<_}
+use Prim.Native.Nat.{ℕ, _+_, _-_, _*_, _/_, _%_, _^_, _≤_, _<_, max}
 use mathlib.Core.Path.{_≡_}
-use mathlib.Core.Bool.{true, false, cond}
+use mathlib.Core.Logic.{_≢_}
+use mathlib.Core.Bool.{Bool, true, false, cond}
 use mathlib.Core.List.{List, map, List·Memᴰ}
 use mathlib.Core.Option.{Option, none, some}
-use lib.ListN.{getD, length}
+use lib.ListN.{getD, length, set}
+use lib.Dec.{eqb}
 use Rattle.shapes.specs.Shape.{symbols, sizes}
 use Rattle.sheets.specs.declared.library.LibraryRecord.{LibraryRecord}
 use Rattle.sheets.specs.declared.tree.TreeRecord.{TreeRecord}
-use Rattle.sheets.specs.Model.{Shape, size, leaves, Pin, Cell, Library, Pattern, Tree}
+use Rattle.sheets.specs.Model.{Shape, size, leaves, nands, Pin, Cell, Library, Pattern, Tree}
 use Rattle.sheets.specs.Sound.{SoundCell, SoundLibrary, SoundTree}
-use Rattle.sheets.specs.Layout.{padded, pinWords, figuresAt, sizeAt, symbolsAt, rowWords, patternTable, libraryLaid, treeLaid}
-use Rattle.covers.specs.Match.{Input, Match, pinAt, pinLoad}
+use Rattle.sheets.specs.Layout.{padded, pinWords, figuresAt, rowWords, patternTable, libraryLaid, treeLaid}
+use Rattle.covers.specs.Crossing.{exchanged, redrawn}
+use Rattle.covers.specs.Match.{Input, Match, laid, pinAt, pinLoad}
+use Rattle.overlay.specs.declared.Left.{Left}
 use Rattle.overlay.specs.declared.Walked.{Walked}
-use Rattle.overlay.specs.Standing.{Subject}
+use Rattle.overlay.specs.Standing.{Subject, DrawingHeld, Drawn}
 
 -- ---- a leaf
 
@@ -22,12 +26,6 @@ abbrev pub symbolLimit : ℕ
 symbolLimit = 1000002
 
 -- ---- a pattern's row
-
--- The row holds the drawing d.
-pub record DrawingHeld (row : List ℕ) (d : Shape) : Type 0 where
-  pub long : length row ≡ rowWords
-  pub size-is : getD row sizeAt 0 ≡ size d
-  pub symbols-are : (k : ℕ) → k < size d → getD row (symbolsAt + k) 0 ≡ getD (symbols d) k 0
 
 -- The row holds, from a place on, the figures of a pin of the library l.
 pub record PinHeld (l : Library) (row : List ℕ) (at : ℕ) (p : Pin) : Type 0 where
@@ -60,10 +58,45 @@ pub record PatternHeld (l : Library) (row : List ℕ) (p : Pattern) : Type 0 whe
 
 -- ---- a walk
 
--- The row holds the drawing d, and the arrays hold the subtree s at node n.
-pub record Walkable (row ss zs : List ℕ) (n : ℕ) (d s : Shape) : Type 0 where
-  pub drawing : DrawingHeld row d
+-- A walk may pass the gate that it stands at: there is room for what waits, and the numbers are small.
+pub record Passable (left : Left) (symbol : ℕ) (words : List ℕ) : Type 0 where
+  pub near : left .place ≤ 255
+  pub few : left .depth < 6
+  pub waiting-long : length (left .waiting) ≡ 6
+  pub words-long : length words ≡ 16
+  pub used-few : left .used ≤ 5
+  pub number : symbol ≢ 0 → left .place / 32 ≤ 4
+  pub first : symbol ≢ 0 → (left .place + 33) % 32 < 16
+  pub second : symbol ≢ 0 → left .place + 33 + getD words ((left .place + 33) % 32) 0 ≤ 255
+
+-- A walk past a NAND: which branch is next, and which waits.
+unfoldable pub branched : Bool → Left → (first second : ℕ) → Left
+branched exchange left first second = record {
+  place = cond exchange second first;
+  depth = left .depth + 1;
+  waiting = set (left .waiting) (left .depth) (cond exchange first second);
+  used = max (left .used) (left .place / 32 + 1);
+}
+
+-- A walk past a gate with this symbol.
+unfoldable pub passed : Left → ℕ → List ℕ → ℕ → Left
+passed left symbol words crossing =
+    let first = left .place + 33 in
+    cond (eqb symbol 0)
+    (record { place = left .place + 1; depth = left .depth; waiting = left .waiting; used = left .used })
+    (branched (exchanged crossing (left .place / 32)) left first (first + getD words (first % 32) 0))
+
+-- A walk at the branch that waited last.
+unfoldable pub resumed : Left → Left
+resumed left = record { place = getD (left .waiting) (left .depth - 1) 0; depth = left .depth - 1; waiting = left .waiting; used = left .used }
+
+-- The row and the extents hold the drawing d, and the arrays hold the subtree s at node n.
+pub record Walkable (row words ss zs : List ℕ) (n : ℕ) (d s : Shape) : Type 0 where
+  pub long : length row ≡ rowWords
+  pub words-long : length words ≡ 16
+  pub drawn : Drawn row words 0 d
   pub small : size d ≤ 16
+  pub few : nands d ≤ 5
   pub pinned : (x : ℕ) → List·Memᴰ x (leaves d) → x < 6
   pub subject : Subject ss zs n s
 
@@ -71,20 +104,30 @@ pub record Walkable (row ss zs : List ℕ) (n : ℕ) (d s : Shape) : Type 0 wher
 pub record Walks (is : List Input) (r : Walked) : Type 0 where
   pub matches : r .matched ≡ true
   pub count-is : r .count ≡ length is
-  pub pins-are : r .pins ≡ padded 16 0 (map (λ (i : Input). i .pin) is)
-  pub nodes-are : r .nodes ≡ padded 16 0 (map (λ (i : Input). i .node) is)
+  pub pins-are : r .pins ≡ padded 6 0 (map (λ (i : Input). i .pin) is)
+  pub nodes-are : r .nodes ≡ padded 6 0 (map (λ (i : Input). i .node) is)
 
 -- A walk found what there is.
 abbrev pub WalkedIs : Option (List Input) → Walked → Type 0
 WalkedIs none r = r .matched ≡ false
 WalkedIs (some is) r = Walks is r
 
+-- Two crossings have the same first bits, so many.
+abbrev pub SameBits : ℕ → ℕ → ℕ → Type 0
+SameBits used x y = x / 2 ^ (5 - used) ≡ y / 2 ^ (5 - used)
+
+-- What a walk of a drawing under a crossing found. Where it found no match, none of the crossings that have the same first bits, as many as it used, has one.
+pub record WalkIs (d s : Shape) (n crossing : ℕ) (r : Walked) : Type 0 where
+  pub found-is : WalkedIs (laid (redrawn crossing d) n s) r
+  pub used-few : r .used ≤ nands d
+  pub ruled-out : r .matched ≡ false → (y : ℕ) → SameBits (r .used) crossing y → laid (redrawn y d) n s ≡ none
+
 -- A match as the walk found it, with its pattern's row.
 pub record MatchHeld (l : Library) (walked : Walked) (row : List ℕ) (m : Match) : Type 0 where
   pub walks : Walks (m .inputs) walked
   pub cell : CellHeld l row (m .pattern .cell)
   pub sound : SoundCell (length (l .bins)) (m .pattern .cell)
-  pub few : length (m .inputs) ≤ 16
+  pub few : length (m .inputs) ≤ 6
   pub pinned : (i : Input) → List·Memᴰ i (m .inputs) → i .pin < length (m .pattern .cell .pins)
 
 -- ---- a library and a tree

@@ -1,58 +1,193 @@
-// A pattern laid over a node of the subject tree: the inputs that it finds there. And when a leaf arrives.
+// A pattern laid over a node of the subject tree under a crossing: the inputs that it finds there. And when a leaf arrives.
 use sheets::library::PatternRow;
 ghost use mathlib.Core.Path.{_≡_};
-ghost use Prim.Native.Nat.{_-_, _<_, _≤_};
-ghost use Rattle.sheets.specs.Model.{Shape};
-ghost use Rattle.covers.specs.Match.{laid};
+ghost use Prim.Native.Nat.{_+_, _-_, _<_, _≤_, max};
+ghost use Rattle.sheets.specs.Model.{Shape, size};
+ghost use Rattle.covers.specs.Crossing.{exchanged, crossingLimit};
 ghost use Rattle.covers.specs.Cover.{leafArrival};
 ghost use Rattle.covers.specs.Curve.{base};
-ghost use Rattle.overlay.specs.Held.{symbolLimit, Walkable, WalkedIs};
+ghost use Rattle.overlay.specs.Standing.{extent, Extending, DrawingHeld, Measured};
+ghost use Rattle.overlay.specs.Held.{symbolLimit, Passable, passed, resumed, Walkable, WalkIs};
 
-// What a walk over a pattern finds: whether it matches and, if so, how many inputs it has, with the pin and the node of each in drawn order.
-pub struct Walked {
-    pub matched: bool,
-    pub count: usize,
-    pub pins: [u8; 16],
-    pub nodes: [u8; 16],
+// How many crossing numbers there are: five bits, the first the highest.
+pub struct Crossing {}
+
+impl Crossing {
+    pub const NUMBERS: u32 = 32;
 }
 
-// Walks a pattern's nodes and the tree's nodes from n on together. A pattern's leaf notes its pin and the tree's node, and skips all that
-// stands under the node; elsewhere the two symbols must be equal.
-pub fn walk<'a>(row: &'a [u32], symbols: &'a [u32], sizes: &'a [u8], n: usize) -> Walked
-    requires { ⌜ ((d : Shape) × ((s : Shape) × Walkable (now row) (now symbols) (now sizes) n d s)) ⌝ }
-    ensures { λ r. ⌜ ((d s : Shape) → Walkable (now (row .entry)) (now (symbols .entry)) (now (sizes .entry)) n d s → WalkedIs (laid d n s) r) ⌝ }
+// How far each node of a drawing reaches, in preorder: how many nodes stand under it, itself included, and 32 times how many of them are NANDs.
+pub struct Extents {
+    pub words: [u8; 16],
+}
+
+impl Extents {
+    pub const NAND: usize = 32;
+
+    // From a NAND to its first branch: a node and a NAND more.
+    pub const FIRST: usize = 33;
+}
+
+// Where a walk stands in a drawing: at a place, with the branches that wait to be laid, the first `depth` of an array, the next one last;
+// and how many bits of the crossing it has used. A place is a node's number in the drawing and 32 times how many NANDs come before it.
+pub struct Left {
+    pub place: usize,
+    pub depth: usize,
+    pub waiting: [u8; 6],
+    pub used: usize,
+}
+
+// What a walk over a pattern finds: whether it matches and, if so, how many inputs it has, with the pin and the node of each in the
+// order of the tree; if not, how many bits of the crossing tell so.
+pub struct Walked {
+    pub matched: bool,
+    pub used: usize,
+    pub count: usize,
+    pub pins: [u8; 6],
+    pub nodes: [u8; 6],
+}
+
+// The extent of the node numbered k, from its symbol and the extents of the nodes after it.
+fn extent_from(symbol: u32, words: [u8; 16], k: usize) -> usize
+    requires { ⌜ ((s : Shape) × Extending symbol words k s) ⌝ }
+    ensures { λ r. ⌜ ((s : Shape) → Extending symbol words k s → r ≡ extent s) ⌝ }
 {
-    let mut pins = [0u8; 16];
-    let mut nodes = [0u8; 16];
+    if 2 <= symbol {
+        return 1;
+    }
+    let first = words[k + 1] as usize;
+    if symbol == 0 {
+        return 1 + first;
+    }
+    Extents::FIRST + first + words[k + 1 + first % Extents::NAND] as usize
+}
+
+// The extents of the drawing in a pattern's row, from the last node to the first.
+pub fn measure(row: &[u32]) -> Extents
+    requires { ⌜ ((d : Shape) × (DrawingHeld (now row) d × (size d ≤ 16))) ⌝ }
+    ensures { λ r. ⌜ ((d : Shape) → DrawingHeld (now (row .entry)) d → size d ≤ 16 → Measured d (r .words)) ⌝ }
+{
+    let mut words = [0u8; 16];
+    let mut k = row[PatternRow::SIZE] as usize;
+    while 0 < k {
+        k -= 1;
+        words[k] = extent_from(row[PatternRow::SYMBOLS + k], words, k) as u8;
+    }
+    Extents { words }
+}
+
+// Whether a crossing exchanges the inputs of the NAND with a number.
+fn is_exchanged(crossing: u32, number: usize) -> bool
+    requires { ⌜ (crossing < crossingLimit) × (number ≤ 4) ⌝ }
+    ensures { λ r. ⌜ r ≡ exchanged crossing number ⌝ }
+{
+    (crossing >> (4 - number)) % 2 == 1
+}
+
+// The greater of two counts.
+fn greater(a: usize, b: usize) -> usize
+    ensures { λ r. ⌜ r ≡ max a b ⌝ }
+{
+    if a < b {
+        return b;
+    }
+    a
+}
+
+// Past a gate: an inverter's branch is next; of a NAND's two the one that stands first under the crossing, and the other waits.
+fn pass_gate(left: Left, symbol: u32, extents: Extents, crossing: u32) -> Left
+    requires { ⌜ Passable left symbol (extents .words) × (crossing < crossingLimit) ⌝ }
+    ensures { λ r. ⌜ r ≡ passed left symbol (extents .words) crossing ⌝ }
+{
+    let place = left.place;
+    let depth = left.depth;
+    let words = extents.words;
+    let mut next = left;
+    if symbol == 0 {
+        next.place = place + 1;
+        return next;
+    }
+    let number = place / Extents::NAND;
+    let first = place + Extents::FIRST;
+    let second = first + words[first % Extents::NAND] as usize;
+    next.used = greater(left.used, number + 1);
+    next.depth = depth + 1;
+    if is_exchanged(crossing, number) {
+        next.place = second;
+        next.waiting[depth] = first as u8;
+    } else {
+        next.place = first;
+        next.waiting[depth] = second as u8;
+    }
+    next
+}
+
+// The branch that waits last is next.
+fn resume(left: Left) -> Left
+    requires { ⌜ (0 < left .depth) × (left .depth ≤ 6) ⌝ }
+    ensures { λ r. ⌜ r ≡ resumed left ⌝ }
+{
+    let last = left.depth - 1;
+    let waiting = left.waiting;
+    let mut next = left;
+    next.place = waiting[last] as usize;
+    next.depth = last;
+    next
+}
+
+// Walks a pattern, redrawn by a crossing, and the tree's nodes from n on together. A pattern's leaf notes its pin and the tree's node, and
+// skips all that stands under the node; elsewhere the two symbols must be equal.
+pub fn walk<'a>(
+    row: &'a [u32],
+    extents: Extents,
+    crossing: u32,
+    symbols: &'a [u32],
+    sizes: &'a [u8],
+    n: usize,
+) -> Walked
+    requires { ⌜ (crossing < crossingLimit) × ((d : Shape) × ((s : Shape) × Walkable (now row) (extents .words) (now symbols) (now sizes) n d s)) ⌝ }
+    ensures { λ r. ⌜ ((d s : Shape) → Walkable (now (row .entry)) (extents .words) (now (symbols .entry)) (now (sizes .entry)) n d s → WalkIs d s n crossing r) ⌝ }
+{
+    let mut pins = [0u8; 6];
+    let mut nodes = [0u8; 6];
     let mut count: usize = 0;
+    let mut left = Left {
+        place: 0,
+        depth: 0,
+        waiting: [0u8; 6],
+        used: 0,
+    };
     let mut at = n;
-    let size = row[PatternRow::SIZE] as usize;
-    let mut k: usize = 0;
-    while k < size {
-        let symbol = row[PatternRow::SYMBOLS + k];
+    loop {
+        let symbol = row[PatternRow::SYMBOLS + left.place % Extents::NAND];
         if symbol < 2 {
             if symbols[at] != symbol {
                 return Walked {
                     matched: false,
+                    used: left.used,
                     count,
                     pins,
                     nodes,
                 };
             }
             at += 1;
+            left = pass_gate(left, symbol, extents, crossing);
         } else {
             pins[count] = (symbol - 2) as u8;
             nodes[count] = at as u8;
             count += 1;
             at += sizes[at] as usize;
+            if left.depth == 0 {
+                return Walked {
+                    matched: true,
+                    used: left.used,
+                    count,
+                    pins,
+                    nodes,
+                };
+            }
+            left = resume(left);
         }
-        k += 1;
-    }
-    Walked {
-        matched: true,
-        count,
-        pins,
-        nodes,
     }
 }
 

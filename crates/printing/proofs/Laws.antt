@@ -2,7 +2,7 @@
 use Prim.Native.Nat.{ℕ, zero, suc, _+_, _-_, _*_, _≤_, _<_}
 use mathlib.Core.Path.{_≡_, refl, sym, ap, ap₂, subst, _∙_}
 use mathlib.Core.Bool.{Bool, true, false, _||_, true≢false}
-use mathlib.Core.List.{List, [], _∷_, _++_, zipWith, flatMap, append-nil, append-assoc, List·Memᴰ}
+use mathlib.Core.List.{List, [], _∷_, _++_, flatMap, append-nil, append-assoc, List·Memᴰ}
 use native.Mathlib.Nat.{add-zero, zero-add}
 use native.Mathlib.Omega.{arith}
 use native.Mathlib.Numerals.{add-one}
@@ -22,8 +22,8 @@ use Rattle.sheets.specs.Public.{LibraryIs}
 use Rattle.covers.specs.Cover.{Placed, Cover}
 use Rattle.results.specs.declared.CoverRecord.{CoverRecord}
 use Rattle.results.specs.declared.CoverRead.{CoverRead}
-use Rattle.results.specs.Public.{placedOf, coverOf, Written, CoverIs}
-use Rattle.results.proofs.Laws.{placed-length}
+use Rattle.results.specs.Public.{coverOf, Written, CoverIs}
+use Rattle.results.proofs.Laws.{placed-at, Room, many}
 use Rattle.lines.specs.Text.{decimal, spaced, line, Appended}
 use Rattle.lines.proofs.Laws.{length-spaced, length-line, appended-none, appended-both}
 use Rattle.printing.specs.Printed.{coverWord, refusedWord, coverLine, refusalLine, spoiledLine, mapText, statedLength, spoiled, printed, longestText, printedWithin}
@@ -39,24 +39,23 @@ pub refusal-length : (n p : ℕ) → length (refusalLine n p) ≡ 7 + length (sp
 unfolding refusalLine
 refusal-length n p = length-line refusedWord (decimal n ∷ decimal p ∷ [])
 
--- The line of a match, as it is put.
-module _ (rows : List ℕ) (node pattern : ℕ) where
-  pub row-line : decimal node ++ spaced (decimal (getD rows (rowWords * pattern + 0) 0) ∷ decimal pattern ∷ []) ≡ rowLine rows (record { node = node; pattern = pattern })
-  unfolding rowLine line
-  row-line = ap (λ (i : ℕ). decimal node ++ spaced (decimal (getD rows i 0) ∷ decimal pattern ∷ [])) (add-zero (rowWords * pattern))
+-- A pattern's cell and the line of a match, as they are put.
+abbrev pub cellText : List ℕ → ℕ → List ℕ
+cellText rows pattern = decimal (getD rows (rowWords * pattern + 0) 0)
 
-  pub row-line-length : length (rowLine rows (record { node = node; pattern = pattern })) ≡ length (decimal node) + length (spaced (decimal (getD rows (rowWords * pattern + 0) 0) ∷ decimal pattern ∷ []))
-  row-line-length = sym (ap length row-line) ∙ length-append (decimal node) (spaced (decimal (getD rows (rowWords * pattern + 0) 0) ∷ decimal pattern ∷ []))
+module _ (rows : List ℕ) (node pattern crossing : ℕ) where
+  pub row-line : decimal node ++ spaced (cellText rows pattern ∷ decimal pattern ∷ decimal crossing ∷ []) ≡ rowLine rows (record { node = node; pattern = pattern; crossing = crossing })
+  unfolding rowLine line
+  row-line = ap (λ (i : ℕ). decimal node ++ spaced (decimal (getD rows i 0) ∷ decimal pattern ∷ decimal crossing ∷ [])) (add-zero (rowWords * pattern))
+
+  pub row-line-length : length (rowLine rows (record { node = node; pattern = pattern; crossing = crossing }))
+      ≡ length (decimal node) + (1 + length (cellText rows pattern) + length (spaced (decimal pattern ∷ decimal crossing ∷ [])))
+  row-line-length =
+      let cell = cellText rows pattern in
+      let last = decimal pattern ∷ decimal crossing ∷ [] in
+      omega (arith, ap length row-line, length-append (decimal node) (spaced (cell ∷ last)), length-spaced cell last)
 
 -- ---- the lines of the matches
-
-placed-at : (count k : ℕ) (ns ps : List ℕ) (d : Placed) → k < count → count ≤ length ns → count ≤ length ps → getD (placedOf (take count ns) (take count ps)) k d ≡ record { node = getD ns k 0; pattern = getD ps k 0 }
-unfolding placedOf zipWith
-placed-at zero k ns ps d h f g = absurd (omega arith)
-placed-at (suc count) k [] ps d h f g = absurd (omega arith)
-placed-at (suc count) k (n ∷ ns) [] d h f g = absurd (omega arith)
-placed-at (suc count) zero (n ∷ ns) (p ∷ ps) d h f g = refl
-placed-at (suc count) (suc k) (n ∷ ns) (p ∷ ps) d h f g = placed-at count k ns ps d (omega arith) (omega arith) (omega arith)
 
 module _ (rows : List ℕ) where
   pub no-lines : (entry : List ℕ) (from : ℕ) → Appended (rowLines rows []) entry from entry from
@@ -76,18 +75,18 @@ module _ (rows : List ℕ) where
   lines-more (x ∷ xs) (suc k) d h = append-assoc (rowLine rows x) (rowLines rows (take k xs)) (rowLine rows (getD xs k d)) ∙ ap (λ (r : List ℕ). rowLine rows x ++ r) (lines-more xs k d (omega arith))
 
 -- Match k of a cover.
-module _ (rows : List ℕ) (cover : CoverRecord) (k : ℕ) (h : k < cover .count) (f : cover .count ≤ length (cover .nodes)) (g : cover .count ≤ length (cover .patterns)) where
+module _ (rows : List ℕ) (cover : CoverRecord) (k : ℕ) (h : k < cover .count) (room : Room cover) where
   abbrev matches : List Placed
   matches = coverOf cover .placed
 
   abbrev match : Placed
-  match = record { node = getD (cover .nodes) k 0; pattern = getD (cover .patterns) k 0 }
+  match = record { node = getD (cover .nodes) k 0; pattern = getD (cover .patterns) k 0; crossing = getD (cover .crossings) k 0 }
 
   here : getD matches k match ≡ match
-  here = placed-at (cover .count) k (cover .nodes) (cover .patterns) match h f g
+  here = placed-at (cover .count) k (cover .nodes) (cover .patterns) (cover .crossings) match h (room .0) (room .1) (room .2)
 
   among : k < length matches
-  among = omega (arith, placed-length (cover .count) (cover .nodes) (cover .patterns) f g)
+  among = omega (arith, many cover room)
 
   pub match-row : HaveRows rows matches → rowWords * getD (cover .patterns) k 0 < length rows
   match-row rowed = rowed match (subst (λ (x : Placed). List·Memᴰ x matches) here (at-mem matches k match among))
@@ -102,16 +101,13 @@ module _ (rows : List ℕ) (cover : CoverRecord) (k : ℕ) (h : k < cover .count
       (appended-both l p q)
 
 -- All of them.
-module _ (cover : CoverRecord) (f : cover .count ≤ length (cover .nodes)) (g : cover .count ≤ length (cover .patterns)) where
-  many : length (coverOf cover .placed) ≡ cover .count
-  many = placed-length (cover .count) (cover .nodes) (cover .patterns) f g
-
+module _ (cover : CoverRecord) (room : Room cover) where
   pub matches-done : (k : ℕ) → k ≡ cover .count → take k (coverOf cover .placed) ≡ coverOf cover .placed
-  matches-done k e = take-all k (coverOf cover .placed) (omega (arith, many))
+  matches-done k e = take-all k (coverOf cover .placed) (omega (arith, many cover room))
 
   pub cover-text : (rows : List ℕ) → coverLine (cover .area) (cover .arrival) (cover .count) ++ rowLines rows (coverOf cover .placed) ≡ rowText rows (coverOf cover)
   unfolding rowText
-  cover-text rows = ap (λ (n : ℕ). coverLine (cover .area) (cover .arrival) n ++ rowLines rows (coverOf cover .placed)) (sym many)
+  cover-text rows = ap (λ (n : ℕ). coverLine (cover .area) (cover .arrival) n ++ rowLines rows (coverOf cover .placed)) (sym (many cover room))
 
 -- ---- what is read back
 

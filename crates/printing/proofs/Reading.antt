@@ -19,7 +19,7 @@ use Rattle.covers.proofs.Basics.{at-all}
 use Rattle.covers.proofs.Listing.{known-patterns}
 use Rattle.covers.proofs.FromSheets.{root-bounds, cover-fits}
 use Rattle.lines.specs.Text.{decimal, line}
-use Rattle.lines.proofs.Laws.{decimal-fits, length-line, length-last}
+use Rattle.lines.proofs.Laws.{decimal-fits, length-line, length-spaced, length-last}
 use Rattle.printing.specs.Printed.{cellOf, matchLine, coverLine, coverText, longestText}
 use Rattle.printing.specs.Rows.{rowLine, rowLines, rowText, HaveRows}
 use Rattle.printing.proofs.Laws.{cover-line-length}
@@ -60,7 +60,7 @@ module _ {l : Library} (sound : SoundLibrary l) where
   lines-read : (xs : List Placed) → ((x : Placed) → List·Memᴰ x xs → x .pattern < length ps) → rowLines rows xs ≡ flatMap (matchLine l) xs
   unfolding rowLines rowLine matchLine flatMap
   lines-read [] h = refl
-  lines-read (x ∷ xs) h = ap₂ _++_ (ap (λ (n : ℕ). line (decimal (x .node) ∷ decimal n ∷ decimal (x .pattern) ∷ [])) (cell-at (x .pattern) (h x (List·Memᴰ·head refl)))) (lines-read xs (λ y m. h y (List·Memᴰ·tail m)))
+  lines-read (x ∷ xs) h = ap₂ _++_ (ap (λ (n : ℕ). line (decimal (x .node) ∷ decimal n ∷ decimal (x .pattern) ∷ decimal (x .crossing) ∷ [])) (cell-at (x .pattern) (h x (List·Memᴰ·head refl)))) (lines-read xs (λ y m. h y (List·Memᴰ·tail m)))
 
 -- ---- the text of a cover
 
@@ -70,28 +70,34 @@ lines-few f most [] h = omega arith
 lines-few f most (x ∷ xs) h = omega (arith, length-append (f x) (flatMap f xs), h x (List·Memᴰ·head refl), lines-few f most xs (λ y m. h y (List·Memᴰ·tail m)), mul-suc most (length xs))
 
 module _ {l : Library} {t : Tree} {c : Cover} (sound : SoundLibrary l) (tree : SoundTree t) (legal : RootCover l t c) where
+  known : (x : Placed) → List·Memᴰ x (c .placed) → x .pattern < length (patterns l)
+  known x m = known-patterns legal x m .0
+
   pub cover-rows : HaveRows (libraryLaid l .rows) (c .placed)
-  cover-rows = have-rows sound (c .placed) (known-patterns legal)
+  cover-rows = have-rows sound (c .placed) known
 
   pub cover-read : rowText (libraryLaid l .rows) c ≡ coverText l c
   unfolding rowText coverText
-  cover-read = ap (λ (r : List ℕ). coverLine (c .point .area) (c .point .arrival) (length (c .placed)) ++ r) (lines-read sound (c .placed) (known-patterns legal))
+  cover-read = ap (λ (r : List ℕ). coverLine (c .point .area) (c .point .arrival) (length (c .placed)) ++ r) (lines-read sound (c .placed) known)
 
-  match-short : (x : Placed) → List·Memᴰ x (c .placed) → length (matchLine l x) ≤ 10
+  match-short : (x : Placed) → List·Memᴰ x (c .placed) → length (matchLine l x) ≤ 13
   unfolding matchLine
   match-short x m =
       let b = cover-fits sound tree legal .placed x m in
       let cell = decimal (cellOf l (x .pattern)) in
+      let last = decimal (x .pattern) ∷ decimal (x .crossing) ∷ [] in
       omega (
         arith,
-        length-line (decimal (x .node)) (cell ∷ decimal (x .pattern) ∷ []),
-        length-last cell (decimal (x .pattern)),
+        length-line (decimal (x .node)) (cell ∷ last),
+        length-spaced cell last,
+        length-last (decimal (x .pattern)) (decimal (x .crossing)),
         decimal-fits 1 (x .node) (omega (arith, b .0)),
         decimal-fits 1 (cellOf l (x .pattern)) (omega (arith, cell-small sound (x .pattern))),
         decimal-fits 2 (x .pattern) (omega (arith, b .1)),
+        decimal-fits 1 (x .crossing) (omega (arith, b .2)),
       )
 
-  -- 25 bytes for the first line, and 10 for each of 63 matches.
+  -- 25 bytes for the first line, and 13 for each of 63 matches.
   pub cover-short : length (coverText l c) ≤ longestText
   unfolding coverText
   cover-short =
@@ -109,5 +115,5 @@ module _ {l : Library} {t : Tree} {c : Cover} (sound : SoundLibrary l) (tree : S
         decimal-fits 6 arrival (omega (arith, b .1)),
         decimal-fits 1 count (omega (arith, fits .count)),
         fits .count,
-        lines-few (matchLine l) 10 (c .placed) match-short,
+        lines-few (matchLine l) 13 (c .placed) match-short,
       )

@@ -27,10 +27,10 @@ unfoldable pub cellOf : Library → ℕ → ℕ
 unfolding patterns
 cellOf l pattern = getD (map (λ (p : Pattern). p .cellNumber) (patterns l)) pattern 0
 
--- A match: its node, its cell and its pattern.
+-- A match: its node, its cell, its pattern and its crossing.
 unfoldable pub matchLine : Library → Placed → List ℕ
 unfolding line spaced decimal cellOf
-matchLine l x = line (decimal (x .node) ∷ decimal (cellOf l (x .pattern)) ∷ decimal (x .pattern) ∷ [])
+matchLine l x = line (decimal (x .node) ∷ decimal (cellOf l (x .pattern)) ∷ decimal (x .pattern) ∷ decimal (x .crossing) ∷ [])
 
 -- `cover`, area, arrival and match count.
 unfoldable pub coverLine : (area arrival count : ℕ) → List ℕ
@@ -81,11 +81,11 @@ unfoldable pub printed : List ℕ → List ℕ
 unfolding spoiled spoiledLine mapText statedLength
 printed input = cond (spoiled input) spoiledLine (mapText (take (statedLength input) (drop 2 input)) (drop (2 + statedLength input) input))
 
--- How many bytes the longest text takes: that of a cover of 63 matches.
+-- So many bytes are enough for every text: 25 for the first line and 13 for each of 63 matches.
 abbrev pub longestText : ℕ
-longestText = 655
+longestText = 844
 
--- What is put into a text that is lent `room` bytes: nothing if they are fewer than the longest text takes.
+-- What is put into a text that is lent `room` bytes: nothing if they are fewer than these.
 unfoldable pub printedWithin : (room : ℕ) → List ℕ → List ℕ
 unfolding printed
 printedWithin room input = cond (leb longestText room) (printed input) []

@@ -21,7 +21,7 @@ module _ (rows : List ℕ) where
   -- A match.
   unfoldable pub rowLine : Placed → List ℕ
   unfolding line decimal
-  rowLine x = line (decimal (x .node) ∷ decimal (getD rows (rowWords * x .pattern) 0) ∷ decimal (x .pattern) ∷ [])
+  rowLine x = line (decimal (x .node) ∷ decimal (getD rows (rowWords * x .pattern) 0) ∷ decimal (x .pattern) ∷ decimal (x .crossing) ∷ [])
 
   unfoldable pub rowLines : List Placed → List ℕ
   unfolding rowLine flatMap

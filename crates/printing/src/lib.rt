@@ -23,7 +23,7 @@ pub struct Text {}
 impl Text {
     pub const HEAD: usize = 2;
 
-    pub const LONGEST: usize = 655;
+    pub const LONGEST: usize = 844;
 }
 
 fn wide(x: u8) -> usize
@@ -67,13 +67,14 @@ fn put_head(text: &mut [u8], area: u32, arrival: u32, count: usize) -> usize
 }
 
 // The line of a match.
-fn put_match(text: &mut [u8], at: usize, node: u8, pattern: u8, rows: &[u32]) -> usize
-    requires { ⌜ (rowWords * pattern < length (now rows)) × (at + length (rowLine (now rows) (record { node = node; pattern = pattern })) ≤ length (now text)) ⌝ }
-    ensures { λ r. ⌜ Appended (rowLine (now (rows .entry)) (record { node = node; pattern = pattern })) (now (text .entry)) at (now (text .exit)) r ⌝ }
+fn put_match(text: &mut [u8], at: usize, node: u8, pattern: u8, crossing: u8, rows: &[u32]) -> usize
+    requires { ⌜ (rowWords * pattern < length (now rows)) × (at + length (rowLine (now rows) (record { node = node; pattern = pattern; crossing = crossing })) ≤ length (now text)) ⌝ }
+    ensures { λ r. ⌜ Appended (rowLine (now (rows .entry)) (record { node = node; pattern = pattern; crossing = crossing })) (now (text .entry)) at (now (text .exit)) r ⌝ }
 {
     let cell = rows[PatternRow::WORDS * pattern as usize + PatternRow::CELL];
     let second = lines::put_number(text, at, node as u64);
-    lines::put_last(text, second, cell as u64, pattern as u64)
+    let third = lines::put_spaced(text, second, cell as u64);
+    lines::put_last(text, third, pattern as u64, crossing as u64)
 }
 
 // A line for each match of a cover.
@@ -84,10 +85,11 @@ fn put_matches(text: &mut [u8], from: usize, cover: CoverRecord, rows: &[u32]) -
     let count = cover.count;
     let nodes = cover.nodes;
     let patterns = cover.patterns;
+    let crossings = cover.crossings;
     let mut at = from;
     let mut k = 0;
     while k < count {
-        at = put_match(text, at, nodes[k], patterns[k], rows);
+        at = put_match(text, at, nodes[k], patterns[k], crossings[k], rows);
         k += 1;
     }
     at

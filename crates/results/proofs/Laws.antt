@@ -1,7 +1,7 @@
 -- Laws about elements made zero, fields written one after another, and a cover read.
 use Prim.Native.Nat.{ℕ, zero, suc, _+_, _-_, _*_, _/_, _%_, _≤_, _<_}
 use mathlib.Core.Path.{_≡_, refl, sym, ap, ap₂, _∙_}
-use mathlib.Core.List.{List, [], _∷_, _++_, map, map-append, reverse, reverse-append, zipWith}
+use mathlib.Core.List.{List, [], _∷_, _++_, map, map-append, reverse, reverse-append}
 use native.Mathlib.Nat.{zero-add, add-assoc, le-of-suc-le-suc}
 use native.Mathlib.Omega.{arith}
 use native.Mathlib.Numerals.{add-one}
@@ -30,7 +30,7 @@ use Rattle.results.specs.declared.CoverRecord.{CoverRecord}
 use Rattle.results.specs.declared.CoverRead.{CoverRead}
 use Rattle.results.specs.declared.MatchesRead.{MatchesRead}
 use Rattle.results.specs.Public.{placedOf, coverOf, pointsOf, coverBits, Written, CoverIs}
-use Rattle.results.specs.Inside.{MatchesAre}
+use Rattle.results.specs.Inside.{column, MatchesAre}
 
 -- ---- elements made zero from the front on
 
@@ -86,59 +86,80 @@ sheet-written fs entry exit n en ex =
 
 -- ---- fields put one after another
 
--- One field more.
-field-put : (f : Field) (fs : List Field) (i : ℕ) (s s₁ : List ℕ) → s₁ ≡ withField s i (f .width) (f .value) → written fs (i + f .width) s₁ ≡ written (f ∷ fs) i s
+-- One field more: the length is kept.
+field-put : (f : Field) (fs : List Field) (i : ℕ) (s s₁ : List ℕ) → s₁ ≡ withField s i (f .width) (f .value) →
+    (length s₁ ≡ length s) × (written fs (i + f .width) s₁ ≡ written (f ∷ fs) i s)
 unfolding written
-field-put f fs i s s₁ e = ap (written fs (i + f .width)) e
+field-put f fs i s s₁ e = (ap length e ∙ length-field s i (f .width) (f .value), ap (written fs (i + f .width)) e)
 
--- Two fields more: one turn of a loop.
+-- Two fields more.
 pair-put : (f g : Field) (fs : List Field) (i : ℕ) (s s₁ s₂ : List ℕ) → s₁ ≡ withField s i (f .width) (f .value) → s₂ ≡ withField s₁ (i + f .width) (g .width) (g .value) →
     (length s₂ ≡ length s) × (written fs (i + (f .width + g .width)) s₂ ≡ written (f ∷ g ∷ fs) i s)
-pair-put f g fs i s s₁ s₂ e₁ e₂ = (
-  ap length e₂ ∙ length-field s₁ (i + f .width) (g .width) (g .value) ∙ ap length e₁ ∙ length-field s i (f .width) (f .value),
-  ap (λ (j : ℕ). written fs j s₂) (sym (add-assoc i (f .width) (g .width))) ∙ field-put g fs (i + f .width) s₁ s₂ e₂ ∙ field-put f (g ∷ fs) i s s₁ e₁,
-)
+pair-put f g fs i s s₁ s₂ e₁ e₂ =
+    let one = field-put f (g ∷ fs) i s s₁ e₁ in
+    let two = field-put g fs (i + f .width) s₁ s₂ e₂ in
+    (two .0 ∙ one .0, ap (λ (j : ℕ). written fs j s₂) (sym (add-assoc i (f .width) (g .width))) ∙ two .1 ∙ one .1)
 
 -- ---- the cover sheet
 
 -- The fields of the matches from k on.
-abbrev pub matchesFrom : ℕ → ℕ → List ℕ → List ℕ → List Field
-matchesFrom k count ns ps = placedFields (placedOf (slice k count ns) (slice k count ps))
+abbrev pub matchesFrom : ℕ → ℕ → List ℕ → List ℕ → List ℕ → List Field
+matchesFrom k count ns ps xs = placedFields (placedOf (slice k count ns) (slice k count ps) (slice k count xs))
 
-module _ (ns ps : List ℕ) (k count : ℕ) (left : k < count) (hn : count ≤ length ns) (hp : count ≤ length ps) where
-  match-fields : matchesFrom k count ns ps ≡ record { value = getD ns k 0; width = 6 } ∷ record { value = getD ps k 0; width = 7 } ∷ matchesFrom (suc k) count ns ps
-  unfolding placedFields placedOf zipWith
-  match-fields = ap₂ (λ (a b : List ℕ). placedFields (placedOf a b)) (slice-cons k count ns 0 left hn) (slice-cons k count ps 0 left hp)
+module _ (ns ps xs : List ℕ) (k count : ℕ) (left : k < count) (hn : count ≤ length ns) (hp : count ≤ length ps) (hx : count ≤ length xs) where
+  match-fields : matchesFrom k count ns ps xs
+      ≡ record { value = getD ns k 0; width = 6 } ∷ record { value = getD ps k 0; width = 7 } ∷ record { value = getD xs k 0; width = 5 } ∷ matchesFrom (suc k) count ns ps xs
+  unfolding placedFields placedOf
+  match-fields = rw (slice-cons k count ns 0 left hn, slice-cons k count ps 0 left hp, slice-cons k count xs 0 left hx)
 
-  pub match-turn : (i : ℕ) (s s₁ s₂ : List ℕ) → s₁ ≡ withField s i 6 (getD ns k 0) → s₂ ≡ withField s₁ (i + 6) 7 (getD ps k 0) →
-      (length s₂ ≡ length s) × (written (matchesFrom (k + 1) count ns ps) (i + 13) s₂ ≡ written (matchesFrom k count ns ps) i s)
-  match-turn i s s₁ s₂ e₁ e₂ =
-      let r = pair-put (record { value = getD ns k 0; width = 6 }) (record { value = getD ps k 0; width = 7 }) (matchesFrom (suc k) count ns ps) i s s₁ s₂ e₁ e₂ in
-      (r .0, ap (λ (j : ℕ). written (matchesFrom j count ns ps) (i + 13) s₂) (add-one k) ∙ r .1 ∙ ap (λ (fs : List Field). written fs i s) (sym match-fields))
+  pub match-turn : (i : ℕ) (s s₁ s₂ s₃ : List ℕ) → s₁ ≡ withField s i 6 (getD ns k 0) → s₂ ≡ withField s₁ (i + 6) 7 (getD ps k 0) → s₃ ≡ withField s₂ (i + 6 + 7) 5 (getD xs k 0) →
+      (length s₃ ≡ length s) × (written (matchesFrom (k + 1) count ns ps xs) (i + 18) s₃ ≡ written (matchesFrom k count ns ps xs) i s)
+  match-turn i s s₁ s₂ s₃ e₁ e₂ e₃ =
+      let pattern : Field = record { value = getD ps k 0; width = 7 } in
+      let crossing : Field = record { value = getD xs k 0; width = 5 } in
+      let rest = matchesFrom (suc k) count ns ps xs in
+      let one = field-put (record { value = getD ns k 0; width = 6 }) (pattern ∷ crossing ∷ rest) i s s₁ e₁ in
+      let two = pair-put pattern crossing rest (i + 6) s₁ s₂ s₃ e₂ e₃ in
+      let end : i + 18 ≡ i + 6 + 12 = omega arith in
+      (two .0 ∙ one .0, ap₂ (λ (j m : ℕ). written (matchesFrom j count ns ps xs) m s₃) (add-one k) end ∙ two .1 ∙ one .1 ∙ ap (λ (fs : List Field). written fs i s) (sym match-fields))
 
 -- None is left.
-pub matches-done : (ns ps : List ℕ) (k count i : ℕ) (s : List ℕ) → k ≡ count → s ≡ written (matchesFrom k count ns ps) i s
-unfolding written placedFields placedOf zipWith
-matches-done ns ps k count i s e = rw (e, slice-empty count ns)
+pub matches-done : (ns ps xs : List ℕ) (k count i : ℕ) (s : List ℕ) → k ≡ count → s ≡ written (matchesFrom k count ns ps xs) i s
+unfolding written placedFields placedOf
+matches-done ns ps xs k count i s e = rw (e, slice-empty count ns)
 
-pub placed-length : (count : ℕ) (ns ps : List ℕ) → count ≤ length ns → count ≤ length ps → length (placedOf (take count ns) (take count ps)) ≡ count
-unfolding placedOf zipWith
-placed-length zero ns ps hn hp = refl
-placed-length (suc k) [] ps hn hp = absurd (omega arith)
-placed-length (suc k) (n ∷ ns) [] hn hp = absurd (omega arith)
-placed-length (suc k) (n ∷ ns) (p ∷ ps) hn hp = ap suc (placed-length k ns ps (le-of-suc-le-suc hn) (le-of-suc-le-suc hp))
+pub placed-length : (count : ℕ) (ns ps xs : List ℕ) → count ≤ length ns → count ≤ length ps → count ≤ length xs → length (placedOf (take count ns) (take count ps) (take count xs)) ≡ count
+unfolding placedOf
+placed-length zero ns ps xs hn hp hx = refl
+placed-length (suc k) [] ps xs hn hp hx = absurd (omega arith)
+placed-length (suc k) (n ∷ ns) [] xs hn hp hx = absurd (omega arith)
+placed-length (suc k) (n ∷ ns) (p ∷ ps) [] hn hp hx = absurd (omega arith)
+placed-length (suc k) (n ∷ ns) (p ∷ ps) (x ∷ xs) hn hp hx = ap suc (placed-length k ns ps xs (le-of-suc-le-suc hn) (le-of-suc-le-suc hp) (le-of-suc-le-suc hx))
 
--- A cover as the code keeps it, with room for its matches.
-module _ (r : CoverRecord) (hn : r .count ≤ length (r .nodes)) (hp : r .count ≤ length (r .patterns)) where
-  many : length (coverOf r .placed) ≡ r .count
-  many = placed-length (r .count) (r .nodes) (r .patterns) hn hp
+pub placed-at : (count k : ℕ) (ns ps xs : List ℕ) (d : Placed) → k < count → count ≤ length ns → count ≤ length ps → count ≤ length xs →
+    getD (placedOf (take count ns) (take count ps) (take count xs)) k d ≡ record { node = getD ns k 0; pattern = getD ps k 0; crossing = getD xs k 0 }
+unfolding placedOf
+placed-at zero k ns ps xs d h hn hp hx = absurd (omega arith)
+placed-at (suc count) k [] ps xs d h hn hp hx = absurd (omega arith)
+placed-at (suc count) k (n ∷ ns) [] xs d h hn hp hx = absurd (omega arith)
+placed-at (suc count) k (n ∷ ns) (p ∷ ps) [] d h hn hp hx = absurd (omega arith)
+placed-at (suc count) zero (n ∷ ns) (p ∷ ps) (x ∷ xs) d h hn hp hx = refl
+placed-at (suc count) (suc k) (n ∷ ns) (p ∷ ps) (x ∷ xs) d h hn hp hx = placed-at count k ns ps xs d (omega arith) (omega arith) (omega arith) (omega arith)
 
-  pub cover-length : length (coverSheet (coverOf r)) ≡ (52 + 13 * r .count + 7) / 8
-  cover-length = cover-sheet-length (coverOf r) ∙ ap (λ (k : ℕ). (52 + 13 * k + 7) / 8) many
+-- The arrays of a cover's record have room for its matches.
+abbrev pub Room : CoverRecord → Type 0
+Room r = (r .count ≤ length (r .nodes)) × (r .count ≤ length (r .patterns)) × (r .count ≤ length (r .crossings))
+
+module _ (r : CoverRecord) (room : Room r) where
+  pub many : length (coverOf r .placed) ≡ r .count
+  many = placed-length (r .count) (r .nodes) (r .patterns) (r .crossings) (room .0) (room .1) (room .2)
+
+  pub cover-length : length (coverSheet (coverOf r)) ≡ (52 + 18 * r .count + 7) / 8
+  cover-length = cover-sheet-length (coverOf r) ∙ ap (λ (k : ℕ). (52 + 18 * k + 7) / 8) many
 
   -- The first three fields, then the matches.
   pub cover-written : (entry s₀ s₁ s₂ s₃ exit : List ℕ) →
-      let n = (52 + 13 * r .count + 7) / 8 in
+      let n = (52 + 18 * r .count + 7) / 8 in
       s₀ ≡ replicate n 0 ++ drop n entry → s₁ ≡ withField s₀ 0 22 (r .area) → s₂ ≡ withField s₁ 22 24 (r .arrival) → s₃ ≡ withField s₂ 46 6 (r .count) →
       exit ≡ written (placedFields (coverOf r .placed)) 52 s₃ → Written (coverSheet (coverOf r)) entry exit n
   unfolding coverSheet coverFields
@@ -147,11 +168,11 @@ module _ (r : CoverRecord) (hn : r .count ≤ length (r .nodes)) (hp : r .count 
       let xs = c .placed in
       let matches : Field = record { value = length xs; width = 6 } in
       let late : Field = record { value = r .arrival; width = 24 } in
-      sheet-written (coverFields c) entry exit ((52 + 13 * r .count + 7) / 8) (sym cover-length)
+      sheet-written (coverFields c) entry exit ((52 + 18 * r .count + 7) / 8) (sym cover-length)
       (e
-      ∙ field-put matches (placedFields xs) 46 s₂ s₃ (e₃ ∙ ap (withField s₂ 46 6) (sym many))
-      ∙ field-put late (matches ∷ placedFields xs) 22 s₁ s₂ e₂
-      ∙ field-put (record { value = r .area; width = 22 }) (late ∷ matches ∷ placedFields xs) 0 s₀ s₁ e₁
+      ∙ field-put matches (placedFields xs) 46 s₂ s₃ (e₃ ∙ ap (withField s₂ 46 6) (sym many)) .1
+      ∙ field-put late (matches ∷ placedFields xs) 22 s₁ s₂ e₂ .1
+      ∙ field-put (record { value = r .area; width = 22 }) (late ∷ matches ∷ placedFields xs) 0 s₀ s₁ e₁ .1
       ∙ ap (written (coverFields c) 0) e₀)
 
 -- ---- the list sheet
@@ -199,7 +220,7 @@ module _ (ws : List ℕ) (count : ℕ) (h : count ≤ length ws) where
       let ps = pointsOf count ws in
       sheet-written (listFields ps) entry exit ((5 + 46 * count + 7) / 8) (sym list-length)
       (e
-      ∙ field-put (record { value = length ps; width = 5 }) (pointFields ps) 0 s₀ s₁ (e₁ ∙ ap (withField s₀ 0 5) (sym (points-length count ws h)))
+      ∙ field-put (record { value = length ps; width = 5 }) (pointFields ps) 0 s₀ s₁ (e₁ ∙ ap (withField s₀ 0 5) (sym (points-length count ws h))) .1
       ∙ ap (written (listFields ps) 0) e₀)
 
 -- ---- a cover read
@@ -209,8 +230,12 @@ take-padded : (l : List ℕ) (n m : ℕ) → length l ≡ n → n ≤ m → take
 take-padded l n m e h =
     ap (λ (k : ℕ). take k (padded m 0 l)) (sym e ∙ sym (zero-add (length l))) ∙ take-sets (replicate m 0) 0 l (omega (arith, length-replicate {A = ℕ} m 0))
 
-pub placed-parts : (xs : List Placed) → placedOf (map (λ (x : Placed). x .node) xs) (map (λ (x : Placed). x .pattern) xs) ≡ xs
-unfolding placedOf zipWith
+-- One number of each match, from the array that keeps it.
+kept : (f : Placed → ℕ) (xs : List Placed) (n : ℕ) (l : List ℕ) → length xs ≡ n → n ≤ 64 → l ≡ column f xs → take n l ≡ map f xs
+kept f xs n l e h g = ap (take n) g ∙ take-padded (map f xs) n 64 (length-map xs f ∙ e) h
+
+pub placed-parts : (xs : List Placed) → placedOf (map (λ (x : Placed). x .node) xs) (map (λ (x : Placed). x .pattern) xs) (map (λ (x : Placed). x .crossing) xs) ≡ xs
+unfolding placedOf
 placed-parts [] = refl
 placed-parts (x ∷ xs) = ap (λ (l : List Placed). x ∷ l) (placed-parts xs)
 
@@ -226,7 +251,7 @@ end-place s (Refused f p) = refl
 pub cover-read : (s : List ℕ) (area arrival count : Got) (ms : MatchesRead) (c end : Scan) {i j k a t n : ℕ} → c ≡ start →
     Reads area (field s areaWidth free c) i a → Reads arrival (field s arrivalWidth free (area .scan)) j t → Reads count (field s matchCountWidth free (arrival .scan)) k n → n ≤ 63 → k ≤ coverBits 0 →
     MatchesAre s (count .value) (count .scan) ms → end ≡ ended s (ms .scan) →
-    CoverIs s (record { scan = end; cover = record { area = area .value; arrival = arrival .value; count = count .value; nodes = ms .nodes; patterns = ms .patterns } })
+    CoverIs s (record { scan = end; cover = record { area = area .value; arrival = arrival .value; count = count .value; nodes = ms .nodes; patterns = ms .patterns; crossings = ms .crossings } })
 unfolding coverRead
 cover-read s area arrival count ms c end e ha ht hn few reach hm he =
     let ea = scan-at s areaWidth free c ha e in
@@ -237,11 +262,13 @@ cover-read s area arrival count ms c end e ha ht hn few reach hm he =
     let x = times (count .value) (placedRead s) (count .scan) in
     let many = length-times (count .value) (placedRead s) (count .scan) in
     let same = ap₂ (λ (m : ℕ) (q : Scan). times m (placedRead s) q) vn en in
-    let placed : placedOf (take (count .value) (ms .nodes)) (take (count .value) (ms .patterns)) ≡ x .0 =
-    ap₂ (λ (ns ps : List ℕ). placedOf ns ps)
-    (ap (take (count .value)) (hm .nodes) ∙ take-padded (map (λ (y : Placed). y .node) (x .0)) (count .value) 64 (length-map (x .0) (λ (y : Placed). y .node) ∙ many) (omega arith))
-    (ap (take (count .value)) (hm .patterns) ∙ take-padded (map (λ (y : Placed). y .pattern) (x .0)) (count .value) 64 (length-map (x .0) (λ (y : Placed). y .pattern) ∙ many) (omega arith))
-    ∙ placed-parts (x .0) in
+    let placed : placedOf (take (count .value) (ms .nodes)) (take (count .value) (ms .patterns)) (take (count .value) (ms .crossings)) ≡ x .0 =
+    rw (
+      kept (λ y. y .node) (x .0) (count .value) (ms .nodes) many (omega arith) (hm .nodes),
+      kept (λ y. y .pattern) (x .0) (count .value) (ms .patterns) many (omega arith) (hm .patterns),
+      kept (λ y. y .crossing) (x .0) (count .value) (ms .crossings) many (omega arith) (hm .crossings),
+    )
+    (placed-parts (x .0)) in
     record {
       scan-is = he ∙ ap (ended s) (hm .scan-is ∙ ap (λ (y : List Placed × Scan). y .1) same);
       cover-is = λ d. record {

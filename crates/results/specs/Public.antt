@@ -1,32 +1,38 @@
 -- What is written and read: covers and points as the code keeps them, and a sheet at the front of an output.
 use Prim.Native.Nat.{ℕ, _+_, _*_, _^_, _≤_, _<_}
 use mathlib.Core.Path.{_≡_}
-use mathlib.Core.List.{List, _++_, map, reverse, zipWith}
+use mathlib.Core.List.{List, [], _∷_, _++_, map, reverse}
 use lib.ListN.{length, take, drop}
 use Rattle.fields.specs.Reading.{place, start}
 use Rattle.covers.specs.Cover.{Point, Placed, Cover}
 use Rattle.covers.specs.Curve.{pointOf}
-use Rattle.covers.specs.CoverSheet.{areaWidth, arrivalWidth, matchCountWidth, nodeWidth, patternWidth, pointCountWidth, coverRead}
+use Rattle.covers.specs.CoverSheet.{areaWidth, arrivalWidth, matchCountWidth, nodeWidth, patternWidth, crossingWidth, pointCountWidth, coverRead}
 use Rattle.results.specs.declared.CoverRecord.{CoverRecord}
 use Rattle.results.specs.declared.CoverRead.{CoverRead}
 
--- Matches from their nodes and their patterns.
-unfoldable pub placedOf : List ℕ → List ℕ → List Placed
-unfolding zipWith
-placedOf = zipWith (λ n p. record { node = n; pattern = p })
+-- Matches from their nodes, their patterns and their crossings.
+unfoldable pub placedOf : (nodes patterns crossings : List ℕ) → List Placed
+placedOf [] ps xs = []
+placedOf (n ∷ ns) [] xs = []
+placedOf (n ∷ ns) (p ∷ ps) [] = []
+placedOf (n ∷ ns) (p ∷ ps) (x ∷ xs) = record { node = n; pattern = p; crossing = x } ∷ placedOf ns ps xs
 
 -- The cover that a record keeps.
 abbrev pub coverOf : CoverRecord → Cover
-coverOf r = record { point = record { area = r .area; arrival = r .arrival }; placed = placedOf (take (r .count) (r .nodes)) (take (r .count) (r .patterns)) }
+coverOf r = record { point = record { area = r .area; arrival = r .arrival }; placed = placedOf (take (r .count) (r .nodes)) (take (r .count) (r .patterns)) (take (r .count) (r .crossings)) }
 
 -- The points of the first `count` words, the last word's first.
 unfoldable pub pointsOf : ℕ → List ℕ → List Point
 unfolding pointOf
 pointsOf count words = reverse (map pointOf (take count words))
 
+-- How many bits one match takes.
+abbrev pub matchWidth : ℕ
+matchWidth = nodeWidth + patternWidth + crossingWidth
+
 -- How many bits the sheet of a cover with so many matches takes, and the list sheet of so many points.
 abbrev pub coverBits : ℕ → ℕ
-coverBits count = areaWidth + arrivalWidth + matchCountWidth + (nodeWidth + patternWidth) * count
+coverBits count = areaWidth + arrivalWidth + matchCountWidth + matchWidth * count
 
 abbrev pub listBits : ℕ → ℕ
 listBits count = pointCountWidth + (arrivalWidth + areaWidth) * count

@@ -25,6 +25,8 @@ impl Sheet {
 
     pub const PATTERN: usize = 7;
 
+    pub const CROSSING: usize = 5;
+
     pub const POINT_COUNT: usize = 5;
 
     // An area and an arrival, the fields before the matches, and one match.
@@ -32,16 +34,17 @@ impl Sheet {
 
     pub const MATCHES_AT: usize = Sheet::POINT + Sheet::MATCH_COUNT;
 
-    pub const MATCH: usize = Sheet::NODE + Sheet::PATTERN;
+    pub const MATCH: usize = Sheet::NODE + Sheet::PATTERN + Sheet::CROSSING;
 }
 
-// A cover: its area, its arrival, and the nodes and patterns of its `count` matches.
+// A cover: its area, its arrival, and the nodes, patterns and crossings of its `count` matches.
 pub struct CoverRecord {
     pub area: u32,
     pub arrival: u32,
     pub count: usize,
     pub nodes: [u8; 64],
     pub patterns: [u8; 64],
+    pub crossings: [u8; 64],
 }
 
 // A cover that was read, and the scan after it.
@@ -54,12 +57,14 @@ pub struct MatchRead {
     pub scan: Scan,
     pub node: u8,
     pub pattern: u8,
+    pub crossing: u8,
 }
 
 pub struct MatchesRead {
     pub scan: Scan,
     pub nodes: [u8; 64],
     pub patterns: [u8; 64],
+    pub crossings: [u8; 64],
 }
 
 // Makes the first `count` bytes zero.
@@ -87,15 +92,21 @@ pub fn clear_work(work: &mut [u64], count: usize)
 }
 
 // Puts the fields of the first `count` matches.
-fn put_matches(output: &mut [u8], nodes: &[u8], patterns: &[u8], count: usize)
-    requires { ⌜ (count < 2 ^ matchCountWidth) × (count ≤ length (now nodes)) × (count ≤ length (now patterns)) × (coverBits count ≤ 8 * length (now output)) ⌝ }
-    ensures { λ _. ⌜ now (output .exit) ≡ written (placedFields (placedOf (take count (now (nodes .entry))) (take count (now (patterns .entry))))) (coverBits 0) (now (output .entry)) ⌝ }
+fn put_matches(output: &mut [u8], nodes: &[u8], patterns: &[u8], crossings: &[u8], count: usize)
+    requires { ⌜ (count < 2 ^ matchCountWidth) × (count ≤ length (now nodes)) × (count ≤ length (now patterns)) × (count ≤ length (now crossings)) × (coverBits count ≤ 8 * length (now output)) ⌝ }
+    ensures { λ _. ⌜ now (output .exit) ≡ written (placedFields (placedOf (take count (now (nodes .entry))) (take count (now (patterns .entry))) (take count (now (crossings .entry))))) (coverBits 0) (now (output .entry)) ⌝ }
 {
     let mut at = Sheet::MATCHES_AT;
     let mut k = 0;
     while k < count {
         bits::put(output, at, Sheet::NODE, nodes[k] as u32);
         bits::put(output, at + Sheet::NODE, Sheet::PATTERN, patterns[k] as u32);
+        bits::put(
+            output,
+            at + Sheet::NODE + Sheet::PATTERN,
+            Sheet::CROSSING,
+            crossings[k] as u32,
+        );
         at += Sheet::MATCH;
         k += 1;
     }
@@ -109,12 +120,13 @@ pub fn write_cover(output: &mut [u8], cover: CoverRecord) -> usize
     let count = cover.count;
     let nodes = cover.nodes;
     let patterns = cover.patterns;
+    let crossings = cover.crossings;
     let bytes = (Sheet::MATCHES_AT + Sheet::MATCH * count + 7) / 8;
     clear(output, bytes);
     bits::put(output, 0, Sheet::AREA, cover.area);
     bits::put(output, Sheet::AREA, Sheet::ARRIVAL, cover.arrival);
     bits::put(output, Sheet::POINT, Sheet::MATCH_COUNT, count as u32);
-    put_matches(output, &nodes, &patterns, count);
+    put_matches(output, &nodes, &patterns, &crossings, count);
     bytes
 }
 
@@ -160,10 +172,13 @@ fn read_match(scan: Scan, s: &[u8]) -> MatchRead
     let at = node.scan;
     let pattern = fields::raw(at, s, Sheet::PATTERN);
     let at = pattern.scan;
+    let crossing = fields::raw(at, s, Sheet::CROSSING);
+    let at = crossing.scan;
     MatchRead {
         scan: at,
         node: node.value as u8,
         pattern: pattern.value as u8,
+        crossing: crossing.value as u8,
     }
 }
 
@@ -174,6 +189,7 @@ fn read_matches(scan: Scan, s: &[u8], count: u32) -> MatchesRead
 {
     let mut nodes = [0u8; 64];
     let mut patterns = [0u8; 64];
+    let mut crossings = [0u8; 64];
     let mut at = scan;
     let mut k: u32 = 0;
     while k < count {
@@ -181,12 +197,14 @@ fn read_matches(scan: Scan, s: &[u8], count: u32) -> MatchesRead
         at = one.scan;
         nodes[k as usize] = one.node;
         patterns[k as usize] = one.pattern;
+        crossings[k as usize] = one.crossing;
         k += 1;
     }
     MatchesRead {
         scan: at,
         nodes,
         patterns,
+        crossings,
     }
 }
 
@@ -204,6 +222,7 @@ pub fn read_cover(s: &[u8]) -> CoverRead
     let at = matches.scan;
     let nodes = matches.nodes;
     let patterns = matches.patterns;
+    let crossings = matches.crossings;
     let end = fields::end(at, s);
     CoverRead {
         scan: end,
@@ -213,6 +232,7 @@ pub fn read_cover(s: &[u8]) -> CoverRead
             count: count.value as usize,
             nodes,
             patterns,
+            crossings,
         },
     }
 }

@@ -17,7 +17,7 @@ use Rattle.fields.specs.declared.Scan.the-variants.{At, Refused}
 use Rattle.fields.specs.declared.Fault.the-variants.{Range, Drawing}
 use Rattle.fields.specs.declared.Verdict.the-variants.{Sound, Faulty}
 use Rattle.fields.specs.Reading.{Reader, place, field}
-use Rattle.shapes.specs.Shape.{Shape, leaf, inv, nand, size, symbols, sizes, leafSymbol}
+use Rattle.shapes.specs.Shape.{Shape, leaf, inv, nand, size, leaves, nands, symbols, sizes, leafSymbol}
 use Rattle.shapes.specs.Drawing.{elem, leafVerdict, leafNode, pair, branch, node}
 use Rattle.fields.proofs.Lists.{sets-append, set-sets, take-sets}
 use Rattle.fields.specs.Promises.{Reads, Live}
@@ -25,14 +25,17 @@ use Rattle.shapes.specs.Promises.{Coded, Room, Laid, Went, LeafRead, Nod
 
 -- ---- a leaf
 
-pub leaf-passes : (rules : Rules) (seen : List ℕ) (x : ℕ) → leafVerdict rules seen x ≡ Sound → x ≤ rules .most
+-- A leaf that passes has a number in range, and a pattern's pin stands at no leaf before.
+pub leaf-passes : (rules : Rules) (seen : List ℕ) (x : ℕ) → leafVerdict rules seen x ≡ Sound →
+    (x ≤ rules .most) × (rules .pattern ≡ true → elem (leafSymbol x) seen ≡ false)
 unfolding leafVerdict
-leaf-passes rules seen x e = go (leb x (rules .most)) refl e
+leaf-passes rules seen x e = go (leb x (rules .most)) (rules .pattern) (elem (leafSymbol x) seen) refl e
   where
-    go : (a : Bool) → leb x (rules .most) ≡ a →
-        cond a (cond (rules .pattern && elem (leafSymbol x) seen) (Faulty Drawing) Sound) (Faulty Range) ≡ Sound → x ≤ rules .most
-    go true ea e = leb-true x (rules .most) ea
-    go false ea e = let z : _≡_ {A = ℕ} 0 1 = cc in omega arith
+    go : (a b k : Bool) → leb x (rules .most) ≡ a → cond a (cond (b && k) (Faulty Drawing) Sound) (Faulty Range) ≡ Sound → (x ≤ rules .most) × (b ≡ true → k ≡ false)
+    go true true true ea e = let z : _≡_ {A = ℕ} 0 1 = cc in absurd (omega arith)
+    go true true false ea e = (leb-true x (rules .most) ea, λ p. refl)
+    go true false k ea e = (leb-true x (rules .most) ea, λ p. cc)
+    go false b k ea e = let z : _≡_ {A = ℕ} 0 1 = cc in absurd (omega arith)
 
 module _ (s : List ℕ) (rules : Rules) where
   pub leaf-dead : (scan : Scan) (n : ℕ) (l m : List ℕ) → (Live scan → ⊥) → LeafRead s rules scan n l m l m (record { scan = scan; next = n })
@@ -85,6 +88,13 @@ unfolding sizes size
 length-sizes (leaf x) = refl
 length-sizes (inv a) = ap suc (length-sizes a)
 length-sizes (nand a b) = ap suc (length-append (sizes a) (sizes b) ∙ ap₂ _+_ (length-sizes a) (length-sizes b))
+
+-- A shape has one leaf more than NANDs.
+pub leaves-nands : (d : Shape) → length (leaves d) ≡ suc (nands d)
+unfolding leaves nands
+leaves-nands (leaf x) = refl
+leaves-nands (inv a) = leaves-nands a
+leaves-nands (nand a b) = omega (arith, length-append (leaves a) (leaves b), leaves-nands a, leaves-nands b)
 
 -- A gate before what is below it.
 gate-laid : (n : ℕ) (l m l′ m₁ m′ : List ℕ) (v w : ℕ) (below r : Branch) (after : Scan) (ss zs : List ℕ) →

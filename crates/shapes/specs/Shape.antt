@@ -20,6 +20,12 @@ leaves (leaf x) = x ∷ []
 leaves (inv a) = leaves a
 leaves (nand a b) = leaves a ++ leaves b
 
+-- How many NANDs a shape has.
+unfoldable pub nands : Shape → ℕ
+nands (leaf x) = 0
+nands (inv a) = nands a
+nands (nand a b) = suc (nands a + nands b)
+
 -- What stands for a node: an inverter, a NAND, or a leaf with its number.
 abbrev pub invSymbol : ℕ
 invSymbol = 0

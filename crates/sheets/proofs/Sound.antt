@@ -1,5 +1,6 @@
 -- What the sheets' definitions read from sound bytes keeps the limits of `SoundLibrary` and `SoundTree`.
-use mathlib.Core.Path.{_≡_, sym, subst}
+use mathlib.Core.Path.{_≡_, refl, sym, subst}
+use mathlib.Core.Bool.{true}
 use mathlib.Core.Logic.{⊎-elim}
 use mathlib.Core.List.{List, [], _∷_, _++_, List·Memᴰ, List·Memᴰ·append-cases, List·Memᴰ·eq-of-singleton, List·Memᴰ·not-nil}
 use Prim.Native.Nat.{ℕ, zero, suc, _+_, _-_, _≤_, _<_}
@@ -14,7 +15,8 @@ use Rattle.shapes.specs.Drawing.{codeVerdict, leafVerdict, leafNode, pair, bran
 use Rattle.fields.specs.Promises.{Live}
 use Rattle.fields.proofs.Laws.{live-sound, range-least, range-passes, length-times}
 use Rattle.shapes.proofs.Laws.{code-room}
-use Rattle.shapes.proofs.Drawn.{leaf-passes, length-symbols, node-live}
+use Rattle.shapes.proofs.Pins.{fresh, fresh-few, fresh-append, fresh-leaf}
+use Rattle.shapes.proofs.Drawn.{leaf-passes, length-symbols, leaves-nands, node-live}
 use Rattle.sheets.specs.Model.{Shape, size, leaves, Pin, Cell, patternsFrom, patterns}
 use Rattle.sheets.specs.LibrarySheet.{Head, last, binLoad, head, pin, patternRules, hasAll, pattern, countVerdict, drawings, cell, bins, cells, library}
 use Rattle.sheets.specs.TreeSheet.{tree, treeRules}
@@ -49,10 +51,11 @@ times-all P r h (suc n) c l =
 
 -- ---- shapes
 
--- A shape drawn after n nodes.
-record Drawn (rules : Rules) (n : ℕ) (x : Shape) : Type 0 where
-  nodes : n + size x ≤ rules .nodes
+-- A shape drawn after the nodes with these symbols. Every leaf of a pattern has a new pin.
+record Drawn (rules : Rules) (seen : List ℕ) (x : Shape) : Type 0 where
+  nodes : length seen + size x ≤ rules .nodes
   numbers : (y : ℕ) → List·Memᴰ y (leaves x) → y ≤ rules .most
+  pins : rules .pattern ≡ true → length (leaves x) ≤ fresh (suc (rules .most)) seen (symbols x)
 
 module _ (s : List ℕ) (rules : Rules) where
   branch-live : (d : ℕ) (seen : List ℕ) (code : ℕ) (c : Scan) → Live (branch s rules (node s rules d) seen code c .1) → Live c
@@ -66,23 +69,30 @@ module _ (s : List ℕ) (rules : Rules) where
   -- The depth does not run out before the nodes allowed do.
   abbrev NodesDrawn : ℕ → Type 0
   NodesDrawn d = (seen : List ℕ) (c : Scan) → length seen ≤ rules .nodes → rules .nodes < d + length seen →
-      Live (node s rules d seen c .1) → Drawn rules (length seen) (node s rules d seen c .0)
+      Live (node s rules d seen c .1) → Drawn rules seen (node s rules d seen c .0)
 
   branch-drawn : (d : ℕ) → NodesDrawn d → (seen : List ℕ) (code : ℕ) (c : Scan) → length seen < rules .nodes → rules .nodes ≤ d + length seen →
-      let x = branch s rules (node s rules d) seen code c in Live (x .1) → Drawn rules (length seen) (x .0)
-  unfolding branch leafNode pair size leaves
+      let x = branch s rules (node s rules d) seen code c in Live (x .1) → Drawn rules seen (x .0)
+  unfolding branch leafNode pair size leaves symbols
   branch-drawn d below seen zero c room deep l =
       let x = field s (rules .width) (leafVerdict rules seen) c .0 in
-      let small : x ≤ rules .most = leaf-passes rules seen x (live-sound s (rules .width) (leafVerdict rules seen) c l .0) in
-      record { nodes = omega arith; numbers = λ y m. omega (arith, List·Memᴰ·eq-of-singleton m) }
+      let passes = leaf-passes rules seen x (live-sound s (rules .width) (leafVerdict rules seen) c l .0) in
+      record {
+        nodes = omega arith;
+        numbers = λ y m. omega (arith, List·Memᴰ·eq-of-singleton m);
+        pins = λ p. fresh-leaf (suc (rules .most)) x seen (omega arith) (passes .1 p);
+      }
   branch-drawn d below seen (suc zero) c room deep l =
+      let first = seen ++ (0 ∷ []) in
+      let x = symbols (node s rules d first c .0) in
       let grown = length-append seen (0 ∷ []) in
-      let a = below (seen ++ (0 ∷ [])) c (omega arith) (omega arith) l in
-      record { nodes = omega (arith, a .nodes); numbers = a .numbers }
+      let a = below first c (omega arith) (omega arith) l in
+      record { nodes = omega (arith, a .nodes); numbers = a .numbers; pins = λ p. omega (arith, a .pins p, fresh-append (suc (rules .most)) seen (0 ∷ []) x) }
   branch-drawn d below seen (suc (suc k)) c room deep l =
       let first = seen ++ (1 ∷ []) in
       let x = node s rules d first c in
       let second = first ++ symbols (x .0) in
+      let y = node s rules d second (x .1) in
       let grown = length-append seen (1 ∷ []) in
       let again = length-append first (symbols (x .0)) in
       let counted = length-symbols (x .0) in
@@ -91,6 +101,11 @@ module _ (s : List ℕ) (rules : Rules) where
       record {
         nodes = omega (arith, a .nodes, b .nodes);
         numbers = λ z m. ⊎-elim (a .numbers z) (b .numbers z) (List·Memᴰ·append-cases (leaves (x .0)) m);
+        pins = λ p.
+            let n = suc (rules .most) in
+            let all = fresh-append n seen (1 ∷ []) (symbols (x .0) ++ symbols (y .0)) in
+            let both = fresh-append n first (symbols (x .0)) (symbols (y .0)) in
+            omega (arith, a .pins p, b .pins p, length-append (leaves (x .0)) (leaves (y .0)));
       }
 
   node-drawn : (d : ℕ) → NodesDrawn d
@@ -102,7 +117,7 @@ module _ (s : List ℕ) (rules : Rules) where
       let room = code-room rules (length seen) (code .0) (live-sound s 2 v c (branch-live d seen (code .0) (code .1) l) .0) .0 in
       branch-drawn d (node-drawn d) seen (code .0) (code .1) room (omega arith) l
 
-  shape-keeps : Keeps (Drawn rules 0) (shape s rules)
+  shape-keeps : Keeps (Drawn rules []) (shape s rules)
   unfolding shape
   shape-keeps c l = (node-drawn (suc (rules .nodes)) [] c (omega arith) (omega arith) l, node-live s rules (suc (rules .nodes)) [] c l)
 
@@ -159,8 +174,15 @@ unfolding pattern
 pattern-keeps s pins before c l =
     let x = shape s (patternRules pins) c in
     let live = complete-live (hasAll pins (symbols (x .0))) (place c) (x .1) l in
-    let h = shape-keeps s (patternRules pins) c live in
-    ((λ some. record { size = omega (arith, h .0 .nodes); gate = opens-gate s pins c live; leaves = λ y m. omega (arith, h .0 .numbers y m) }), h .1)
+    let h = shape-keeps s (patternRules pins) c live in (
+      (λ some. record {
+        size = omega (arith, h .0 .nodes);
+        gate = opens-gate s pins c live;
+        leaves = λ y m. omega (arith, h .0 .numbers y m);
+        nands = omega (arith, leaves-nands (x .0), h .0 .pins refl, fresh-few (suc (pins - 1)) [] (symbols (x .0)));
+      }),
+      h .1,
+    )
 
 drawings-keep : (s : List ℕ) (pins total : ℕ) → Keeps (λ ds. (d : Shape) → List·Memᴰ d ds → 1 ≤ pins → SoundDrawing pins d) (drawings s pins total)
 unfolding drawings

@@ -4,7 +4,7 @@ use mathlib.Core.List.{List, [], _∷_, _++_}
 use mathlib.Core.Bool.{Bool}
 use lib.ListN.{getD}
 pub use Rattle.shapes.specs.Shape.{Shape, leaf, inv, nand}
-unfoldable pub use Rattle.shapes.specs.Shape.{size, leaves}
+unfoldable pub use Rattle.shapes.specs.Shape.{size, leaves, nands}
 
 -- One input pin of a cell: the number of its load bin, its intrinsic delay and its drive.
 pub record Pin : Type 0 where

@@ -2,7 +2,7 @@
 use Prim.Native.Nat.{ℕ, _≤_, _<_}
 use mathlib.Core.List.{List·Memᴰ}
 use lib.ListN.{length}
-use Rattle.sheets.specs.Model.{Shape, leaf, inv, nand, size, leaves, Pin, Cell, Library, Tree, patterns}
+use Rattle.sheets.specs.Model.{Shape, leaf, inv, nand, size, leaves, nands, Pin, Cell, Library, Tree, patterns}
 
 -- An inverter or a NAND.
 abbrev pub IsGate : Shape → Type 0
@@ -10,11 +10,12 @@ IsGate (leaf x) = ⊥
 IsGate (inv a) = Unit {0}
 IsGate (nand a b) = Unit {0}
 
--- A drawing of a cell with so many pins.
+-- A drawing of a cell with so many pins. No pin stands twice, so it has fewer NANDs than pins.
 pub record SoundDrawing (pins : ℕ) (d : Shape) : Type 0 where
   pub size : size d ≤ 16
   pub gate : IsGate d
   pub leaves : (x : ℕ) → List·Memᴰ x (leaves d) → x < pins
+  pub nands : nands d < pins
 
 -- A pin and a cell of a library with so many bins.
 abbrev pub SoundPin : ℕ → Pin → Type 0

@@ -37,7 +37,7 @@ impl Limits {
 
     pub const POINTS: usize = 31;
 
-    pub const OUTPUT_MAP: usize = 109;
+    pub const OUTPUT_MAP: usize = 149;
 
     pub const OUTPUT_LIST: usize = 179;
 

@@ -7,19 +7,26 @@ use crate::tree::Tree;
 #[derive(Clone, Copy)]
 pub struct Cell {
     pub held: bool,
-    pub area: u16,
     pub highest_load: u8,
-    pub bins: [u8; 6],
-    pub intrinsics: [u16; 6],
-    pub drives: [u8; 6],
+    pub area: u16,
+    pub pins: [Pin; 6],
 }
 
 #[derive(Clone, Copy)]
+pub struct Pin {
+    pub bin: u8,
+    drive: u8,
+    intrinsic: u16,
+}
+
+/// A drawing: by position in preorder the code, at a leaf its pin, and the nodes and NANDs at and under it.
+#[derive(Clone, Copy)]
 pub struct Pattern {
     pub cell: u8,
-    pub size: u8,
     pub codes: [u8; 16],
     pub pins: [u8; 16],
+    pub sizes: [u8; 16],
+    pub nands: [u8; 16],
 }
 
 pub struct Compact {
@@ -40,8 +47,9 @@ pub struct Subject {
     pub arrivals: [u64; 64],
 }
 
-const NO_CELL: Cell = Cell { held: true, area: 0, highest_load: 0, bins: [0; 6], intrinsics: [0; 6], drives: [0; 6] };
-const NO_PATTERN: Pattern = Pattern { cell: 0, size: 0, codes: [0; 16], pins: [0; 16] };
+const NO_PIN: Pin = Pin { bin: 0, drive: 0, intrinsic: 0 };
+const NO_CELL: Cell = Cell { held: true, highest_load: 0, area: 0, pins: [NO_PIN; 6] };
+const NO_PATTERN: Pattern = Pattern { cell: 0, codes: [0; 16], pins: [0; 16], sizes: [1; 16], nands: [0; 16] };
 
 impl Compact {
     pub fn of(library: &library::Library) -> Compact {
@@ -71,15 +79,15 @@ impl Cell {
         let mut compact =
             Cell { held: cell.held, area: cell.area as u16, highest_load: cell.highest_load as u8, ..NO_CELL };
         for (number, pin) in cell.pins.iter().enumerate() {
-            compact.bins[number] = pin.bin as u8;
-            compact.intrinsics[number] = pin.intrinsic as u16;
-            compact.drives[number] = pin.drive as u8;
+            compact.pins[number] = Pin { bin: pin.bin as u8, drive: pin.drive as u8, intrinsic: pin.intrinsic as u16 };
         }
         compact
     }
+}
 
-    pub fn delay(&self, pin: usize, load: u64) -> u64 {
-        self.intrinsics[pin] as u64 + self.drives[pin] as u64 * load
+impl Pin {
+    pub fn delay(&self, load: u64) -> u64 {
+        self.intrinsic as u64 + self.drive as u64 * load
     }
 }
 
@@ -94,11 +102,22 @@ fn code(node: &Node) -> (u8, u32) {
 
 impl Pattern {
     fn of(cell: usize, shape: &Shape) -> Pattern {
-        let mut compact = Pattern { cell: cell as u8, size: shape.nodes.len() as u8, ..NO_PATTERN };
-        for (number, node) in shape.nodes.iter().enumerate() {
+        let mut compact = Pattern { cell: cell as u8, ..NO_PATTERN };
+        for (number, node) in shape.nodes.iter().enumerate().rev() {
             let (code, pin) = code(node);
             compact.codes[number] = code;
             compact.pins[number] = pin as u8;
+            match *node {
+                Node::Leaf(_) => {}
+                Node::Inv(below) => {
+                    compact.sizes[number] = 1 + compact.sizes[below];
+                    compact.nands[number] = compact.nands[below];
+                }
+                Node::Nand(left, right) => {
+                    compact.sizes[number] = 1 + compact.sizes[left] + compact.sizes[right];
+                    compact.nands[number] = 1 + compact.nands[left] + compact.nands[right];
+                }
+            }
         }
         compact
     }

@@ -1,154 +1,165 @@
-//! The curves of all nodes in the work area: node × 4 bins × 32 words, latest point first.
+//! The curves of all nodes in the work area: node × 4 bins × 32 words, latest point first, and
+//! after the last point an absent one.
 
-use super::compact::{Compact, Pattern, Subject};
+use super::compact::{Cell, Compact, Subject};
+use super::finding::{Crossings, Match};
+use super::Variant;
+use crate::operation::LEAST_WORK;
 use crate::refusal::{Refusal, OVERFULL};
 
+const BINS: usize = 4;
 const STRIDE: usize = 32;
+const SLOTS: usize = LEAST_WORK / STRIDE;
 /// Above every arrival, and the factor that packs a point into a word.
-const TIMES: u64 = 1 << 24;
+pub const TIMES: u64 = 1 << 24;
+/// No point: above every word of a point, and before every bound.
+pub const ABSENT: u64 = 1 << 63;
 
-#[derive(Clone, Copy, PartialEq, Eq)]
-pub struct Point {
-    pub area: u64,
-    pub arrival: u64,
+/// Library and tree, and the curves filled so far; the root's stands under bin 0.
+pub struct Curves<'a> {
+    pub library: &'a Compact,
+    pub subject: &'a Subject,
+    slots: &'a mut [[u64; STRIDE]; SLOTS],
 }
 
-impl Point {
-    pub fn unpack(word: u64) -> Point {
-        Point { area: word / TIMES, arrival: word % TIMES }
+/// A node's matches and, while a curve of it is filled, the last point of each.
+struct Matches {
+    found: Vec<Match>,
+    last: Vec<u64>,
+}
+
+impl<'a> Curves<'a> {
+    pub fn fill(
+        variant: Variant,
+        library: &'a Compact,
+        subject: &'a Subject,
+        work: &'a mut [u64; LEAST_WORK],
+    ) -> Result<Self, Refusal> {
+        let slots = work.as_chunks_mut().0.try_into().expect("as many slots as go into the work area");
+        let mut curves = Curves { library, subject, slots };
+        let mut matches = Matches { found: Vec::with_capacity(128), last: Vec::new() };
+        for node in (0..subject.count).rev() {
+            if subject.codes[node] == 0 {
+                curves.fill_leaf(node);
+            } else {
+                curves.fill_node(variant, node, &mut matches)?;
+            }
+        }
+        Ok(curves)
     }
-}
 
-/// A pattern that stands at the node, with its inputs in drawn order.
-#[derive(Clone, Copy)]
-pub struct Match {
-    pub pattern: u8,
-    pub inputs: u8,
-    pub pins: [u8; 6],
-    pub nodes: [u8; 6],
-}
+    fn fill_leaf(&mut self, node: usize) {
+        for bin in 0..self.library.bin_count {
+            self.slots[slot(node, bin)][..2].copy_from_slice(&[self.subject.arrivals[node], ABSENT]);
+        }
+    }
 
-/// The number of points by node and bin; the root's stands under bin 0.
-pub type Counts = [[u8; 4]; 64];
-
-pub fn fill(library: &Compact, subject: &Subject, work: &mut [u64]) -> Result<Counts, Refusal> {
-    let mut counts = [[0; 4]; 64];
-    let mut matches = Vec::with_capacity(128);
-    for node in (0..subject.count).rev() {
-        find_matches(library, subject, node, &mut matches);
-        for bin in 0..if node == 0 { 1 } else { library.bin_count } {
-            let load = if node == 0 { subject.root_load } else { library.bins[bin] };
-            let count = fill_curve(library, subject, &matches, (node, bin, load), &counts, work);
-            if count == STRIDE {
+    fn fill_node(&mut self, variant: Variant, node: usize, matches: &mut Matches) -> Result<(), Refusal> {
+        self.find_matches(node, &mut matches.found);
+        for bin in 0..if node == 0 { 1 } else { self.library.bin_count } {
+            let load = if node == 0 { self.subject.root_load } else { self.library.bins[bin] };
+            let has_ended = match variant {
+                Variant::Plain => self.fill_plain(slot(node, bin), load, &matches.found),
+                Variant::Kept => self.fill_kept(slot(node, bin), load, matches),
+            };
+            if !has_ended {
                 return Err(Refusal::new(OVERFULL, node));
             }
-            counts[node][bin] = count as u8;
         }
+        Ok(())
     }
-    Ok(counts)
-}
 
-fn find_matches(library: &Compact, subject: &Subject, node: usize, matches: &mut Vec<Match>) {
-    matches.clear();
-    for (number, pattern) in library.patterns[..library.pattern_count].iter().enumerate() {
-        if !library.cells[pattern.cell as usize].held {
-            matches.extend(walk(pattern, subject, node).map(|found| Match { pattern: number as u8, ..found }));
-        }
-    }
-}
-
-/// Walks the pattern and the tree together, skipping what lies under the pattern's leaves.
-pub fn walk(pattern: &Pattern, subject: &Subject, node: usize) -> Option<Match> {
-    let mut found = Match { pattern: 0, inputs: 0, pins: [0; 6], nodes: [0; 6] };
-    let mut at = node;
-    for step in 0..pattern.size as usize {
-        if pattern.codes[step] == 0 {
-            found.pins[found.inputs as usize] = pattern.pins[step];
-            found.nodes[found.inputs as usize] = at as u8;
-            found.inputs += 1;
-            at += subject.sizes[at] as usize;
-        } else if pattern.codes[step] == subject.codes[at] {
-            at += 1;
-        } else {
-            return None;
-        }
-    }
-    Some(found)
-}
-
-/// Finds up to 32 points of a curve, each the least before the one found last.
-fn fill_curve(
-    library: &Compact,
-    subject: &Subject,
-    matches: &[Match],
-    (node, bin, load): (usize, usize, u64),
-    counts: &Counts,
-    work: &mut [u64],
-) -> usize {
-    let start = first_word(node, bin);
-    if subject.codes[node] == 0 {
-        work[start] = subject.arrivals[node];
-        return 1;
-    }
-    let mut bound = TIMES;
-    for count in 0..STRIDE {
-        let Some(word) = best(library, matches, load, bound, counts, work) else { return count };
-        work[start + count] = word;
-        bound = word % TIMES;
-    }
-    STRIDE
-}
-
-/// The least point over the legal matches that arrives before `bound`.
-fn best(library: &Compact, matches: &[Match], load: u64, bound: u64, counts: &Counts, work: &[u64]) -> Option<u64> {
-    let mut least = None;
-    for found in matches {
-        let cell = &library.cells[library.patterns[found.pattern as usize].cell as usize];
-        if load > cell.highest_load as u64 {
-            continue;
-        }
-        if let Some(point) = reach(library, found, load, bound, counts, work) {
-            let word = point.area * TIMES + point.arrival;
-            if least.is_none_or(|before| word < before) {
-                least = Some(word);
+    /// Ascending by pattern and for each pattern by crossing.
+    fn find_matches(&self, node: usize, found: &mut Vec<Match>) {
+        found.clear();
+        for (number, pattern) in self.library.patterns[..self.library.pattern_count].iter().enumerate() {
+            if !self.library.cells[pattern.cell as usize].held {
+                found.extend(Crossings::of(self.library, number, self.subject, node));
             }
         }
     }
-    least
-}
 
-/// The least point of one match that arrives before `bound`.
-pub fn reach(library: &Compact, found: &Match, load: u64, bound: u64, counts: &Counts, work: &[u64]) -> Option<Point> {
-    let cell = &library.cells[library.patterns[found.pattern as usize].cell as usize];
-    let mut point = Point { area: cell.area as u64, arrival: 0 };
-    for input in 0..found.inputs as usize {
-        let pin = found.pins[input] as usize;
-        let delay = cell.delay(pin, load);
-        if delay >= bound {
-            return None;
+    /// Finds the points of a curve, each the least before the one found last. Whether an absent one was reached.
+    fn fill_plain(&mut self, slot: usize, load: u64, matches: &[Match]) -> bool {
+        let mut bound = TIMES;
+        for count in 0..STRIDE {
+            let words = matches.iter().map(|found| self.reach(found, load, bound));
+            let least = words.min().unwrap_or(ABSENT);
+            self.slots[slot][count] = least;
+            if least == ABSENT {
+                return true;
+            }
+            bound = least % TIMES;
         }
-        let curve = curve(found.nodes[input] as usize, cell.bins[pin] as usize, counts, work);
-        let next = look_up(curve, bound - delay)?;
-        point.area += next.area;
-        point.arrival = point.arrival.max(next.arrival + delay);
+        false
     }
-    Some(point)
+
+    /// The same. A match whose last point still arrives before the bound keeps it: what is least
+    /// before a time and arrives before an earlier one is least before that one too. A match whose
+    /// last point is not below the least so far is passed over: its points only rise.
+    fn fill_kept(&mut self, slot: usize, load: u64, matches: &mut Matches) -> bool {
+        let Matches { found, last } = matches;
+        last.clear();
+        last.extend(found.iter().map(|found| self.reach(found, load, TIMES)));
+        let mut bound = TIMES;
+        for count in 0..STRIDE {
+            let mut least = ABSENT;
+            for (word, found) in last.iter_mut().zip(found.iter()) {
+                if *word < least {
+                    if *word % TIMES >= bound {
+                        *word = self.reach(found, load, bound);
+                    }
+                    least = least.min(*word);
+                }
+            }
+            self.slots[slot][count] = least;
+            if least == ABSENT {
+                return true;
+            }
+            bound = least % TIMES;
+        }
+        false
+    }
+
+    pub fn cell(&self, found: &Match) -> &Cell {
+        &self.library.cells[found.cell as usize]
+    }
+
+    /// The least point of a match that arrives before `bound`; absent too if it may not drive the load.
+    pub fn reach(&self, found: &Match, load: u64, bound: u64) -> u64 {
+        let cell = self.cell(found);
+        if load > cell.highest_load as u64 {
+            return ABSENT;
+        }
+        let (mut area, mut arrival) = (cell.area as u64, 0);
+        for &(pin, node) in found.inputs() {
+            let pin = &cell.pins[pin as usize];
+            let delay = pin.delay(load);
+            if delay >= bound {
+                return ABSENT;
+            }
+            let next = self.look_up(node as usize, pin.bin as usize, bound - delay);
+            if next == ABSENT {
+                return ABSENT;
+            }
+            area += next / TIMES;
+            arrival = arrival.max(next % TIMES + delay);
+        }
+        area * TIMES + arrival
+    }
+
+    /// The first point of a curve that arrives before `bound`, which is not 0.
+    pub fn look_up(&self, node: usize, bin: usize, bound: u64) -> u64 {
+        let words = self.slots[slot(node, bin)].iter();
+        words.copied().find(|word| word % TIMES < bound).unwrap_or(ABSENT)
+    }
+
+    /// The points of the root.
+    pub fn root(&self) -> impl Iterator<Item = u64> + '_ {
+        self.slots[0].iter().copied().take_while(|&word| word != ABSENT)
+    }
 }
 
-fn first_word(node: usize, bin: usize) -> usize {
-    (node * 4 + bin) * STRIDE
-}
-
-pub fn curve<'a>(node: usize, bin: usize, counts: &Counts, work: &'a [u64]) -> &'a [u64] {
-    let start = first_word(node, bin);
-    &work[start..start + counts[node][bin] as usize]
-}
-
-pub fn root<'a>(counts: &Counts, work: &'a [u64]) -> &'a [u64] {
-    curve(0, 0, counts, work)
-}
-
-/// The first point of a curve that arrives before `bound`.
-pub fn look_up(curve: &[u64], bound: u64) -> Option<Point> {
-    curve.iter().map(|&word| Point::unpack(word)).find(|point| point.arrival < bound)
+fn slot(node: usize, bin: usize) -> usize {
+    node * BINS + bin
 }

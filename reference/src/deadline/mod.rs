@@ -4,54 +4,84 @@
 mod choose;
 mod compact;
 mod curves;
+mod finding;
 
 use crate::cover::{list_sheet, Cover, Pair};
-use crate::operation::{Operation, LEAST_WORK};
+use crate::operation::Operation;
 use crate::refusal::{Refusal, NO_COVER, SHORT};
 use crate::{library, tree};
 use compact::{Compact, Subject};
-use curves::Counts;
+use curves::{Curves, ABSENT, TIMES};
 
-/// As the product: sheets in, sheet and cleared work area out.
-pub fn run(
-    operation: Operation,
-    library: &[u8],
-    tree: &[u8],
-    output: &mut [u8],
-    work: &mut [u64],
-) -> Result<usize, Refusal> {
-    if output.len() < operation.least_output() || work.len() < LEAST_WORK {
-        return Err(Refusal::new(SHORT, 0));
+/// Whether each point of a curve is worked out anew from every match, or a match keeps its last
+/// point as long as that is in time, and is passed over while it is not below the least so far.
+#[derive(Clone, Copy, PartialEq, Eq, Debug)]
+pub enum Variant {
+    Plain,
+    Kept,
+}
+
+impl Variant {
+    pub const ALL: [Variant; 2] = [Variant::Plain, Variant::Kept];
+
+    pub fn name(self) -> &'static str {
+        match self {
+            Variant::Plain => "plain",
+            Variant::Kept => "plain_kept",
+        }
     }
-    let library = Compact::of(&library::decode(library)?);
-    let subject = Subject::of(&tree::decode(tree)?);
-    let work = &mut work[..LEAST_WORK];
-    let sheet = curves::fill(&library, &subject, work).and_then(|counts| match operation {
-        Operation::Map => map(&library, &subject, &counts, work),
-        Operation::List => list(&counts, work),
-    });
-    work.fill(0);
-    let sheet = sheet?;
-    output[..sheet.len()].copy_from_slice(&sheet);
-    Ok(sheet.len())
+
+    pub fn named(name: &str) -> Option<Variant> {
+        Variant::ALL.into_iter().find(|variant| variant.name() == name)
+    }
+
+    /// As the product: sheets in, sheet and cleared work area out.
+    pub fn run(
+        self,
+        operation: Operation,
+        library: &[u8],
+        tree: &[u8],
+        output: &mut [u8],
+        work: &mut [u64],
+    ) -> Result<usize, Refusal> {
+        let short = Refusal::new(SHORT, 0);
+        if output.len() < operation.least_output() {
+            return Err(short);
+        }
+        let work = work.first_chunk_mut().ok_or(short)?;
+        let library = Compact::of(&library::decode(library)?);
+        let subject = Subject::of(&tree::decode(tree)?);
+        let sheet = Curves::fill(self, &library, &subject, work).and_then(|curves| match operation {
+            Operation::Map => map(&curves),
+            Operation::List => list(&curves),
+        });
+        work.fill(0);
+        let sheet = sheet?;
+        output[..sheet.len()].copy_from_slice(&sheet);
+        Ok(sheet.len())
+    }
 }
 
-fn map(library: &Compact, subject: &Subject, counts: &Counts, work: &[u64]) -> Result<Vec<u8>, Refusal> {
-    let root = curves::look_up(curves::root(counts, work), subject.required + 1);
-    let point = root.ok_or(Refusal::new(NO_COVER, 0))?;
+fn map(curves: &Curves) -> Result<Vec<u8>, Refusal> {
+    let point = curves.look_up(0, 0, curves.subject.required + 1);
+    if point == ABSENT {
+        return Err(Refusal::new(NO_COVER, 0));
+    }
     let mut matches = Vec::with_capacity(64);
-    choose::follow(library, subject, counts, work, &mut matches, choose::Aim::root(subject, point));
-    Ok(Cover { area: point.area as u32, arrival: point.arrival as u32, matches }.sheet())
+    choose::follow(curves, &mut matches, choose::Aim { node: 0, load: curves.subject.root_load, point });
+    let Pair { arrival, area } = pair(point);
+    Ok(Cover { area, arrival, matches }.sheet())
 }
 
-fn list(counts: &Counts, work: &[u64]) -> Result<Vec<u8>, Refusal> {
-    let pair = |&word: &u64| {
-        let point = curves::Point::unpack(word);
-        Pair { arrival: point.arrival as u32, area: point.area as u32 }
-    };
-    let pairs: Vec<Pair> = curves::root(counts, work).iter().rev().map(pair).collect();
+fn list(curves: &Curves) -> Result<Vec<u8>, Refusal> {
+    let mut pairs: Vec<Pair> = curves.root().map(pair).collect();
+    pairs.reverse();
     if pairs.is_empty() {
         return Err(Refusal::new(NO_COVER, 0));
     }
     Ok(list_sheet(&pairs))
+}
+
+fn pair(word: u64) -> Pair {
+    Pair { arrival: (word % TIMES) as u32, area: (word / TIMES) as u32 }
 }

@@ -1,8 +1,9 @@
-//! Problems for the benchmark: a typical one, two that take long, and one that goes deep.
+//! Problems for the benchmark: a typical one, two that take long, one that goes deep, and two with many crossings.
 
-use super::parts::{cell, chain, comb, pin, tree, AND, AOI21, AOI22, INVERTER, NAND, NOR, OR};
+use super::parts::{cell, chain, comb, counted_comb, pin, tree, AND, AOI21, AOI22, INVERTER, NAND, NOR, OR};
 use super::problem::Problem;
 use super::sound;
+use crate::crossing::{redrawn, CROSSINGS};
 use crate::library::{Cell, Library};
 use crate::rng::Rng;
 use crate::shape::{Shape, Step};
@@ -11,7 +12,14 @@ use Step::{Inv, Leaf, Nand};
 
 /// Name and problem of every row of the benchmark.
 pub fn all() -> Vec<(&'static str, Problem)> {
-    vec![("typical", typical()), ("chain", worst_chain()), ("comb", worst_comb()), ("deep", deepest())]
+    vec![
+        ("typical", typical()),
+        ("chain", worst_chain()),
+        ("comb", worst_comb()),
+        ("deep", deepest()),
+        ("full", full()),
+        ("crosscomb", crossed_comb()),
+    ]
 }
 
 const AOI21_TURNED: &[Step] = &[Inv, Nand, Inv, Leaf(2), Nand, Leaf(0), Leaf(1)];
@@ -100,4 +108,68 @@ fn comb_cell(rng: &mut Rng, number: u32) -> Cell {
         patterns: vec![pattern(), pattern()],
         pins: (0..=nands).map(|place| pin((number + place) % 4, 40 * nands + 2 * (15 - grade), 0)).collect(),
     }
+}
+
+/// A full tree of 31 NANDs under drawings of five: at the upper three levels the bushy ones match under all their
+/// crossings, at the root the combs too. The times were found by search, so that curves are long and none too long.
+pub fn full() -> Problem {
+    let mut arrivals = FULL_ARRIVALS.into_iter();
+    let mut steps = Vec::new();
+    balanced(5, &mut arrivals, &mut steps);
+    Problem { library: crossed_library(), tree: tree(1, LATEST_REQUIRED, &steps) }
+}
+
+/// A NAND tree of this depth, every branch alike.
+fn balanced(depth: usize, arrivals: &mut impl Iterator<Item = u32>, steps: &mut Vec<Step>) {
+    if depth == 0 {
+        steps.push(Leaf(arrivals.next().expect("an arrival for each leaf")));
+        return;
+    }
+    steps.push(Nand);
+    balanced(depth - 1, arrivals, steps);
+    balanced(depth - 1, arrivals, steps);
+}
+
+/// A comb of 31 NANDs under the same library: each comb of five matches under two of its crossings, whichever way
+/// its NANDs are turned. These times too were found by search.
+pub fn crossed_comb() -> Problem {
+    Problem { library: crossed_library(), tree: tree(1, LATEST_REQUIRED, &comb(&CROSSED_ARRIVALS)) }
+}
+
+const FULL_ARRIVALS: [u32; 32] = [
+    80, 120, 290, 90, 350, 330, 60, 330, 0, 10, 270, 240, 0, 130, 320, 290, 390, 370, 150, 90, 310, 290, 0, 260, 180,
+    390, 130, 100, 170, 350, 370, 120,
+];
+
+const CROSSED_ARRIVALS: [u32; 32] = [
+    27, 502, 461, 437, 415, 33, 401, 356, 333, 310, 297, 276, 258, 234, 214, 22, 203, 27, 3, 9, 5, 32, 9, 3, 8, 39, 11,
+    8, 21, 11, 30, 15,
+];
+
+/// 63 cells of six uneven pins, each drawn once bushy and once as a comb, and one NAND.
+pub fn crossed_library() -> Library {
+    let mut rng = Rng::new(2);
+    let mut cells: Vec<Cell> = (0..63).map(|number| crossed_cell(&mut rng, number)).collect();
+    let nand = Cell { pins: vec![pin(0, 20, 1), pin(1, 24, 1)], ..cell(10, 255, pin(0, 0, 0), NAND) };
+    cells.push(nand);
+    Library { bins: vec![1, 2, 4, 7], cells }
+}
+
+fn crossed_cell(rng: &mut Rng, number: u32) -> Cell {
+    let grade = number % 16;
+    let slowest = 60 + 4 * (15 - grade);
+    let uneven = |_| pin(rng.value(0, 3), slowest - rng.value(0, 20), rng.value(0, 2));
+    let pins = (0..6).map(uneven).collect();
+    let bushy = [Nand, Nand, Nand, Leaf(0), Leaf(1), Nand, Leaf(2), Leaf(3), Nand, Leaf(4), Leaf(5)];
+    let patterns = vec![turned(rng, &bushy), turned(rng, &counted_comb(6))];
+    Cell { held: false, area: 40 + grade, highest_load: 255, pins, patterns }
+}
+
+/// A drawing with its pins in another order and its NANDs turned at random.
+fn turned(rng: &mut Rng, steps: &[Step]) -> Shape {
+    let mut pins = [0, 1, 2, 3, 4, 5];
+    rng.shuffle(&mut pins);
+    let repin = |&step: &Step| if let Leaf(pin) = step { Leaf(pins[pin as usize]) } else { step };
+    let steps: Vec<Step> = steps.iter().map(repin).collect();
+    redrawn(&Shape::from_steps(&steps), rng.value(0, CROSSINGS - 1))
 }

@@ -2,6 +2,7 @@
 
 use super::parts::{AND, AOI21, INVERTER, NAND, NOR, OR};
 use super::sound;
+use crate::crossing::{redrawn, CROSSINGS};
 use crate::form::Form;
 use crate::library::{Cell, Library, Pin};
 use crate::merging;
@@ -39,36 +40,38 @@ pub struct Style {
     pub arrival: u32,
     /// Whether larger cells are faster.
     pub graded: bool,
+    /// Whether most drawings have several NANDs, and the tree is put together from redrawn ones.
+    pub crossed: bool,
 }
 
 const SMALL: Style =
-    Style { cells: 8, nodes: 12, area: 6, intrinsic: 8, drive: 3, load: 6, arrival: 12, graded: false };
+    Style { cells: 8, nodes: 12, area: 6, intrinsic: 8, drive: 3, load: 6, arrival: 12, graded: false, crossed: false };
 const GRADED: Style =
-    Style { cells: 12, nodes: 10, area: 12, intrinsic: 24, drive: 2, load: 5, arrival: 9, graded: true };
+    Style { cells: 12, nodes: 10, area: 12, intrinsic: 24, drive: 2, load: 5, arrival: 9, graded: true, ..SMALL };
 const STEEP: Style =
-    Style { cells: 64, nodes: 4, area: 90, intrinsic: 360, drive: 1, load: 4, arrival: 5, graded: true };
-const FULL: Style = Style {
-    cells: 8,
-    nodes: 12,
-    area: 65_535,
-    intrinsic: 65_535,
-    drive: 255,
-    load: 255,
-    arrival: LATEST_LEAF,
-    graded: false,
-};
+    Style { cells: 64, nodes: 4, area: 90, intrinsic: 360, drive: 1, load: 4, arrival: 5, graded: true, ..SMALL };
+const FULL: Style = Style { area: 65_535, intrinsic: 65_535, drive: 255, load: 255, arrival: LATEST_LEAF, ..SMALL };
 const LARGE: Style = Style { cells: 30, nodes: 64, ..SMALL };
 const LONG: Style = Style { cells: 3, nodes: 64, ..GRADED };
 const FULL_LONG: Style = Style { cells: 4, nodes: 64, ..FULL };
+const CROSSED: Style = Style { cells: 5, nodes: 20, crossed: true, ..SMALL };
+const CROSSED_FULL: Style = Style { nodes: 64, crossed: true, ..FULL };
 
 pub fn any_style(rng: &mut Rng) -> Style {
-    rng.pick(&[SMALL, SMALL, SMALL, GRADED, GRADED, STEEP, FULL, LARGE, LONG, FULL_LONG])
+    let styles = [SMALL, SMALL, SMALL, GRADED, GRADED, STEEP, FULL, LARGE, LONG, FULL_LONG];
+    let crossed = [CROSSED, CROSSED, CROSSED_FULL];
+    if rng.once_in(4) {
+        rng.pick(&crossed)
+    } else {
+        rng.pick(&styles)
+    }
 }
 
 /// A style whose covers can be listed one by one.
 pub fn small_style(rng: &mut Rng) -> Style {
-    let style = rng.pick(&[SMALL, SMALL, GRADED, STEEP, FULL]);
-    Style { nodes: rng.pick(&[2, 3, 5, 8, 10]), ..style }
+    let style = rng.pick(&[SMALL, SMALL, GRADED, STEEP, FULL, CROSSED, CROSSED_FULL]);
+    let nodes = if style.crossed { [4, 7, 11, 13, 15] } else { [2, 3, 5, 8, 10] };
+    Style { nodes: rng.pick(&nodes), ..style }
 }
 
 /// A problem whose required time is often one of the root's arrivals, or next to one.
@@ -131,6 +134,7 @@ fn library(rng: &mut Rng, style: Style) -> Library {
     for number in 0..rng.between(2, style.cells) {
         let shape = match number {
             0 | 1 => gates[number % gates.len()].clone(),
+            _ if style.crossed && !rng.once_in(4) => crossable_gate(rng, style),
             _ if rng.once_in(8) => any_gate(rng),
             _ => gates[rng.below(gates.len())].clone(),
         };
@@ -162,6 +166,14 @@ fn any_gate(rng: &mut Rng) -> Shape {
     sound::pattern(rng, pins, 3)
 }
 
+/// A drawing with several NANDs, often with five, if the tree has room for it.
+fn crossable_gate(rng: &mut Rng, style: Style) -> Shape {
+    let most = 6.min(style.nodes.div_ceil(2));
+    let pins = rng.pick(&[2, 3, 4, 5, 6, 6, 6, 6]).min(most);
+    let inverters = rng.pick(&[0, 0, 1, 2]);
+    sound::pattern(rng, pins, inverters)
+}
+
 fn bins(rng: &mut Rng, most: u32) -> Vec<u32> {
     let count = rng.between(1, 4);
     let mut bins: Vec<u32> = (0..count).map(|_| rng.value(1, most)).collect();
@@ -170,14 +182,15 @@ fn bins(rng: &mut Rng, most: u32) -> Vec<u32> {
     bins
 }
 
+/// The pins are all alike, of two kinds, or all different, so that many crossings cost the same and many do not.
 fn cell(rng: &mut Rng, style: Style, bin_count: usize, shape: Shape) -> Cell {
     let area = rng.value(1, style.area);
     let fastest = if style.graded { (style.area - area) * style.intrinsic / style.area } else { 0 };
     let slowest = if style.graded { fastest + rng.value(0, 2) } else { style.intrinsic };
     let leaves = shape.nodes.iter().filter(|node| matches!(node, Node::Leaf(_))).count();
-    let alike = pin(rng, style, bin_count, fastest, slowest);
-    let pins = (0..leaves).map(|_| if style.graded { alike } else { pin(rng, style, bin_count, fastest, slowest) });
-    let pins: Vec<Pin> = pins.collect();
+    let kinds = if style.graded { 1 } else { rng.pick(&[1, 2, 2, leaves, leaves]) };
+    let kinds: Vec<Pin> = (0..kinds).map(|_| pin(rng, style, bin_count, fastest, slowest)).collect();
+    let pins = (0..leaves).map(|number| if kinds.len() < leaves { rng.pick(&kinds) } else { kinds[number] }).collect();
     let mut patterns = vec![shape];
     while rng.once_in(5) && patterns.len() < 2 {
         patterns.push(sound::pattern(rng, leaves, 2));
@@ -207,6 +220,11 @@ fn pin(rng: &mut Rng, style: Style, bin_count: usize, fastest: u32, slowest: u32
 /// A random tree of the style; its root load is often a bin, or just above one.
 fn tree(rng: &mut Rng, style: Style, library: &Library) -> Tree {
     let mut tree = sound::tree(rng, style.nodes);
+    if style.crossed {
+        let (mut room, mut steps) = (style.nodes - 1, Vec::new());
+        grow(rng, library, &mut room, &mut steps);
+        tree.shape = Shape::from_steps(&steps);
+    }
     let bin = rng.pick(&library.bins);
     tree.root_load = rng.pick(&[0, bin, bin, (bin + 1).min(255), style.load, (2 * style.load).min(255)]);
     for node in tree.shape.nodes.iter_mut() {
@@ -215,4 +233,22 @@ fn tree(rng: &mut Rng, style: Style, library: &Library) -> Tree {
         }
     }
     tree
+}
+
+/// A drawing redrawn at random, with others at its leaves as far as there is room for more nodes.
+fn grow(rng: &mut Rng, library: &Library, room: &mut usize, steps: &mut Vec<Step>) {
+    let shapes = library.patterns().map(|(_, shape)| shape);
+    let fitting: Vec<&Shape> = shapes.filter(|shape| shape.nodes.len() <= *room + 1).collect();
+    if fitting.is_empty() {
+        steps.push(Leaf(0));
+        return;
+    }
+    let shape = redrawn(rng.pick(&fitting), rng.value(0, CROSSINGS - 1));
+    *room -= shape.nodes.len() - 1;
+    for step in shape.steps() {
+        match step {
+            Leaf(_) if !rng.once_in(3) => grow(rng, library, room, steps),
+            _ => steps.push(step),
+        }
+    }
 }

@@ -63,7 +63,7 @@ module _ (t : ℕ) where
       Chooses (a .most) l tree (a .rows .now) (a .symbols .now) (a .sizes .now) (length (a .found .now)) (a .work .now) (a .goal) (a .cover) s →
       (d : Cover) → choice l (a .goal .load) (a .goal .node) s (a .goal .time) ≡ some d → let m = c .before .before .before .choose-match in
       (top : Topmost (a .most) l tree (a .rows .now) (a .symbols .now) (a .sizes .now) (length (m .last .1 .1 .1 .0)) (a .work .now) (a .goal .node) (m .result) (c .append .result .count))
-      × (d .placed ≡ record { node = a .goal .node; pattern = m .result .pattern } ∷ top .rest .placed)
+      × (d .placed ≡ record { node = a .goal .node; pattern = m .result .pattern; crossing = m .result .crossing } ∷ top .rest .placed)
   topmost c l tree s all d e =
       let m = c .before .before .before .choose-match in
       gate-top all (gate-here (ready (all .prepared) (all .driven)) (c .before .before .before .before .before .if1 .left)) d e (m .result) (m .ensures l tree s (all .prepared) (all .driven)) (sym (m .kept .1 .1 .1 .0)) (ap (λ (r : CoverRecord). r .count) (c .append .ensures))
@@ -145,7 +145,8 @@ module _ (t : ℕ) where
       let a = c .before .before .before .before .before .before .before .before .before .before .before .before .before .before .args in
       let k = c .before .loop .k in
       let q = topmost (c .before .before) l tree s all d e in
-      let x : Placed = record { node = a .goal .node; pattern = c .before .before .before .before .before .choose-match .result .pattern } in
+      let r = c .before .before .before .before .before .choose-match .result in
+      let x : Placed = record { node = a .goal .node; pattern = r .pattern; crossing = r .crossing } in
       c .before .loop .inv .3 l tree (q .0) ∙ ap (λ (g : CoverRecord). appended g (placedTo (q .0) k)) (c .before .before .append .ensures) ∙ appended-more (a .cover) (x ∷ []) (placedTo (q .0) k)
       ∙ ap (λ (xs : List Placed). appended (a .cover) (x ∷ xs)) (placed-all (q .0) k (omega (arith, c .loop-test .left))) ∙ ap (appended (a .cover)) (sym (q .1))
 

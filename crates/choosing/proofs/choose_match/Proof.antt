@@ -2,13 +2,16 @@
 use borrow.Author.Needs.{needs}
 use native.Mathlib.Omega.{arith}
 use Prim.Native.Nat.{ℕ, _+_, _-_, _*_, _%_, _≤_, _<_}
-use mathlib.Core.Path.{_≡_, sym, subst}
+use mathlib.Core.Path.{_≡_, sym, ap, ap₂, subst, _∙_}
+use mathlib.Core.List.{List}
 use lib.ListN.{length, getD, take, drop}
 use Rattle.sheets.specs.Model.{Shape, Library, Tree}
+use Rattle.sheets.specs.Layout.{rowWords}
 use Rattle.covers.specs.Match.{Match}
 use Rattle.covers.specs.Curve.{base}
-use Rattle.matching.specs.Found.{matchWords, matchTable}
-use Rattle.curves.specs.Best.{RowSafe}
+use Rattle.matching.specs.Found.{matchBytes, matchTable}
+use Rattle.curves.specs.Best.{rowOf, patternOf, RowSafe}
+use Rattle.curves.proofs.Laws.{part-word, part-length}
 use Rattle.filling.proofs.Node.{FoundIs, gate-here, rows-ready}
 use Rattle.choosing.specs.Promises.{RowHolds, InputsAre, Prepared, Driven}
 use Rattle.choosing.proofs.Gate.{Limits, limits, ready, word-found, Picked, picked, picked-inputs}
@@ -24,35 +27,75 @@ use Rattle.curves.proofs.look_up.Reads as look-up-reads
 abbrev claims : lts.Claims
 claims = (look-up-reads.Asked, look-up-reads.Learnt, find-matches-reads.Asked, find-matches-reads.Learnt, first-reaching-reads.Asked, first-reaching-reads.Learnt, read-inputs-reads.Asked, read-inputs-reads.Learnt)
 
-near : (c : lts.Start claims reads.Pre reads.Post) → Limits (c .args .goal) (c .args .symbols .now)
+abbrev Entry : Type 0
+Entry = lts.Start claims reads.Pre reads.Post
+
+abbrev Searched : Type 0
+Searched = lts.After-find-matches claims reads.Pre reads.Post
+
+abbrev Reached : Type 0
+Reached = lts.After-first-reaching claims reads.Pre reads.Post
+
+abbrev entry : Searched → Entry
+entry c = c .before .before .before .before .before .before .before .before .before .before .before
+
+abbrev searched : Reached → Searched
+searched c = c .before .before .before .before
+
+-- What the look-up found, the rows found, and the row picked among them.
+abbrev word : Reached → ℕ
+word c = c .before .before .before .before .before .before .look-up .result
+
+abbrev table : Searched → List ℕ
+table c = c .find-matches .last .1 .1 .1 .1 .0
+
+abbrev place : Reached → ℕ
+place c = c .first-reaching .result
+
+near : (c : Entry) → Limits (c .args .goal) (c .args .symbols .now)
 near c = let p = c .pre .1 .1 .1 in limits (p .0) (p .1)
 
 -- The rows found, for every library and tree that was decoded.
-the-rows : (c : lts.After-find-matches claims reads.Pre reads.Post) (l : Library) (t : Tree) (s : Shape) → let a = c .before .before .before .before .before .before .before .before .before .before .before .args in
-    Prepared (a .most) l t (a .rows .now) (a .symbols .now) (a .sizes .now) (length (a .found .now)) (a .work .now) → Driven l t (a .goal) s →
-    FoundIs l (a .goal .node) s (a .found .now) (c .find-matches .last .1 .1 .1 .1 .0) (c .find-matches .result)
+the-rows : (c : Searched) (l : Library) (t : Tree) (s : Shape) → let a = entry c .args in
+    Prepared (a .most) l t (a .rows .now) (a .symbols .now) (a .sizes .now) (length (a .found .now)) (a .work .now) → Driven l t (a .goal) s → FoundIs l (a .goal .node) s (a .found .now) (table c) (c .find-matches .result)
 the-rows c l t s dec drv = let q = c .find-matches .ensures l t s (ready dec drv) in record { many = q .0; table = q .1 }
 
--- The row that was picked among them.
-the-row : (c : lts.After-first-reaching claims reads.Pre reads.Post) (l : Library) (t : Tree) (s : Shape) → let a = c .before .before .before .before .before .before .before .before .before .before .before .before .before .before .before .args in
-    Prepared (a .most) l t (a .rows .now) (a .symbols .now) (a .sizes .now) (length (a .found .now)) (a .work .now) → Driven l t (a .goal) s →
-    Picked l (a .goal) s (c .before .before .before .before .find-matches .last .1 .1 .1 .1 .0) (c .before .before .before .before .before .before .look-up .result) (c .first-reaching .result)
-the-row c l t s dec drv =
-    picked dec drv (c .before .before .before .before .before .before .before .before .before .before .before .before .before .before .before .pre .1 .1 .1 .2) (the-rows (c .before .before .before .before) l t s dec drv) (c .before .before .before .before .before .before .look-up .result) (c .first-reaching .result) (c .before .before .before .before .before .before .look-up .ensures) (c .first-reaching .ensures)
+the-row : (c : Reached) (l : Library) (t : Tree) (s : Shape) → let a = entry (searched c) .args in
+    Prepared (a .most) l t (a .rows .now) (a .symbols .now) (a .sizes .now) (length (a .found .now)) (a .work .now) → Driven l t (a .goal) s → Picked l (a .goal) s (a .rows .now) (table (searched c)) (word c) (place c)
+the-row c l t s dec drv = picked dec drv (entry (searched c) .pre .1 .1 .1 .2) (the-rows (searched c) l t s dec drv) (word c) (place c) (c .before .before .before .before .before .before .look-up .ensures) (c .first-reaching .ensures)
 
-own-row : (c : lts.After-first-reaching claims reads.Pre reads.Post) → let p = c .before .before .before .before .before .before .before .before .before .before .before .before .before .before .before .pre in
-    Picked (p .0) (c .before .before .before .before .before .before .before .before .before .before .before .before .before .before .before .args .goal) (p .1 .1 .0) (c .before .before .before .before .find-matches .last .1 .1 .1 .1 .0) (c .before .before .before .before .before .before .look-up .result) (c .first-reaching .result)
-own-row c = let p = c .before .before .before .before .before .before .before .before .before .before .before .before .before .before .before .pre in the-row c (p .0) (p .1 .0) (p .1 .1 .0) (p .1 .1 .1 .0) (p .1 .1 .1 .1)
+own-row : (c : Reached) → let p = entry (searched c) .pre in let a = entry (searched c) .args in Picked (p .0) (a .goal) (p .1 .1 .0) (a .rows .now) (table (searched c)) (word c) (place c)
+own-row c = let p = entry (searched c) .pre in the-row c (p .0) (p .1 .0) (p .1 .1 .0) (p .1 .1 .1 .0) (p .1 .1 .1 .1)
 
--- It is within the table, which is not long.
-few : (c : lts.After-first-reaching claims reads.Pre reads.Post) → matchWords * c .first-reaching .result + matchWords ≤ matchTable
-few c = omega (arith, own-row c .inside, c .before .before .before .before .find-matches .kept .1 .1 .1 .1 .0, c .before .before .before .before .before .before .before .before .before .before .before .before .before .before .before .pre .1 .1 .1 .0 .room-is)
+-- It is within the table, which is not long; its pattern is one whose row is there.
+few : (c : Reached) → matchBytes * place c + matchBytes ≤ matchTable
+few c = omega (arith, own-row c .inside, searched c .find-matches .kept .1 .1 .1 .1 .0, entry (searched c) .pre .1 .1 .1 .0 .room-is)
+
+pattern-is : (c : Reached) → getD (rowOf (table (searched c)) (place c)) 0 0 ≡ getD (table (searched c)) (matchBytes * place c + 0) 0
+pattern-is c = part-word matchBytes (matchBytes * place c) (table (searched c)) 0 (omega arith)
+
+known : (c : Reached) → rowWords * (getD (table (searched c)) (matchBytes * place c + 0) 0 + 1) ≤ length (entry (searched c) .args .rows .now)
+known c = omega (arith, own-row c .known .known, pattern-is c)
+
+-- The two parts that are lent are the pattern's row and the match's.
+the-pattern : (c : Reached) → let at = rowWords * getD (table (searched c)) (matchBytes * place c + 0) 0 in let rows = entry (searched c) .args .rows .now in
+    take (at + rowWords - at) (drop at rows) ≡ patternOf rows (rowOf (table (searched c)) (place c))
+the-pattern c =
+    let at = rowWords * getD (table (searched c)) (matchBytes * place c + 0) 0 in
+    let part : at + rowWords - at ≡ rowWords = omega arith in
+    ap₂ (λ m k. take m (drop (rowWords * k) (entry (searched c) .args .rows .now))) part (sym (pattern-is c))
+
+the-match : (c : Reached) → let at = matchBytes * place c in take (at + matchBytes - at) (drop at (table (searched c))) ≡ rowOf (table (searched c)) (place c)
+the-match c =
+    let at = matchBytes * place c in
+    let part : at + matchBytes - at ≡ matchBytes = omega arith in
+    ap (λ m. take m (drop at (table (searched c)))) part
 
 mul-look-up : tie.Need-mul-look-up
 mul-look-up c = omega (arith, near (c .before .before .before .before .before .before) .node-small)
 
 add-look-up : tie.Need-add-look-up
-add-look-up c = omega (arith, near (c .before .before .before .before .before .before .before) .node-small, near (c .before .before .before .before .before .before .before) .bin-small)
+add-look-up c = let n = near (c .before .before .before .before .before .before .before) in omega (arith, n .node-small, n .bin-small)
 
 add-look-up-2 : tie.Need-add-look-up-2
 add-look-up-2 c = search needs
@@ -61,7 +104,7 @@ cast-look-up : tie.Need-cast-look-up
 cast-look-up c = search needs
 
 look-up-requires : tie.Need-look-up-requires
-look-up-requires c κs = (c .before .before .before .before .before .before .before .before .pre .1 .1 .1 .0 .area, omega (arith, near (c .before .before .before .before .before .before .before .before) .node-small, near (c .before .before .before .before .before .before .before .before) .bin-small))
+look-up-requires c κs = let n = near (c .before .before .before .before .before .before .before .before) in (c .before .before .before .before .before .before .before .before .pre .1 .1 .1 .0 .area, omega (arith, n .node-small, n .bin-small))
 
 find-matches-requires : tie.Need-find-matches-requires
 find-matches-requires c κs =
@@ -70,22 +113,35 @@ find-matches-requires c κs =
 
 first-reaching-requires : tie.Need-first-reaching-requires
 first-reaching-requires c κs =
-    let p = c .before .before .before .before .before .before .before .before .before .before .before .before .before .before .pre in
+    let call = c .before .before .before in
+    let p = entry call .pre in
     let dec = p .1 .1 .1 .0 in
     let drv = p .1 .1 .1 .1 in
-    let w = c .before .before .before .before .before .look-up in (
-      rows-ready (ready dec drv) (the-rows (c .before .before .before) (p .0) (p .1 .0) (p .1 .1 .0) dec drv) (dec .area),
-      (near (c .before .before .before .before .before .before .before .before .before .before .before .before .before .before) .load-small, word-found dec drv (w .result) (w .ensures) (gate-here (ready dec drv) (p .1 .1 .1 .2)) .0),
+    let w = call .before .before .look-up in (
+      rows-ready (ready dec drv) (the-rows call (p .0) (p .1 .0) (p .1 .1 .0) dec drv) (dec .area),
+      (near (entry call) .load-small, word-found dec drv (w .result) (w .ensures) (gate-here (ready dec drv) (p .1 .1 .1 .2)) .0),
     )
 
 mul-first : tie.Need-mul-first
 mul-first c = omega (arith, few c)
 
+add-at : tie.Need-add-at
+add-at c = omega (arith, few c)
+
+slice-read-at : tie.Need-slice-read-at
+slice-read-at c = omega (arith, own-row (c .before) .inside)
+
+cast-at : tie.Need-cast-at
+cast-at c = omega (arith, known (c .before))
+
+mul-at : tie.Need-mul-at
+mul-at c = omega (arith, known (c .before))
+
 add-read-inputs : tie.Need-add-read-inputs
-add-read-inputs c = omega (arith, few c)
+add-read-inputs c = omega (arith, known (c .before))
 
 mul-read-inputs : tie.Need-mul-read-inputs
-mul-read-inputs c = omega (arith, few c)
+mul-read-inputs c = omega (arith, known (c .before))
 
 sub-read-inputs : tie.Need-sub-read-inputs
 sub-read-inputs c = search needs
@@ -94,33 +150,40 @@ part-read-inputs-start : tie.Need-part-read-inputs-start
 part-read-inputs-start c = search needs
 
 part-read-inputs-end : tie.Need-part-read-inputs-end
-part-read-inputs-end c = omega (arith, own-row (c .before) .inside)
+part-read-inputs-end c = omega (arith, known (c .before))
+
+add-read-inputs-2 : tie.Need-add-read-inputs-2
+add-read-inputs-2 c = omega (arith, few (c .before .before))
+
+sub-read-inputs-2 : tie.Need-sub-read-inputs-2
+sub-read-inputs-2 c = search needs
+
+part-read-inputs-start-2 : tie.Need-part-read-inputs-start-2
+part-read-inputs-start-2 c = search needs
+
+part-read-inputs-end-2 : tie.Need-part-read-inputs-end-2
+part-read-inputs-end-2 c = omega (arith, own-row (c .before .before .before) .inside)
 
 cast-read-inputs : tie.Need-cast-read-inputs
 cast-read-inputs c = search needs
 
 read-inputs-requires : tie.Need-read-inputs-requires
 read-inputs-requires c κs =
-    let k = own-row (c .before .before) in
-    let r = c .before .before .first-reaching .result in
-    let t = c .before .before .before .before .before .before .find-matches .last .1 .1 .1 .1 .0 in
-    let part : matchWords * r + matchWords - matchWords * r ≡ matchWords = omega arith in
-    subst (λ (n : ℕ). let row = take n (drop (matchWords * r) t) in RowSafe row × (length row ≡ matchWords) × (getD row 0 0 < 128) × (c .before .before .before .before .before .before .before .before .before .before .before .before .before .before .before .before .before .args .goal .load ≤ 255)) (sym part)
-    (k .safe, k .long, k .number, near (c .before .before .before .before .before .before .before .before .before .before .before .before .before .before .before .before .before) .load-small)
+    let q = c .before .before .before .before in
+    let k = own-row q in
+    rw (the-pattern q, the-match q) (k .known .safe, part-length rowWords (rowWords * getD (rowOf (table (searched q)) (place q)) 0 0) (entry (searched q) .args .rows .now) (omega (arith, k .known .known)), k .long, near (entry (searched q)) .load-small)
 
 same-length : tie.Need-same-length
 same-length c = search needs
 
 returns : tie.Need-returns
 returns c = λ l t s dec drv.
-    let a = c .before .before .before .before .before .before .before .before .before .before .before .before .before .before .before .before .before .before .args in
-    let r = c .before .before .before .first-reaching .result in
-    let f = c .before .before .before .before .before .before .before .find-matches .last .1 .1 .1 .1 .0 in
-    let w = c .before .before .before .before .before .before .before .before .before .look-up .result in
+    let q = c .before .before .before .before .before in
+    let a = entry (searched q) .args in
     let x = c .read-inputs .result in
-    let part : matchWords * r + matchWords - matchWords * r ≡ matchWords = omega arith in
-    picked-inputs (the-row (c .before .before .before) l t s dec drv) x
-    (subst (λ (n : ℕ). (l : Library) (m : Match) → RowHolds l (take n (drop (matchWords * r) f)) m → InputsAre l m (a .goal .load) (w % base) x) part (c .read-inputs .ensures))
+    picked-inputs (the-row q l t s dec drv) x
+    (subst (λ row. (l : Library) (m : Match) → RowHolds l (patternOf (a .rows .now) (rowOf (table (searched q)) (place q))) row m → InputsAre l m (a .goal .load) (word q % base) x) (the-match q)
+    (subst (λ pattern. (l : Library) (m : Match) → RowHolds l pattern (take (matchBytes * place q + matchBytes - matchBytes * place q) (drop (matchBytes * place q) (table (searched q)))) m → InputsAre l m (a .goal .load) (word q % base) x) (the-pattern q) (c .read-inputs .ensures)))
 
 pub choose-match-spec : {M : Type 1} → statement M
 choose-match-spec =
@@ -134,11 +197,19 @@ choose-match-spec =
     find-matches-requires
     first-reaching-requires
     mul-first
+    add-at
+    slice-read-at
+    cast-at
+    mul-at
     add-read-inputs
     mul-read-inputs
     sub-read-inputs
     part-read-inputs-start
     part-read-inputs-end
+    add-read-inputs-2
+    sub-read-inputs-2
+    part-read-inputs-start-2
+    part-read-inputs-end-2
     cast-read-inputs
     read-inputs-requires
     same-length

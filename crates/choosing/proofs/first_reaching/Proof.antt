@@ -6,17 +6,17 @@ use mathlib.Core.Logic.{_⊎_, inl, inr}
 use Rattle.covers.proofs.Basics.{lt-or-le}
 use Rattle.covers.specs.Curve.{base}
 use Rattle.curves.specs.Best.{rowOf}
-use Rattle.curves.proofs.Laws.{row-tables}
+use Rattle.curves.proofs.Laws.{row-ready}
 use Rattle.choosing.specs.Promises.{Reaches}
 use Rattle.choosing.proofs.Reading.{reached, unreached}
 use Rattle.choosing.proofs.first_reaching.Statement.{statement}
 use Rattle.choosing.proofs.first_reaching.Tie as tie
 
 abbrev Inv-loop : tie.InvT-loop
-Inv-loop found count symbols work most load w j₀ j = (j ≤ count) × ((i : ℕ) → i < j → Reaches most symbols work load w (rowOf found i) → ⊥)
+Inv-loop rows found count symbols work most load w j₀ j = (j ≤ count) × ((i : ℕ) → i < j → Reaches most symbols work rows load w (rowOf found i) → ⊥)
 
 abbrev μ-loop : tie.MeasureT-loop
-μ-loop found count symbols work most load w j₀ j = count - j
+μ-loop rows found count symbols work most load w j₀ j = count - j
 
 loop-holds : tie.Need-loop-holds Inv-loop μ-loop
 loop-holds c = (omega arith, λ i h. absurd (omega arith))
@@ -26,8 +26,8 @@ add-match-best c = omega arith
 
 match-best-requires : tie.Need-match-best-requires Inv-loop μ-loop
 match-best-requires c κs =
-    let p = c .before .before .before .before .before .pre in
-    (row-tables (p .0) (c .before .loop .j) (omega arith), (p .1 .0, omega arith))
+    let p = c .before .before .before .before .before .before .pre in
+    (row-ready (p .0) (c .before .loop .j) (omega arith), (p .0 .sources, (p .1 .0, omega arith)))
 
 add-j : tie.Need-add-j Inv-loop μ-loop
 add-j c = omega arith
@@ -41,12 +41,12 @@ loop-again c =
     (omega arith, λ k h. go k (lt-or-le k (i .j)) h)
   where
     go : (k : ℕ) → (k < c .before .before .before .loop .j) ⊎ (c .before .before .before .loop .j ≤ k) → k < c .before .before .before .loop .j + 1 →
-        let a = c .before .before .before .before .before .before .before .args in Reaches (a .most) (a .symbols .now) (a .work .now) (a .load) (a .w) (rowOf (a .found .now) k) → ⊥
+        let a = c .before .before .before .before .before .before .before .before .args in Reaches (a .most) (a .symbols .now) (a .work .now) (a .rows .now) (a .load) (a .w) (rowOf (a .found .now) k) → ⊥
     go k (inl l) h = c .before .before .before .loop .inv .1 k l
     go k (inr l) h =
-        let a = c .before .before .before .before .before .before .before .args in
+        let a = c .before .before .before .before .before .before .before .before .args in
         let e : c .before .before .before .loop .j ≡ k = omega arith in
-        subst (λ (q : ℕ). Reaches (a .most) (a .symbols .now) (a .work .now) (a .load) (a .w) (rowOf (a .found .now) q) → ⊥) e
+        subst (λ (q : ℕ). Reaches (a .most) (a .symbols .now) (a .work .now) (a .rows .now) (a .load) (a .w) (rowOf (a .found .now) q) → ⊥) e
         (unreached (a .w) (c .before .match-best .result) (a .w % base + 1) _ (omega arith) (c .before .match-best .ensures) (c .if1 .left))
 
 returns : tie.Need-returns Inv-loop μ-loop
@@ -58,7 +58,7 @@ returns-2 : tie.Need-returns-2 Inv-loop μ-loop
 returns-2 c =
     let i = c .before .before .before .loop in
     let w = c .before .match-best in
-    let a = c .before .before .before .before .before .before .before .args in
+    let a = c .before .before .before .before .before .before .before .before .args in
     record { within = i .inv .0; before = i .inv .1; here = λ h. reached (a .w) (w .result) (a .w % base + 1) _ (omega arith) (w .ensures) (c .if1 .taken) }
 
 pub first-reaching-spec : {M : Type 1} → statement M

@@ -2,140 +2,173 @@
 use native.Mathlib.Omega.{arith}
 use Prim.Native.Nat.{ℕ, _-_, _≤_, _<_}
 use mathlib.Core.Path.{_≡_, refl, _∙_}
+use mathlib.Core.List.{List}
 use lib.ListN.{length, getD, length-set}
 use Rattle.sheets.specs.Model.{Library}
+use Rattle.sheets.specs.Layout.{rowWords}
 use Rattle.covers.specs.Match.{Match}
-use Rattle.curves.specs.Best.{rowCount}
+use Rattle.matching.specs.Found.{matchBytes}
+use Rattle.curves.specs.Best.{rowCount, InputSafe}
 use Rattle.choosing.specs.Promises.{RowHolds, goalOf, noInput}
-use Rattle.choosing.proofs.Reading.{goalIn, count-at, pattern-at, inputs-turn}
+use Rattle.choosing.proofs.Reading.{goalIn, count-at, pattern-at, crossing-at, inputs-turn}
 use Rattle.choosing.proofs.read_inputs.Statement.{statement}
 use Rattle.choosing.proofs.read_inputs.Tie as tie
+use Rattle.choosing.proofs.read_inputs.Reads as reads
+use Rattle.choosing.proofs.read_inputs.Lts as lts
+use Rattle.choosing.proofs.time_left.Reads as time-left-reads
 
 abbrev Inv-loop : tie.InvT-loop
-Inv-loop row load time nodes₀ loads₀ bins₀ times₀ count k₀ nodes loads bins times k =
-    (k ≤ count) × (count ≡ rowCount row) × (length nodes ≡ 16) × (length loads ≡ 16) × (length bins ≡ 16) × (length times ≡ 16)
-    × ((l : Library) (m : Match) → RowHolds l row m → (i : ℕ) → i < k → goalIn nodes loads bins times i ≡ goalOf l m load time (getD (m .inputs) i noInput))
+Inv-loop pattern row load time nodes₀ loads₀ bins₀ times₀ count k₀ nodes loads bins times k =
+    (k ≤ count) × (count ≡ rowCount row) × (length nodes ≡ 6) × (length loads ≡ 6) × (length bins ≡ 6) × (length times ≡ 6)
+    × ((l : Library) (m : Match) → RowHolds l pattern row m → (i : ℕ) → i < k → goalIn nodes loads bins times i ≡ goalOf l m load time (getD (m .inputs) i noInput))
 
 abbrev μ-loop : tie.MeasureT-loop
-μ-loop row load time nodes₀ loads₀ bins₀ times₀ count k₀ nodes loads bins times k = count - k
+μ-loop pattern row load time nodes₀ loads₀ bins₀ times₀ count k₀ nodes loads bins times k = count - k
+
+-- What the loop may read and write.
+record Near (pattern row : List ℕ) (k : ℕ) : Type 0 where
+  pattern-long : length pattern ≡ rowWords
+  row-long : length row ≡ matchBytes
+  few : k < 6
+  safe : InputSafe pattern row k
+
+near : (c : tie.In-loop Inv-loop μ-loop) → let a = c .before .before .before .before .before .args in Near (a .pattern .now) (a .row .now) (c .before .loop .k)
+near c =
+    let p = c .before .before .before .before .before .pre in
+    let a = c .before .before .before .before .before .args in
+    let below : c .before .loop .k < rowCount (a .row .now) = omega (arith, c .loop-test .taken, c .before .loop .inv .1) in
+    record { pattern-long = p .1; row-long = p .2; few = omega (arith, p .0 .few, c .loop-test .taken, c .before .loop .inv .1); safe = p .0 .inputs (c .before .loop .k) below }
 
 shared-slice-read-count : tie.Need-shared-slice-read-count Inv-loop μ-loop
-shared-slice-read-count c = omega arith
+shared-slice-read-count c = omega (arith, c .before .before .before .pre .2)
 
 cast-count : tie.Need-cast-count Inv-loop μ-loop
-cast-count c = omega arith
+cast-count c = omega (arith, c .before .before .before .pre .0 .few)
 
 loop-holds : tie.Need-loop-holds Inv-loop μ-loop
 loop-holds c = (omega arith, refl, refl, refl, refl, refl, λ l m h i g. absurd (omega arith))
 
 mul-at : tie.Need-mul-at Inv-loop μ-loop
-mul-at c = omega arith
+mul-at c = let b = near (c) in omega arith
 
 add-at : tie.Need-add-at Inv-loop μ-loop
-add-at c = omega arith
+add-at c = let b = near (c) in omega arith
 
-mul-nodes : tie.Need-mul-nodes Inv-loop μ-loop
-mul-nodes c = omega arith
+shared-slice-read-figures : tie.Need-shared-slice-read-figures Inv-loop μ-loop
+shared-slice-read-figures c = let b = near (c .before) in omega arith
+
+cast-figures : tie.Need-cast-figures Inv-loop μ-loop
+cast-figures c = let b = near (c .before) in omega (arith, b .safe .pin)
+
+mul-figures : tie.Need-mul-figures Inv-loop μ-loop
+mul-figures c = let b = near (c .before) in omega (arith, b .safe .pin)
+
+add-figures : tie.Need-add-figures Inv-loop μ-loop
+add-figures c = let b = near (c .before) in omega (arith, b .safe .pin)
+
+add-nodes : tie.Need-add-nodes Inv-loop μ-loop
+add-nodes c = let b = near (c .before) in omega arith
 
 shared-slice-read-nodes : tie.Need-shared-slice-read-nodes Inv-loop μ-loop
-shared-slice-read-nodes c = omega arith
-
-cast-nodes : tie.Need-cast-nodes Inv-loop μ-loop
-cast-nodes c = omega (arith, c .before .before .before .before .before .pre .0 .inputs (c .before .before .loop .k) (omega arith) .node)
+shared-slice-read-nodes c = let b = near (c .before .before) in omega arith
 
 array-write-nodes : tie.Need-array-write-nodes Inv-loop μ-loop
-array-write-nodes c = omega arith
+array-write-nodes c = let b = near (c .before .before) in omega arith
 
 add-loads : tie.Need-add-loads Inv-loop μ-loop
-add-loads c = omega arith
+add-loads c = let b = near (c .before .before) in omega (arith, b .safe .pin)
 
 mul-loads : tie.Need-mul-loads Inv-loop μ-loop
-mul-loads c = omega arith
+mul-loads c = let b = near (c .before .before) in omega (arith, b .safe .pin)
 
 shared-slice-read-loads : tie.Need-shared-slice-read-loads Inv-loop μ-loop
-shared-slice-read-loads c = omega arith
+shared-slice-read-loads c = let b = near (c .before .before .before) in omega (arith, b .safe .pin)
 
 cast-loads : tie.Need-cast-loads Inv-loop μ-loop
-cast-loads c = omega (arith, c .before .before .before .before .before .before .pre .0 .inputs (c .before .before .before .loop .k) (omega arith) .load)
+cast-loads c = let b = near (c .before .before .before) in omega (arith, b .safe .load)
 
 array-write-loads : tie.Need-array-write-loads Inv-loop μ-loop
-array-write-loads c = omega arith
-
-add-bins : tie.Need-add-bins Inv-loop μ-loop
-add-bins c = omega arith
+array-write-loads c = let b = near (c .before .before .before) in omega arith
 
 mul-bins : tie.Need-mul-bins Inv-loop μ-loop
-mul-bins c = omega arith
+mul-bins c = let b = near (c .before .before .before) in omega (arith, b .safe .pin)
 
 shared-slice-read-bins : tie.Need-shared-slice-read-bins Inv-loop μ-loop
-shared-slice-read-bins c = omega arith
+shared-slice-read-bins c = let b = near (c .before .before .before .before) in omega (arith, b .safe .pin)
 
 cast-bins : tie.Need-cast-bins Inv-loop μ-loop
-cast-bins c = omega (arith, c .before .before .before .before .before .before .before .pre .0 .inputs (c .before .before .before .before .loop .k) (omega arith) .bin)
+cast-bins c = let b = near (c .before .before .before .before) in omega (arith, b .safe .bin)
 
 array-write-bins : tie.Need-array-write-bins Inv-loop μ-loop
-array-write-bins c = omega arith
+array-write-bins c = let b = near (c .before .before .before .before) in omega arith
 
 add-time-left : tie.Need-add-time-left Inv-loop μ-loop
-add-time-left c = omega arith
+add-time-left c = let b = near (c .before .before .before .before) in omega (arith, b .safe .pin)
 
 mul-time-left : tie.Need-mul-time-left Inv-loop μ-loop
-mul-time-left c = omega arith
+mul-time-left c = let b = near (c .before .before .before .before) in omega (arith, b .safe .pin)
 
 shared-slice-read-time-left : tie.Need-shared-slice-read-time-left Inv-loop μ-loop
-shared-slice-read-time-left c = omega arith
+shared-slice-read-time-left c = let b = near (c .before .before .before .before .before) in omega (arith, b .safe .pin)
 
 add-time-left-2 : tie.Need-add-time-left-2 Inv-loop μ-loop
-add-time-left-2 c = omega arith
+add-time-left-2 c = let b = near (c .before .before .before .before .before) in omega (arith, b .safe .pin)
 
 mul-time-left-2 : tie.Need-mul-time-left-2 Inv-loop μ-loop
-mul-time-left-2 c = omega arith
+mul-time-left-2 c = let b = near (c .before .before .before .before .before) in omega (arith, b .safe .pin)
 
 shared-slice-read-time-left-2 : tie.Need-shared-slice-read-time-left-2 Inv-loop μ-loop
-shared-slice-read-time-left-2 c = omega arith
+shared-slice-read-time-left-2 c = let b = near (c .before .before .before .before .before .before) in omega (arith, b .safe .pin)
 
 time-left-requires : tie.Need-time-left-requires Inv-loop μ-loop
-time-left-requires c κs =
-    let p = c .before .before .before .before .before .before .before .before .before .pre in
-    let q = p .0 .inputs (c .before .before .before .before .before .before .loop .k) (omega arith) in
-    (q .intrinsic, q .drive, p .3)
+time-left-requires c κs = let q = near (c .before .before .before .before .before .before) .safe in (q .intrinsic, q .drive, c .before .before .before .before .before .before .before .before .before .before .before .pre .3)
 
 mul-times : tie.Need-mul-times Inv-loop μ-loop
-mul-times c = omega arith
+mul-times c = let b = near (c .before .before .before .before .before .before .before) in omega arith
 
 array-write-times : tie.Need-array-write-times Inv-loop μ-loop
-array-write-times c = omega arith
+array-write-times c = let b = near (c .before .before .before .before .before .before .before) in omega arith
 
 add-k : tie.Need-add-k Inv-loop μ-loop
-add-k c = omega arith
+add-k c = let b = near (c .before .before .before .before .before .before .before) in omega arith
 
 loop-less : tie.Need-loop-less Inv-loop μ-loop
-loop-less c = omega arith
+loop-less c = omega (arith, c .before .before .before .before .before .before .before .loop-test .taken)
 
 loop-again : tie.Need-loop-again Inv-loop μ-loop
 loop-again c =
-    let a = c .before .before .before .before .before .before .before .before .before .before .args in
-    let i = c .before .before .before .before .before .before .before .loop in (
-      omega arith,
-      refl,
+    let q = c .before .before .before .before .before .before .before in
+    let a = q .before .before .before .before .before .args in
+    let i = q .before .loop in (
+      omega (arith, q .loop-test .taken),
+      i .inv .1,
       length-set (i .nodes) (i .k) _ ∙ i .inv .2,
       length-set (i .loads) (i .k) _ ∙ i .inv .3,
       length-set (i .bins) (i .k) _ ∙ i .inv .4,
       length-set (i .times) (i .k) _ ∙ i .inv .5,
-      λ l m h. inputs-turn l (a .row .now) m h (a .load) (a .time) (i .k) (c .time-left .result) (i .nodes) (i .loads) (i .bins) (i .times) (omega arith) (i .inv .2) (i .inv .3) (i .inv .4) (i .inv .5) (c .time-left .ensures) (i .inv .6 l m h),
+      λ l m h.
+          inputs-turn l (a .pattern .now) (a .row .now) m h (a .load) (a .time) (i .k) (c .time-left .result) (i .nodes) (i .loads) (i .bins) (i .times) (omega (arith, q .loop-test .taken, i .inv .1)) (i .inv .2) (i .inv .3) (i .inv .4) (i .inv .5)
+          (c .time-left .ensures) (i .inv .6 l m h),
     )
 
-shared-slice-read-t12 : tie.Need-shared-slice-read-t12 Inv-loop μ-loop
-shared-slice-read-t12 c = omega arith
+shared-slice-read-t14 : tie.Need-shared-slice-read-t14 Inv-loop μ-loop
+shared-slice-read-t14 c = omega (arith, c .before .before .before .before .before .before .pre .2)
 
-cast-t37 : tie.Need-cast-t37 Inv-loop μ-loop
-cast-t37 c = omega arith
+shared-slice-read-t41 : tie.Need-shared-slice-read-t41 Inv-loop μ-loop
+shared-slice-read-t41 c = omega (arith, c .before .before .before .before .before .before .before .pre .2)
 
 returns : tie.Need-returns Inv-loop μ-loop
 returns c = λ l m h.
-    let a = c .before .before .before .before .before .args in
-    let many = count-at l (a .row .now) m h in
-    record { pattern-is = pattern-at l (a .row .now) m h; count-is = many; few = h .few; each = λ k g. c .before .before .loop .inv .6 l m h k (omega arith) }
+    let a = c .before .before .before .before .before .before .before .args in
+    let i = c .before .before .before .loop in
+    let many = count-at l (a .pattern .now) (a .row .now) m h in
+    record {
+      pattern-is = pattern-at l (a .pattern .now) (a .row .now) m h;
+      crossing-is = crossing-at l (a .pattern .now) (a .row .now) m h;
+      count-is = many;
+      few = h .few;
+      each = λ k g. i .inv .6 l m h k (omega (arith, many, c .before .before .loop-test .left, i .inv .1));
+    }
 
 pub read-inputs-spec : {M : Type 1} → statement M
 read-inputs-spec =
@@ -148,16 +181,18 @@ read-inputs-spec =
     loop-holds
     mul-at
     add-at
-    mul-nodes
+    shared-slice-read-figures
+    cast-figures
+    mul-figures
+    add-figures
+    add-nodes
     shared-slice-read-nodes
-    cast-nodes
     array-write-nodes
     add-loads
     mul-loads
     shared-slice-read-loads
     cast-loads
     array-write-loads
-    add-bins
     mul-bins
     shared-slice-read-bins
     cast-bins
@@ -174,6 +209,6 @@ read-inputs-spec =
     add-k
     loop-less
     loop-again
-    shared-slice-read-t12
-    cast-t37
+    shared-slice-read-t14
+    shared-slice-read-t41
     returns)

@@ -1,52 +1,60 @@
 use native.Mathlib.Omega.{arith}
-use Prim.Native.Nat.{ℕ, _+_, _-_, _≤_}
-use mathlib.Core.Path.{_≡_, refl, sym, subst}
+use Prim.Native.Nat.{ℕ, _-_, _≤_}
+use mathlib.Core.Path.{_≡_, refl, subst}
 use mathlib.Core.Option.{none}
+use mathlib.Core.Logic.{⊎-elim}
+use lib.ListN.{length, getD, length-set}
 use Rattle.curves.specs.Words.{matchLimit}
 use Rattle.curves.specs.Best.{rowsBest}
-use Rattle.curves.specs.Promises.{Worth}
-use Rattle.curves.proofs.Laws.{worth-none, rows-turn, row-tables}
+use Rattle.curves.specs.Promises.{Worth, Kept}
+use Rattle.curves.proofs.Laws.{worth-none, rows-turn, row-ready}
+use Rattle.curves.proofs.Lasting.{passed-over, worth-top, kept-set}
 use Rattle.curves.proofs.best.Statement.{statement}
 use Rattle.curves.proofs.best.Tie as tie
 
 abbrev Inv-loop : tie.InvT-loop
-Inv-loop found count symbols work most load end least₀ j₀ least j =
-    (j ≤ count) × Worth matchLimit end least (rowsBest most symbols work found load end j)
+Inv-loop rows found count symbols work kept₀ end load most least₀ j₀ kept least j = (j ≤ count) × (length kept ≡ length kept₀) × Kept most symbols work rows found load count end kept × Worth matchLimit end least (rowsBest most symbols work rows found load end j)
 
 abbrev μ-loop : tie.MeasureT-loop
-μ-loop found count symbols work most load end least₀ j₀ least j = count - j
+μ-loop rows found count symbols work kept₀ end load most least₀ j₀ kept least j = count - j
 
 loop-holds : tie.Need-loop-holds Inv-loop μ-loop
 unfolding rowsBest
-loop-holds c = (omega arith, worth-none matchLimit (c .before .before .before .args .end) none refl)
+loop-holds c = let s = c .before .before .before .before .before in (omega arith, refl, s .pre .1 .1 .1, worth-none matchLimit (s .args .end) none refl)
 
 match-best-requires : tie.Need-match-best-requires Inv-loop μ-loop
-match-best-requires c κs = (row-tables (c .before .before .before .before .before .pre .0) (c .before .loop .j) (c .loop-test .taken), c .before .before .before .before .before .pre .1)
+match-best-requires c κs =
+    let q = c .before .before .before in
+    let p = q .before .before .before .before .before .before .before .pre in
+    (row-ready (p .0) (q .before .loop .j) (q .loop-test .taken), (p .0 .sources, (p .1 .0 .0, p .1 .0 .1)))
 
 loop-again : tie.Need-loop-again Inv-loop μ-loop
 loop-again c =
-    let a = c .before .before .before .before .before .before .before .args in
-    let i = c .before .before .before .loop in (
-      omega arith,
-      subst (λ (v : ℕ). Worth matchLimit (a .end) v (rowsBest (a .most) (a .symbols .now) (a .work .now) (a .found .now) (a .load) (a .end) (i .j + 1))) (sym (c .lower .ensures))
-          (rows-turn (a .most) (a .symbols .now) (a .work .now) (a .found .now) (a .load) (a .end) (i .j) (i .least) (c .before .match-best .result) (i .inv .1) (c .before .match-best .ensures)),
-    )
+    let q = c .before .before in
+    let i = q .before .loop in
+    let s = q .before .before .before .before .before .before .before in
+    let k = i .inv .2 in
+    let rising = s .pre .1 .1 .0 (i .j) (q .loop-test .taken) in
+    let turn = rows-turn k (i .j) (i .least) in
+    let word = getD (i .kept) (i .j) 0 in
+    ⊎-elim
+    (λ t.
+    rw (t .3, t .4, t .2 .ensures)
+    (⊎-elim
+    (λ u. rw (u .2, u .3) (omega arith, simp length-set (i .inv .1), kept-set k (i .j) (u .1 .result) rising (omega arith) (λ k l n. l) (u .1 .ensures), turn (u .1 .result) (i .inv .3) (u .1 .ensures)))
+    (λ u. rw (u .1, u .2) (omega arith, i .inv .1, k, turn word (i .inv .3) (k .lasts (i .j) (q .loop-test .taken) _ (omega arith) (u .0 .left))))
+    (t .1 .came)))
+    (λ t.
+    let z = passed-over rising (s .args .end) (i .least) word (s .pre .1 .0 .1) (worth-top (omega arith) (i .inv .3)) (t .0 .left) (k .bounds (i .j) (q .loop-test .taken) (s .args .end) (omega arith)) in
+    rw (t .1, t .2) (omega arith, i .inv .1, k, rw (z .2) at (turn (z .0) (i .inv .3) (z .1))))
+    (c .if1 .came)
 
 returns : tie.Need-returns Inv-loop μ-loop
 returns c =
-    let a = c .before .before .before .before .before .args in
+    let a = c .before .before .before .before .before .before .before .args in
     let i = c .before .loop in
     let done : i .j ≡ a .count = omega arith in
-    subst (λ (n : ℕ). Worth matchLimit (a .end) (i .least) (rowsBest (a .most) (a .symbols .now) (a .work .now) (a .found .now) (a .load) (a .end) n)) done (i .inv .1)
-
-lower-requires : tie.Need-lower-requires Inv-loop μ-loop
-lower-requires c κs = omega arith
-
-add-j : tie.Need-add-j Inv-loop μ-loop
-add-j c = omega arith
-
-loop-less : tie.Need-loop-less Inv-loop μ-loop
-loop-less c = omega arith
+    record { least = rw done at (i .inv .3); lasting = i .inv .2 }
 
 pub best-spec : {M : Type 1} → statement M
 best-spec =
@@ -55,9 +63,14 @@ best-spec =
     Inv-loop
     μ-loop
     loop-holds
+    (λ c. omega arith)
+    (λ c. omega arith)
     match-best-requires
-    lower-requires
-    add-j
-    loop-less
+    (λ c. omega arith)
+    (λ c. omega arith)
+    (λ c κs. omega arith)
+    (λ c. omega arith)
+    (λ c. omega arith)
     loop-again
+    (λ c. omega arith)
     returns)

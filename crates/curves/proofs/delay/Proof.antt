@@ -5,21 +5,9 @@ use mathlib.Core.Path.{ap₂}
 use Rattle.curves.proofs.Laws.{drive-bound}
 use Rattle.curves.proofs.delay.Statement.{statement}
 use Rattle.curves.proofs.delay.Tie as tie
-use Rattle.curves.proofs.delay.Reads as reads
-use Rattle.curves.proofs.delay.Lts as lts
-use Rattle.curves.proofs.wide.Reads as wide-reads
 
 product : (c : tie.After-wide3) → c .before .wide2 .result * c .wide3 .result ≤ 65025
 product c = drive-bound (c .before .wide2 .result) (c .wide3 .result) (omega (arith, c .before .wide2 .ensures)) (omega (arith, c .wide3 .ensures))
-
-wide-requires : tie.Need-wide-requires
-wide-requires c κs = search needs
-
-wide-requires-2 : tie.Need-wide-requires-2
-wide-requires-2 c κs = search needs
-
-wide-requires-3 : tie.Need-wide-requires-3
-wide-requires-3 c κs = search needs
 
 mul-result : tie.Need-mul-result
 mul-result c = record { fits = omega (arith, product c) }
@@ -33,4 +21,10 @@ returns c = (ap₂ _+_ (c .before .before .wide .ensures) (ap₂ _*_ (c .before 
 pub delay-spec : {M : Type 1} → statement M
 delay-spec =
     tie.close
-    (tie.spec wide-requires wide-requires-2 wide-requires-3 mul-result add-result returns)
+    (tie.spec
+    (λ c κs. search needs)
+    (λ c κs. search needs)
+    (λ c κs. search needs)
+    mul-result
+    add-result
+    returns)

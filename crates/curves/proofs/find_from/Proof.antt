@@ -9,18 +9,6 @@ use Rattle.curves.proofs.Laws.{worth-none, found-end}
 use Rattle.curves.proofs.find_from.Statement.{statement}
 use Rattle.curves.proofs.find_from.Tie as tie
 
-sub-probe-words : tie.Need-sub-probe-words
-sub-probe-words c = search needs
-
-probe-words-requires : tie.Need-probe-words-requires
-probe-words-requires c κs = search needs
-
-enum-known-w : tie.Need-enum-known-w
-enum-known-w c = search needs
-
-enum-told : tie.Need-enum-told
-enum-told c = search needs
-
 returns : tie.Need-returns
 returns c =
     let a = c .before .before .before .before .before .args in
@@ -37,4 +25,10 @@ returns-2 c =
 pub find-from-spec : {M : Type 1} → statement M
 find-from-spec =
     tie.close
-    (tie.spec sub-probe-words probe-words-requires enum-known-w enum-told returns returns-2)
+    (tie.spec
+    (λ c. search needs)
+    (λ c κs. search needs)
+    (λ c. search needs)
+    (λ c. search needs)
+    returns
+    returns-2)

@@ -37,29 +37,17 @@ returns-4 c =
     let a = c .before .before .before .before .before .before .args in
     subst (Worth pointLimit (a .end) (c .look-up .result)) (gate-best (a .most) (a .symbols .now) (a .work .now) (a .node) (a .bin) (a .load) (a .end) (omega (arith, c .before .before .if1 .left))) (c .look-up .ensures)
 
-mul-symbol : tie.Need-mul-symbol
-mul-symbol c = search needs
-
-shared-slice-read-symbol : tie.Need-shared-slice-read-symbol
-shared-slice-read-symbol c = search needs
-
-mul-look-up : tie.Need-mul-look-up
-mul-look-up c = search needs
-
-add-look-up : tie.Need-add-look-up
-add-look-up c = search needs
-
 pub input-best-spec : {M : Type 1} → statement M
 input-best-spec =
     tie.close
     (tie.spec
-    mul-symbol
-    shared-slice-read-symbol
+    (λ c. search needs)
+    (λ c. search needs)
     leaf-arrival-requires
     returns
     returns-2
     returns-3
-    mul-look-up
-    add-look-up
+    (λ c. search needs)
+    (λ c. search needs)
     look-up-requires
     returns-4)

@@ -41,26 +41,17 @@ returns c =
     let part : first + (a .most + 1) - first ≡ a .most + 1 = omega arith in
     subst (λ (n : ℕ). Worth pointLimit (a .end) (c .find .result) (lookup (a .end) (stored (take n (drop first (a .work .now)))))) part (c .find .ensures)
 
-add-first : tie.Need-add-first
-add-first c = search needs
-
-sub-find : tie.Need-sub-find
-sub-find c = search needs
-
-part-find-start : tie.Need-part-find-start
-part-find-start c = search needs
-
 pub look-up-spec : {M : Type 1} → statement M
 look-up-spec =
     tie.close
     (tie.spec
-    add-first
+    (λ c. search needs)
     mul-first
     add-find
     add-find-2
     mul-find
-    sub-find
-    part-find-start
+    (λ c. search needs)
+    (λ c. search needs)
     part-find-end
     find-requires
     returns)

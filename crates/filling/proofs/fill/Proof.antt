@@ -12,27 +12,27 @@ use Rattle.filling.proofs.fill.Statement.{statement}
 use Rattle.filling.proofs.fill.Tie as tie
 
 abbrev Inv-loop : tie.InvT-loop
-Inv-loop rows bins most found₀ work₀ tree node₀ found work node =
-    ((0 < node) × (node ≤ tree .count)) × (length found ≡ length found₀) × (length work ≡ length work₀) × ((l : Library) (t : Tree) → FillStart l t rows bins tree most found₀ work₀ → Progress most l t node work)
+Inv-loop rows bins most found₀ work₀ kept₀ tree node₀ found work kept node =
+    ((0 < node) × (node ≤ tree .count)) × (length found ≡ length found₀) × (length work ≡ length work₀) × (length kept ≡ length kept₀) × ((l : Library) (t : Tree) → FillStart l t rows bins tree most found₀ work₀ → Progress most l t node work)
 
 abbrev μ-loop : tie.MeasureT-loop
-μ-loop rows bins most found₀ work₀ tree node₀ found work node = node
+μ-loop rows bins most found₀ work₀ kept₀ tree node₀ found work kept node = node
 
 -- a node's call in the loop, and the root's after it
 abbrev Call : Type 0
-Call = tie.After-fill-at-arg6 Inv-loop μ-loop
+Call = tie.After-fill-at-arg7 Inv-loop μ-loop
 
 abbrev RootCall : Type 0
-RootCall = tie.After-fill-at-arg12 Inv-loop μ-loop
+RootCall = tie.After-fill-at-arg14 Inv-loop μ-loop
 
 abbrev loop-of : Call → tie.At-loop Inv-loop μ-loop
-loop-of c = c .before .before .before .before .before .before .before .before
+loop-of c = c .before .before .before .before .before .before .before .before .before
 
 abbrev loop-before : RootCall → tie.At-loop Inv-loop μ-loop
-loop-before c = c .before .before .before .before .before .before .before .before
+loop-before c = c .before .before .before .before .before .before .before .before .before
 
 abbrev start-of : tie.At-loop Inv-loop μ-loop → tie.Start Inv-loop μ-loop
-start-of i = i .before .before .before .before
+start-of i = i .before .before .before .before .before
 
 abbrev Started : tie.At-loop Inv-loop μ-loop → Library → Tree → Type 0
 Started i l t = let a = start-of i .args in FillStart l t (a .rows .now) (a .bins) (a .t3) (a .most) (a .found .now) (a .work .now)
@@ -41,16 +41,16 @@ so-far : (c : Call) (l : Library) (t : Tree) → let i = loop-of c in Started i 
 so-far c l t g =
     let i = loop-of c in
     let e : i .loop .node ≡ i .loop .node - 1 + 1 = omega arith in
-    subst (λ (k : ℕ). Progress (start-of i .args .most) l t k (i .loop .work)) e (i .loop .inv .3 l t g)
+    subst (λ (k : ℕ). Progress (start-of i .args .most) l t k (i .loop .work)) e (i .loop .inv .4 l t g)
 
 to-root : (c : RootCall) (l : Library) (t : Tree) → let i = loop-before c in Started i l t → Progress (start-of i .args .most) l t 1 (i .loop .work)
 to-root c l t g =
     let i = loop-before c in
     let e : i .loop .node ≡ 1 = omega (arith, i .loop .inv .0 .0) in
-    subst (λ (k : ℕ). Progress (start-of i .args .most) l t k (i .loop .work)) e (i .loop .inv .3 l t g)
+    subst (λ (k : ℕ). Progress (start-of i .args .most) l t k (i .loop .work)) e (i .loop .inv .4 l t g)
 
 loop-holds : tie.Need-loop-holds Inv-loop μ-loop
-loop-holds c = ((some-node (c .before .before .before .pre .1 .1), le-refl _), refl, refl, λ l t g. begun g)
+loop-holds c = ((some-node (c .before .before .before .before .pre .0 .1 .1), le-refl _), refl, refl, refl, λ l t g. begun g)
 
 sub-node : tie.Need-sub-node Inv-loop μ-loop
 sub-node c = omega arith
@@ -58,24 +58,18 @@ sub-node c = omega arith
 fill-at-requires : tie.Need-fill-at-requires Inv-loop μ-loop
 fill-at-requires c κs =
     let i = loop-of c in
-    let p = start-of i .pre in
+    let p = start-of i .pre .0 in
     let x = ready-below (p .1 .1) (i .loop .inv .1) (i .loop .inv .2) (i .loop .node - 1) (omega (arith, i .loop .inv .0 .0, i .loop .inv .0 .1)) (so-far c (p .0) (p .1 .0) (p .1 .1)) in
-    (p .0, (p .1 .0, x))
+    ((p .0, (p .1 .0, x)), omega (arith, start-of i .pre .1, i .loop .inv .3))
 
 too-many-requires : tie.Need-too-many-requires Inv-loop μ-loop
-too-many-requires c κs = few-bins (start-of (loop-of (c .before .before .before .before .before)) .pre .1 .1)
-
-same-length : tie.Need-same-length Inv-loop μ-loop
-same-length c = search needs
-
-same-length-2 : tie.Need-same-length-2 Inv-loop μ-loop
-same-length-2 c = search needs
+too-many-requires c κs = few-bins (start-of (loop-of (c .before .before .before .before .before .before .before)) .pre .0 .1 .1)
 
 returns : tie.Need-returns Inv-loop μ-loop
 returns c = λ l t g.
-    let d = c .before .before .before .before .before .before .before in
+    let d = c .before .before .before .before .before .before .before .before .before in
     let i = loop-of d .loop in
-    let call = c .before .before .before .before .before .before .fill-at in
+    let call = c .before .before .before .before .before .before .before .before .fill-at in
     turn-below g (i .inv .1) (i .inv .2) (i .node - 1) (omega arith) (omega (arith, i .inv .0 .1)) (so-far d l t g) (call .ensures l t) .0
     (subst (λ (q : Bool). Exceeds (below (start-of (loop-of d) .args .bins) (start-of (loop-of d) .args .most) (i .node - 1)) q (call .result)) (c .if1 .taken) (c .before .too-many .ensures))
 
@@ -84,12 +78,13 @@ loop-less c = omega arith
 
 loop-again : tie.Need-loop-again Inv-loop μ-loop
 loop-again c =
-    let d = c .before .before .before .before .before .before .before in
+    let d = c .before .before .before .before .before .before .before .before .before in
     let i = loop-of d .loop in
-    let call = c .before .before .before .before .before .before .fill-at in (
+    let call = c .before .before .before .before .before .before .before .before .fill-at in (
       (omega arith, omega (arith, i .inv .0 .1)),
       call .kept .1 .1 .1 .1 .0 ∙ i .inv .1,
       call .kept .1 .1 .1 .1 .1 .0 ∙ i .inv .2,
+      call .kept .1 .1 .1 .1 .1 .1 .0 ∙ i .inv .3,
       λ l t g.
           turn-below g (i .inv .1) (i .inv .2) (i .node - 1) (omega arith) (omega (arith, i .inv .0 .1)) (so-far d l t g) (call .ensures l t) .1
           (subst (λ (q : Bool). Exceeds (below (start-of (loop-of d) .args .bins) (start-of (loop-of d) .args .most) (i .node - 1)) q (call .result)) (c .if1 .left) (c .before .too-many .ensures)),
@@ -98,38 +93,26 @@ loop-again c =
 fill-at-requires-2 : tie.Need-fill-at-requires-2 Inv-loop μ-loop
 fill-at-requires-2 c κs =
     let i = loop-before c in
-    let p = start-of i .pre in
-    (p .0, (p .1 .0, ready-root (p .1 .1) (i .loop .inv .1) (i .loop .inv .2) (to-root c (p .0) (p .1 .0) (p .1 .1))))
+    let p = start-of i .pre .0 in
+    ((p .0, (p .1 .0, ready-root (p .1 .1) (i .loop .inv .1) (i .loop .inv .2) (to-root c (p .0) (p .1 .0) (p .1 .1)))), omega (arith, start-of i .pre .1, i .loop .inv .3))
 
 too-many-requires-2 : tie.Need-too-many-requires-2 Inv-loop μ-loop
 too-many-requires-2 c κs = omega arith
 
-same-length-3 : tie.Need-same-length-3 Inv-loop μ-loop
-same-length-3 c = search needs
-
-same-length-4 : tie.Need-same-length-4 Inv-loop μ-loop
-same-length-4 c = search needs
-
 returns-2 : tie.Need-returns-2 Inv-loop μ-loop
 returns-2 c = λ l t g.
-    let d = c .before .before .before .before .before .before .before in
+    let d = c .before .before .before .before .before .before .before .before .before in
     let i = loop-before d .loop in
     let a = start-of (loop-before d) .args in
-    let call = c .before .before .before .before .before .before .fill-at2 in
+    let call = c .before .before .before .before .before .before .before .before .fill-at2 in
     turn-root g (i .inv .1) (i .inv .2) (to-root d l t g) (call .ensures l t) .0 (subst (λ (q : Bool). Exceeds (atRoot (a .t3) (a .most)) q (call .result)) (c .if2 .taken) (c .before .too-many2 .ensures))
-
-same-length-5 : tie.Need-same-length-5 Inv-loop μ-loop
-same-length-5 c = search needs
-
-same-length-6 : tie.Need-same-length-6 Inv-loop μ-loop
-same-length-6 c = search needs
 
 returns-3 : tie.Need-returns-3 Inv-loop μ-loop
 returns-3 c = λ l t g.
-    let d = c .before .before .before .before .before .before .before in
+    let d = c .before .before .before .before .before .before .before .before .before in
     let i = loop-before d .loop in
     let a = start-of (loop-before d) .args in
-    let call = c .before .before .before .before .before .before .fill-at2 in
+    let call = c .before .before .before .before .before .before .before .before .fill-at2 in
     turn-root g (i .inv .1) (i .inv .2) (to-root d l t g) (call .ensures l t) .1 (subst (λ (q : Bool). Exceeds (atRoot (a .t3) (a .most)) q (call .result)) (c .if2 .left) (c .before .too-many2 .ensures))
 
 pub fill-spec : {M : Type 1} → statement M
@@ -142,16 +125,19 @@ fill-spec =
     sub-node
     fill-at-requires
     too-many-requires
-    same-length
-    same-length-2
+    (λ c. search needs)
+    (λ c. search needs)
+    (λ c. search needs)
     returns
     loop-less
     loop-again
     fill-at-requires-2
     too-many-requires-2
-    same-length-3
-    same-length-4
+    (λ c. search needs)
+    (λ c. search needs)
+    (λ c. search needs)
     returns-2
-    same-length-5
-    same-length-6
+    (λ c. search needs)
+    (λ c. search needs)
+    (λ c. search needs)
     returns-3)

@@ -1,92 +1,108 @@
 use borrow.Author.Needs.{needs}
 use native.Mathlib.Omega.{arith}
 use Prim.Native.Nat.{ℕ, _+_, _-_, _≤_}
-use mathlib.Core.Path.{_≡_, refl, subst}
+use mathlib.Core.Path.{_≡_, refl, subst, _∙_}
+use lib.ListN.{length}
 use mir.Syntax.{w8}
 use mir.Val.{Fits}
 use Rattle.filling.specs.Promises.{loadAt}
 use Rattle.filling.proofs.Steps.{Done, done-start, done-matches, done-fit, count-small, done-next, done-all}
 use Rattle.filling.proofs.fill_node.Statement.{statement}
 use Rattle.filling.proofs.fill_node.Tie as tie
+use Rattle.filling.proofs.fill_node.Reads as reads
+use Rattle.filling.proofs.fill_node.Lts as lts
+use Rattle.curves.proofs.curve.Reads as curve-reads
 
 abbrev Inv-loop : tie.InvT-loop
-Inv-loop found count symbols work₀ turn loads points₀ b₀ work points b = (b ≤ turn .bins .count) × Done symbols work₀ found count turn b work points
+Inv-loop rows found count symbols work₀ kept₀ turn loads points₀ b₀ work kept points b =
+    (b ≤ turn .bins .count) × (length kept ≡ length kept₀) × Done symbols work₀ rows found count turn b work points
 
 abbrev μ-loop : tie.MeasureT-loop
-μ-loop found count symbols work₀ turn loads points₀ b₀ work points b = b
+μ-loop rows found count symbols work₀ kept₀ turn loads points₀ b₀ work kept points b = b
 
-abbrev Called : Type 0
-Called = tie.After-curve-arg Inv-loop μ-loop
+abbrev start-of : tie.At-loop Inv-loop μ-loop → tie.Start Inv-loop μ-loop
+start-of i = i .before .before .before .before .before .before .before .before
 
--- the curves that are stored, said of the one that comes next
-so-far : (c : Called) → let a = c .before .before .before .before .before .before .before .before .before .args in let i = c .before .before .before .loop in
-    Done (a .symbols .now) (a .work .now) (a .found .now) (a .count) (a .turn) (i .b - 1 + 1) (i .work) (i .points)
+-- A load is a byte.
+load-byte : (c : tie.Start Inv-loop μ-loop) (b : ℕ) → Fits w8 (loadAt (c .args .turn) b)
+load-byte c b = search needs
+
+-- The curves that are stored, said of the one that comes next.
+so-far : (c : tie.In-loop Inv-loop μ-loop) → let a = start-of (c .before) .args in let i = c .before .loop in
+    Done (a .symbols .now) (a .work .now) (a .rows .now) (a .found .now) (a .count) (a .turn) (i .b - 1 + 1) (i .work) (i .points)
 so-far c =
-    let a = c .before .before .before .before .before .before .before .before .before .args in
-    let i = c .before .before .before .loop in
-    let up : i .b ≡ i .b - 1 + 1 = omega (arith, c .before .before .loop-test .taken) in
-    subst (λ (k : ℕ). Done (a .symbols .now) (a .work .now) (a .found .now) (a .count) (a .turn) k (i .work) (i .points)) up (i .inv .1)
+    let a = start-of (c .before) .args in
+    let i = c .before .loop in
+    let up : i .b ≡ i .b - 1 + 1 = omega (arith, c .loop-test .taken) in
+    subst (λ (k : ℕ). Done (a .symbols .now) (a .work .now) (a .rows .now) (a .found .now) (a .count) (a .turn) k (i .work) (i .points)) up (i .inv .2)
 
 loop-holds : tie.Need-loop-holds Inv-loop μ-loop
-loop-holds c = (omega arith, done-start (c .before .before .before .before .before .pre) _ refl)
+loop-holds c = (omega arith, refl, done-start (c .before .before .before .before .before .before .before .pre .0) _ refl)
 
 sub-b : tie.Need-sub-b Inv-loop μ-loop
 sub-b c = omega arith
 
-mul-at : tie.Need-mul-at Inv-loop μ-loop
-mul-at c = record { fits = omega (arith, c .before .before .before .before .before .before .before .before .pre .node) }
+mul-t14 : tie.Need-mul-t14 Inv-loop μ-loop
+mul-t14 c = record { fits = omega (arith, start-of (c .before .before) .pre .0 .node) }
 
-add-at : tie.Need-add-at Inv-loop μ-loop
-add-at c = omega (arith, c .before .before .before .before .before .before .before .before .pre .node, c .before .before .before .before .before .before .before .before .pre .few-bins, c .before .before .loop .inv .0)
+add-t15 : tie.Need-add-t15 Inv-loop μ-loop
+add-t15 c = let p = start-of (c .before .before) .pre .0 in omega (arith, p .node, p .few-bins, c .before .before .loop .inv .0)
 
-array-read-curve : tie.Need-array-read-curve Inv-loop μ-loop
-array-read-curve c = omega (arith, c .before .before .before .before .before .before .before .before .before .pre .few-bins, c .before .before .before .loop .inv .0)
+array-read-t18 : tie.Need-array-read-t18 Inv-loop μ-loop
+array-read-t18 c = omega (arith, start-of (c .before .before) .pre .0 .few-bins, c .before .before .loop .inv .0)
 
-cast-curve : tie.Need-cast-curve Inv-loop μ-loop
-cast-curve c = search needs
+cast-t19 : tie.Need-cast-t19 Inv-loop μ-loop
+cast-t19 c = search needs
 
 curve-requires : tie.Need-curve-requires Inv-loop μ-loop
 curve-requires c κs =
-    let first = c .before .before .before .before .before .before .before .before .before in
-    let i = c .before .before .before .loop in
-    let p = first .pre in
+    let q = c .before .before .before in
+    let first = start-of (q .before) in
+    let i = q .before .loop in
+    let p = first .pre .0 in
     let b = i .b - 1 in
-    let byte : Fits w8 (loadAt (first .args .turn) b) = search needs in (
-      done-matches p (so-far c),
+    let byte = load-byte first b in (
+      done-matches p (so-far q),
       (
-        (omega (arith, p .node, p .few-bins, i .inv .0), omega (arith, byte .fits)),
-        ((λ j l k m. omega (arith, p .above j l k m, p .few-bins, i .inv .0)), done-fit p (so-far c) b (omega (arith, i .inv .0))),
+        (omega (arith, p .node, p .few-bins, i .inv .0), omega (arith, byte .fits), omega (arith, first .pre .1, i .inv .1)),
+        ((λ j l k m. omega (arith, p .above j l k m, p .few-bins, i .inv .0)), done-fit p (so-far q) b (omega (arith, i .inv .0))),
       ),
     )
 
 cast-points : tie.Need-cast-points Inv-loop μ-loop
 cast-points c =
-    let d = c .before .before .before in
-    omega (arith, count-small (d .before .before .before .before .before .before .before .before .before .pre) (so-far d) (d .before .before .before .loop .b - 1) (c .before .before .curve .result) (c .before .before .curve .ensures .counted))
+    let call = c .before .before .before .before in
+    let q = call .before .before .before .before in
+    omega (arith, count-small (start-of (q .before) .pre .0) (so-far q) (q .before .loop .b - 1) (call .curve .result) (call .curve .ensures .counted))
 
 array-write-points : tie.Need-array-write-points Inv-loop μ-loop
-array-write-points c = omega (arith, c .before .before .before .before .before .before .before .before .before .before .before .before .pre .few-bins, c .before .before .before .before .before .before .loop .inv .0)
+array-write-points c =
+    let i = c .before .before .before .before .before .before .before .before .before in
+    omega (arith, start-of i .pre .0 .few-bins, i .loop .inv .0)
 
 loop-less : tie.Need-loop-less Inv-loop μ-loop
 loop-less c = omega arith
 
 loop-again : tie.Need-loop-again Inv-loop μ-loop
 loop-again c =
-    let d = c .before .before .before in
-    let i = d .before .before .before .loop in
-    let r = c .before .before .curve in
-    (omega (arith, i .inv .0), done-next (d .before .before .before .before .before .before .before .before .before .pre) (i .b - 1) (omega (arith, i .inv .0)) (so-far d) (r .last .1 .1 .1 .0) (r .result) (r .kept .1 .1 .1 .0) (r .ensures))
+    let call = c .before .before .before .before in
+    let q = call .before .before .before .before in
+    let i = q .before .loop in
+    let r = call .curve in
+    (omega (arith, i .inv .0), r .kept .1 .1 .1 .1 .1 .0 ∙ i .inv .1, done-next (start-of (q .before) .pre .0) (i .b - 1) (omega (arith, i .inv .0)) (so-far q) (r .last .1 .1 .1 .1 .0) (r .result) (r .kept .1 .1 .1 .1 .0) (r .ensures))
 
 same-length : tie.Need-same-length Inv-loop μ-loop
-same-length c = c .before .loop .inv .1 .length-kept
+same-length c = c .before .loop .inv .2 .length-kept
+
+same-length-2 : tie.Need-same-length-2 Inv-loop μ-loop
+same-length-2 c = c .before .loop .inv .1
 
 returns : tie.Need-returns Inv-loop μ-loop
 returns c =
-    let first = c .before .before .before .before .before .before .before in
-    let a = first .args in
+    let a = start-of (c .before) .args in
     let i = c .before .loop in
     let none-left : i .b ≡ 0 = omega arith in
-    done-all (first .pre) (subst (λ (k : ℕ). Done (a .symbols .now) (a .work .now) (a .found .now) (a .count) (a .turn) k (i .work) (i .points)) none-left (i .inv .1))
+    done-all (start-of (c .before) .pre .0) (subst (λ (k : ℕ). Done (a .symbols .now) (a .work .now) (a .rows .now) (a .found .now) (a .count) (a .turn) k (i .work) (i .points)) none-left (i .inv .2))
 
 pub fill-node-spec : {M : Type 1} → statement M
 fill-node-spec =
@@ -96,14 +112,15 @@ fill-node-spec =
     μ-loop
     loop-holds
     sub-b
-    mul-at
-    add-at
-    array-read-curve
-    cast-curve
+    mul-t14
+    add-t15
+    array-read-t18
+    cast-t19
     curve-requires
     cast-points
     array-write-points
     loop-less
     loop-again
     same-length
+    same-length-2
     returns)

@@ -1,4 +1,5 @@
 use borrow.Author.Needs.{needs}
+use native.Mathlib.Omega.{arith}
 use mathlib.Core.Path.{sym, subst}
 use Rattle.filling.specs.Promises.{FillingIs}
 use Rattle.mapper.specs.Promises.{MappedIs}
@@ -9,8 +10,11 @@ use Rattle.mapper.proofs.map_tree.Tie as tie
 slice-aggregate-fill : tie.Need-slice-aggregate-fill
 slice-aggregate-fill c = search needs
 
+slice-aggregate-fill-2 : tie.Need-slice-aggregate-fill-2
+slice-aggregate-fill-2 c = search needs
+
 fill-requires : tie.Need-fill-requires
-fill-requires c κs = search needs
+fill-requires c κs = (c .before .before .before .before .before .pre, omega arith)
 
 enum-known-filling : tie.Need-enum-known-filling
 enum-known-filling c = search needs
@@ -26,9 +30,9 @@ slice-aggregate-map-root c = search needs
 
 map-root-requires : tie.Need-map-root-requires
 map-root-requires c κs =
-    let first = c .before .before .before .before .before .before .before .before .before .before .before .before in
+    let first = c .before .before .before .before .before .before .before .before .before .before .before .before .before .before in
     let p = first .pre in
-    let f = c .before .before .before .before .before .before .before .fill in
+    let f = c .before .before .before .before .before .before .before .before .fill in
     let whole = subst (FillingIs (first .args .most) (p .0) (p .1 .0) (f .last .1 .1 .1 .1 .1 .0)) (c .before .before .enum-told .given .1) (f .ensures (p .0) (p .1 .0) (p .1 .1)) in
     (p .0, (p .1 .0, core-curved (p .1 .1) (f .last .1 .1 .1 .1 .1 .0) (f .last .1 .1 .1 .1 .0) (f .kept .1 .1 .1 .1 .0) (f .kept .1 .1 .1 .1 .1 .0) whole))
 
@@ -37,8 +41,8 @@ same-length c = search needs
 
 returns : tie.Need-returns
 returns c l t start =
-    let first = c .before .before .before .before .before .before .before .before .before .before .before .before in
-    let f = c .before .before .before .before .before .before .before .fill in
+    let first = c .before .before .before .before .before .before .before .before .before .before .before .before .before .before in
+    let f = c .before .before .before .before .before .before .before .before .fill in
     let told = c .before .before .filling .given in
     subst (MappedIs (first .args .most) l t) (sym (c .refuse .ensures)) (map-overfull (first .args .most) l t (f .last .1 .1 .1 .1 .1 .0) (told .0 .0) (subst (FillingIs (first .args .most) l t (f .last .1 .1 .1 .1 .1 .0)) (told .1) (f .ensures l t start)))
 
@@ -47,8 +51,8 @@ same-length-2 c = search needs
 
 returns-2 : tie.Need-returns-2
 returns-2 c l t start =
-    let first = c .before .before .before .before .before .before .before .before .before .before .before .before .before .before in
-    let f = c .before .before .before .before .before .before .before .before .before .fill in
+    let first = c .before .before .before .before .before .before .before .before .before .before .before .before .before .before .before .before in
+    let f = c .before .before .before .before .before .before .before .before .before .before .fill in
     let whole = subst (FillingIs (first .args .most) l t (f .last .1 .1 .1 .1 .1 .0)) (c .before .before .before .before .enum-told .given .1) (f .ensures l t start) in
     c .before .map-root .ensures l t (core-curved start (f .last .1 .1 .1 .1 .1 .0) (f .last .1 .1 .1 .1 .0) (f .kept .1 .1 .1 .1 .0) (f .kept .1 .1 .1 .1 .1 .0) whole)
 
@@ -57,6 +61,7 @@ map-tree-spec =
     tie.close
     (tie.spec
     slice-aggregate-fill
+    slice-aggregate-fill-2
     fill-requires
     enum-known-filling
     refuse-requires

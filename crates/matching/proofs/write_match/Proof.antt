@@ -1,40 +1,63 @@
--- The row of a pattern, if it matched.
+-- The row of a match.
 use borrow.Author.Needs.{needs}
-use Rattle.covers.specs.Match.{matched}
-use Rattle.matching.proofs.Patterns.{numbered, nowhere, wrote-none, wrote-one}
+use mathlib.Core.Path.{_≡_, refl, sym, ap, ap₂, _∙_}
+use mathlib.Core.List.{List}
+use native.Mathlib.Omega.{arith}
 use borrow.Author.Tests.{not-true, not-false}
-use mathlib.Core.Path.{refl}
+use lib.ListN.{length, length-set}
+use Rattle.matching.proofs.Patterns.{missing, there, wrote-none, wrote-one}
 use Rattle.matching.proofs.write_match.Statement.{statement}
 use Rattle.matching.proofs.write_match.Tie as tie
 use Rattle.matching.proofs.write_match.Reads as reads
 use Rattle.matching.proofs.write_match.Lts as lts
-use Rattle.matching.proofs.write_row.Reads as write-row-reads
+use Rattle.matching.proofs.write_inputs.Reads as write-inputs-reads
 
 returns : tie.Need-returns
-returns c =
-    let a = c .before .before .before .before .args in
-    λ l p n s t.
-    wrote-none l (a .pattern) p (matched (p .drawing) n s) (a .table .now) (nowhere l (a .walked) (a .row .now) p n s t (not-true _ (c .if1 .taken)))
+returns c = λ o w p. wrote-none _ _ p _ (missing w (not-true _ (c .if1 .taken)))
 
-write-row-requires : tie.Need-write-row-requires
-write-row-requires c κs =
+cast-table : tie.Need-cast-table
+cast-table c = search needs
+
+slice-write-table : tie.Need-slice-write-table
+slice-write-table c = search needs
+
+cast-table-2 : tie.Need-cast-table-2
+cast-table-2 c = search needs
+
+slice-write-table-2 : tie.Need-slice-write-table-2
+slice-write-table-2 c = search needs
+
+cast-table-3 : tie.Need-cast-table-3
+cast-table-3 c = let h = there (c .before .before .before .before .pre .3 .1) (not-false _ (c .before .if1 .left)) in omega (arith, h .writable .walked-is .count-is, h .writable .few)
+
+slice-write-table-3 : tie.Need-slice-write-table-3
+slice-write-table-3 c = search needs
+
+write-inputs-requires : tie.Need-write-inputs-requires
+write-inputs-requires c κs =
     let start = c .before .before .before .before .before in
-    let a = start .args in
-    let w = start .pre .2 in
-    let p = w .1 .0 in
-    let h = numbered (w .0) (a .walked) (a .row .now) p (w .1 .1 .0) (w .1 .1 .1 .0) (w .1 .1 .1 .1) (a .pattern) (not-false _ (c .before .if1 .left)) in
-    (start .pre .0, start .pre .1, (w .0, (record { number = a .pattern; pattern = p; inputs = h .inputs }, h .writable)))
+    let h = there (start .pre .3 .1) (not-false _ (c .before .before .if1 .left)) in
+    (simp length-set (start .pre .0), (h .inputs, (h .writable .walked-is, h .writable .few)))
 
 same-length : tie.Need-same-length
-same-length c = search needs
+same-length c = c .before .before .write-inputs .kept .0 ∙ simp length-set
 
 returns-2 : tie.Need-returns-2
-returns-2 c =
-    let a = c .before .before .before .before .before .before .before .before .args in
-    λ l p n s t.
-    let h = numbered l (a .walked) (a .row .now) p n s t (a .pattern) (not-false _ (c .before .before .before .before .if1 .left)) in
-    wrote-one l (a .pattern) p (matched (p .drawing) n s) (h .inputs) (a .table .now) (c .before .before .write-row .last .0) (h .fits)
-    (c .before .before .write-row .ensures l (record { number = a .pattern; pattern = p; inputs = h .inputs }) (h .writable) refl)
+returns-2 c = λ o w p.
+    let h = there w (not-false _ (c .before .before .before .before .before .if1 .left)) in
+    wrote-one _ _ p _ (h .inputs) (h .is-there) (h .writable .walked-is .count-is) (c .before .before .write-inputs .ensures (h .inputs) (h .writable .walked-is) (h .writable .few))
 
 pub write-match-spec : {M : Type 1} → statement M
-write-match-spec = tie.close (tie.spec returns write-row-requires same-length returns-2)
+write-match-spec =
+    tie.close
+    (tie.spec
+    returns
+    cast-table
+    slice-write-table
+    cast-table-2
+    slice-write-table-2
+    cast-table-3
+    slice-write-table-3
+    write-inputs-requires
+    same-length
+    returns-2)

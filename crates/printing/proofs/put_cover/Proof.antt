@@ -19,7 +19,8 @@ text-is : (c : tie.Start) → let a = c .args in
 text-is c =
     let n : length (c .args .cover .nodes) ≡ 64 = search needs in
     let p : length (c .args .cover .patterns) ≡ 64 = search needs in
-    cover-text (c .args .cover) (omega (arith, c .pre .0)) (omega (arith, c .pre .0)) (c .args .rows .now)
+    let x : length (c .args .cover .crossings) ≡ 64 = search needs in
+    cover-text (c .args .cover) (omega (arith, c .pre .0), omega (arith, c .pre .0), omega (arith, c .pre .0)) (c .args .rows .now)
 
 fits : (c : tie.Start) → let a = c .args in
     length (coverLine (a .cover .area) (a .cover .arrival) (a .cover .count)) + length (rowLines (a .rows .now) (coverOf (a .cover) .placed)) ≤ length (a .text .now)

@@ -4,8 +4,8 @@ use Prim.Native.Nat.{ℕ, _+_, _*_}
 use mathlib.Core.Path.{subst}
 use mathlib.Core.List.{List}
 use Rattle.sheets.specs.Layout.{rowWords}
-use Rattle.lines.specs.Text.{Appended}
-use Rattle.lines.proofs.Laws.{appended-both}
+use Rattle.lines.specs.Text.{spaced, Appended}
+use Rattle.lines.proofs.Laws.{appended-three}
 use Rattle.printing.proofs.Laws.{row-line, row-line-length}
 use Rattle.printing.proofs.put_match.Statement.{statement}
 use Rattle.printing.proofs.put_match.Tie as tie
@@ -23,22 +23,30 @@ shared-slice-read-cell : tie.Need-shared-slice-read-cell
 shared-slice-read-cell c = search needs
 
 put-number-requires : tie.Need-put-number-requires
-put-number-requires c κs = let a = c .before .before .before .before .args in omega (arith, row-line-length (a .rows .now) (a .node) (a .pattern))
+put-number-requires c κs = let a = c .before .before .before .before .args in omega (arith, row-line-length (a .rows .now) (a .node) (a .pattern) (a .crossing))
 
-cast-put-last : tie.Need-cast-put-last
-cast-put-last c = omega (arith, c .before .before .before .before .before .shared-slice-known2 .given (rowWords * c .before .before .before .before .before .before .before .before .args .pattern + 0))
+cast-put-spaced : tie.Need-cast-put-spaced
+cast-put-spaced c = omega (arith, c .before .before .before .before .before .shared-slice-known2 .given (rowWords * c .before .before .before .before .before .before .before .before .args .pattern + 0))
+
+put-spaced-requires : tie.Need-put-spaced-requires
+put-spaced-requires c κs = let a = c .before .before .before .before .before .before .before .before .args in omega (arith, row-line-length (a .rows .now) (a .node) (a .pattern) (a .crossing))
 
 put-last-requires : tie.Need-put-last-requires
-put-last-requires c κs = let a = c .before .before .before .before .before .before .before .before .args in omega (arith, row-line-length (a .rows .now) (a .node) (a .pattern))
+put-last-requires c κs = let a = c .before .before .before .before .before .before .before .before .before .before .before .before .args in omega (arith, row-line-length (a .rows .now) (a .node) (a .pattern) (a .crossing))
 
 same-length : tie.Need-same-length
 same-length c = search needs
 
 returns : tie.Need-returns
+unfolding spaced
 returns c =
-    let a = c .before .before .before .before .before .before .before .before .before .before .before .args in
-    let put = c .before .before .put-last in
-    subst (λ (w : List ℕ). Appended w (a .text .now) (a .at) (put .last .0) (put .result)) (row-line (a .rows .now) (a .node) (a .pattern)) (appended-both (omega arith) (c .before .before .before .before .before .before .put-number .ensures) (put .ensures))
+    let three = c .before .before in
+    let two = three .before .before .before .before in
+    let one = two .before .before .before .before in
+    let a = one .before .before .before .before .before .args in
+    let put = three .put-last in
+    subst (λ (w : List ℕ). Appended w (a .text .now) (a .at) (put .last .0) (put .result)) (row-line (a .rows .now) (a .node) (a .pattern) (a .crossing))
+    (appended-three (omega arith) (one .put-number .ensures) (two .put-spaced .ensures) (put .ensures))
 
 pub put-match-spec : {M : Type 1} → statement M
 put-match-spec =
@@ -49,7 +57,8 @@ put-match-spec =
     mul-cell-2
     shared-slice-read-cell
     put-number-requires
-    cast-put-last
+    cast-put-spaced
+    put-spaced-requires
     put-last-requires
     same-length
     returns)

@@ -6,6 +6,7 @@ use mathlib.Core.List.{List}
 use lib.ListN.{length, take}
 use Rattle.covers.specs.Cover.{Placed}
 use Rattle.results.specs.Public.{placedOf}
+use Rattle.results.proofs.Laws.{Room}
 use Rattle.lines.specs.Text.{Appended}
 use Rattle.printing.specs.Rows.{rowLines}
 use Rattle.printing.proofs.Laws.{no-lines, match-row, match-fits, match-turn, matches-done}
@@ -13,21 +14,21 @@ use Rattle.printing.proofs.put_matches.Statement.{statement}
 use Rattle.printing.proofs.put_matches.Tie as tie
 
 abbrev Inv-loop : tie.InvT-loop
-Inv-loop text₀ from rows count nodes patterns at₀ k₀ text at k =
-    (k ≤ count) × (length text ≡ length text₀) × Appended (rowLines rows (take k (placedOf (take count nodes) (take count patterns)))) text₀ from text at
+Inv-loop text₀ from rows count nodes patterns crossings at₀ k₀ text at k =
+    (k ≤ count) × (length text ≡ length text₀) × Appended (rowLines rows (take k (placedOf (take count nodes) (take count patterns) (take count crossings)))) text₀ from text at
 
 abbrev μ-loop : tie.MeasureT-loop
-μ-loop text₀ from rows count nodes patterns at₀ k₀ text at k = count - k
+μ-loop text₀ from rows count nodes patterns crossings at₀ k₀ text at k = count - k
 
--- The arrays have room for the matches.
-room : (c : tie.Start Inv-loop μ-loop) → (c .args .cover .count ≤ length (c .args .cover .nodes)) × (c .args .cover .count ≤ length (c .args .cover .patterns))
+room : (c : tie.Start Inv-loop μ-loop) → Room (c .args .cover)
 room c =
     let n : length (c .args .cover .nodes) ≡ 64 = search needs in
     let p : length (c .args .cover .patterns) ≡ 64 = search needs in
-    (omega arith, omega arith)
+    let x : length (c .args .cover .crossings) ≡ 64 = search needs in
+    (omega arith, omega arith, omega arith)
 
 loop-holds : tie.Need-loop-holds Inv-loop μ-loop
-loop-holds c = let a = c .before .before .before .before .args in (omega arith, refl, no-lines (a .rows .now) (a .text .now) (a .from))
+loop-holds c = let a = c .before .before .before .before .before .args in (omega arith, refl, no-lines (a .rows .now) (a .text .now) (a .from))
 
 array-read-put-match : tie.Need-array-read-put-match Inv-loop μ-loop
 array-read-put-match c = omega arith
@@ -35,13 +36,15 @@ array-read-put-match c = omega arith
 array-read-put-match-2 : tie.Need-array-read-put-match-2 Inv-loop μ-loop
 array-read-put-match-2 c = omega arith
 
+array-read-put-match-3 : tie.Need-array-read-put-match-3 Inv-loop μ-loop
+array-read-put-match-3 c = omega arith
+
 put-match-requires : tie.Need-put-match-requires Inv-loop μ-loop
 put-match-requires c κs =
-    let start = c .before .before .before .before .before .before .before in
+    let start = c .before .before .before .before .before .before .before .before in
     let a = start .args in
     let i = c .before .before .loop in
-    let long = room start in
-    (match-row (a .rows .now) (a .cover) (i .k) (omega arith) (long .0) (long .1) (start .pre .1), omega (arith, i .inv .2 .place, start .pre .2, match-fits (a .rows .now) (a .cover) (i .k) (omega arith) (long .0) (long .1)))
+    (match-row (a .rows .now) (a .cover) (i .k) (omega arith) (room start) (start .pre .1), omega (arith, i .inv .2 .place, start .pre .2, match-fits (a .rows .now) (a .cover) (i .k) (omega arith) (room start)))
 
 add-k : tie.Need-add-k Inv-loop μ-loop
 add-k c = omega arith
@@ -51,22 +54,20 @@ loop-less c = omega arith
 
 loop-again : tie.Need-loop-again Inv-loop μ-loop
 loop-again c =
-    let start = c .before .before .before .before .before .before .before .before .before .before in
+    let start = c .before .before .before .before .before .before .before .before .before .before .before in
     let a = start .args in
     let i = c .before .before .before .before .before .loop in
-    let long = room start in
-    (omega arith, omega arith, match-turn (a .rows .now) (a .cover) (i .k) (omega arith) (long .0) (long .1) (omega (arith, start .pre .2)) (i .inv .2) (c .before .before .put-match .ensures))
+    (omega arith, omega arith, match-turn (a .rows .now) (a .cover) (i .k) (omega arith) (room start) (omega (arith, start .pre .2)) (i .inv .2) (c .before .before .put-match .ensures))
 
 same-length : tie.Need-same-length Inv-loop μ-loop
 same-length c = omega arith
 
 returns : tie.Need-returns Inv-loop μ-loop
 returns c =
-    let start = c .before .before .before .before .before .before in
+    let start = c .before .before .before .before .before .before .before in
     let a = start .args in
     let i = c .before .loop in
-    let long = room start in
-    subst (λ (xs : List Placed). Appended (rowLines (a .rows .now) xs) (a .text .now) (a .from) (i .text) (i .at)) (matches-done (a .cover) (long .0) (long .1) (i .k) (omega arith)) (i .inv .2)
+    subst (λ (xs : List Placed). Appended (rowLines (a .rows .now) xs) (a .text .now) (a .from) (i .text) (i .at)) (matches-done (a .cover) (room start) (i .k) (omega arith)) (i .inv .2)
 
 pub put-matches-spec : {M : Type 1} → statement M
 put-matches-spec =
@@ -77,6 +78,7 @@ put-matches-spec =
     loop-holds
     array-read-put-match
     array-read-put-match-2
+    array-read-put-match-3
     put-match-requires
     add-k
     loop-less

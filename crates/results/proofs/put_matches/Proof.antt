@@ -11,14 +11,14 @@ use Rattle.results.proofs.put_matches.Lts as lts
 use Rattle.bits.proofs.put.Reads as put-reads
 
 abbrev Inv-loop : tie.InvT-loop
-Inv-loop output₀ nodes patterns count at₀ k₀ output at k =
+Inv-loop output₀ nodes patterns crossings count at₀ k₀ output at k =
     (k ≤ count)
-    × (at ≡ 52 + 13 * k)
+    × (at ≡ 52 + 18 * k)
     × (length output ≡ length output₀)
-    × (written (matchesFrom k count nodes patterns) at output ≡ written (matchesFrom 0 count nodes patterns) 52 output₀)
+    × (written (matchesFrom k count nodes patterns crossings) at output ≡ written (matchesFrom 0 count nodes patterns crossings) 52 output₀)
 
 abbrev μ-loop : tie.MeasureT-loop
-μ-loop output₀ nodes patterns count at₀ k₀ output at k = count - k
+μ-loop output₀ nodes patterns crossings count at₀ k₀ output at k = count - k
 
 loop-holds : tie.Need-loop-holds Inv-loop μ-loop
 loop-holds c = (omega arith, omega arith, refl, refl)
@@ -27,7 +27,7 @@ shared-slice-read-put : tie.Need-shared-slice-read-put Inv-loop μ-loop
 shared-slice-read-put c = omega arith
 
 cast-put : tie.Need-cast-put Inv-loop μ-loop
-cast-put c = omega (arith, c .shared-slice-known3 .given (c .before .before .before .loop .k))
+cast-put c = omega (arith, c .shared-slice-known4 .given (c .before .before .before .loop .k))
 
 put-requires : tie.Need-put-requires Inv-loop μ-loop
 put-requires c κs = omega arith
@@ -39,10 +39,25 @@ shared-slice-read-put-2 : tie.Need-shared-slice-read-put-2 Inv-loop μ-loop
 shared-slice-read-put-2 c = omega arith
 
 cast-put-2 : tie.Need-cast-put-2 Inv-loop μ-loop
-cast-put-2 c = omega (arith, c .shared-slice-known4 .given (c .before .before .before .before .before .before .before .before .loop .k))
+cast-put-2 c = omega (arith, c .shared-slice-known5 .given (c .before .before .before .before .before .before .before .before .loop .k))
 
 put-requires-2 : tie.Need-put-requires-2 Inv-loop μ-loop
 put-requires-2 c κs = omega arith
+
+add-put-2 : tie.Need-add-put-2 Inv-loop μ-loop
+add-put-2 c = omega arith
+
+add-put-3 : tie.Need-add-put-3 Inv-loop μ-loop
+add-put-3 c = omega arith
+
+shared-slice-read-put-3 : tie.Need-shared-slice-read-put-3 Inv-loop μ-loop
+shared-slice-read-put-3 c = omega arith
+
+cast-put-3 : tie.Need-cast-put-3 Inv-loop μ-loop
+cast-put-3 c = omega (arith, c .shared-slice-known6 .given (c .before .before .before .before .before .before .before .before .before .before .before .before .before .loop .k))
+
+put-requires-3 : tie.Need-put-requires-3 Inv-loop μ-loop
+put-requires-3 c κs = omega arith
 
 add-at : tie.Need-add-at Inv-loop μ-loop
 add-at c = omega arith
@@ -55,11 +70,14 @@ loop-less c = omega arith
 
 loop-again : tie.Need-loop-again Inv-loop μ-loop
 loop-again c =
-    let a = c .before .before .before .before .before .before .before .before .before .before .before .before .before .before .before .args in
-    let i = c .before .before .before .before .before .before .before .before .before .before .before .loop in
-    let one = c .before .before .before .before .before .before .before .put in
-    let two = c .before .before .put2 in
-    let turn = match-turn (a .nodes .now) (a .patterns .now) (i .k) (a .count) (omega arith) (omega arith) (omega arith) (i .at) (i .output) (one .last .0) (two .last .0) (one .ensures) (two .ensures) in
+    let three = c .before .before in
+    let two = three .before .before .before .before .before in
+    let one = two .before .before .before .before .before in
+    let i = one .before .before .before .before .loop in
+    let start = one .before .before .before .before .before .before .before .before .before in
+    let a = start .args in
+    let turn = match-turn (a .nodes .now) (a .patterns .now) (a .crossings .now) (i .k) (a .count) (omega arith) (start .pre .1) (start .pre .2) (start .pre .3)
+    (i .at) (i .output) (one .put .last .0) (two .put2 .last .0) (three .put3 .last .0) (one .put .ensures) (two .put2 .ensures) (three .put3 .ensures) in
     (omega arith, omega arith, turn .0 ∙ i .inv .2, turn .1 ∙ i .inv .3)
 
 same-length : tie.Need-same-length Inv-loop μ-loop
@@ -67,10 +85,10 @@ same-length c = omega arith
 
 returns : tie.Need-returns Inv-loop μ-loop
 returns c =
-    let a = c .before .before .before .before .before .args in
+    let a = c .before .before .before .before .before .before .args in
     let i = c .before .loop in
     let done : i .k ≡ a .count = omega arith in
-    matches-done (a .nodes .now) (a .patterns .now) (i .k) (a .count) (i .at) (i .output) done ∙ i .inv .3
+    matches-done (a .nodes .now) (a .patterns .now) (a .crossings .now) (i .k) (a .count) (i .at) (i .output) done ∙ i .inv .3
 
 pub put-matches-spec : {M : Type 1} → statement M
 put-matches-spec =
@@ -86,6 +104,11 @@ put-matches-spec =
     shared-slice-read-put-2
     cast-put-2
     put-requires-2
+    add-put-2
+    add-put-3
+    shared-slice-read-put-3
+    cast-put-3
+    put-requires-3
     add-at
     add-k
     loop-less

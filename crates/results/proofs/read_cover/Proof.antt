@@ -22,17 +22,17 @@ read-matches-requires c κs = search needs
 end-requires : tie.Need-end-requires
 end-requires c κs = search needs
 
-cast-t14 : tie.Need-cast-t14
-cast-t14 c = search needs
+cast-t15 : tie.Need-cast-t15
+cast-t15 c = search needs
 
 returns : tie.Need-returns
 returns c =
-    let a = c .before .before .before .before .before .before .before .before .before .before .args in
-    let first = c .before .before .before .before .before .before .before .before .begin in
-    let area = c .before .before .before .before .before .before .before .raw in
-    let arrival = c .before .before .before .before .before .before .raw2 in
-    let count = c .before .before .before .before .before .raw3 in
-    let matches = c .before .before .before .before .read-matches in
+    let a = c .before .before .before .before .before .before .before .before .before .before .before .args in
+    let first = c .before .before .before .before .before .before .before .before .before .begin in
+    let area = c .before .before .before .before .before .before .before .before .raw in
+    let arrival = c .before .before .before .before .before .before .before .raw2 in
+    let count = c .before .before .before .before .before .before .raw3 in
+    let matches = c .before .before .before .before .before .read-matches in
     let last = c .before .end in
     cover-read (a .s .now) (area .result) (arrival .result) (count .result) (matches .result) (first .result) (last .result) (first .ensures .0)
     (area .ensures) (arrival .ensures) (count .ensures) (omega arith) (omega (arith, first .ensures .1, area .ensures .near, arrival .ensures .near)) (matches .ensures) (last .ensures)
@@ -47,5 +47,5 @@ read-cover-spec =
     raw-requires-3
     read-matches-requires
     end-requires
-    cast-t14
+    cast-t15
     returns)

@@ -1,9 +1,8 @@
 use borrow.Author.Needs.{needs}
 use native.Mathlib.Omega.{arith}
-use Prim.Native.Nat.{_≤_}
 use mathlib.Core.Path.{_≡_}
 use lib.ListN.{length}
-use Rattle.results.proofs.Laws.{cover-written}
+use Rattle.results.proofs.Laws.{Room, cover-written}
 use Rattle.results.proofs.write_cover.Statement.{statement}
 use Rattle.results.proofs.write_cover.Tie as tie
 use Rattle.results.proofs.write_cover.Reads as reads
@@ -13,11 +12,12 @@ use Rattle.results.proofs.clear.Reads as clear-reads
 use Rattle.results.proofs.put_matches.Reads as put-matches-reads
 
 -- the arrays have room: said at the start, because later places hold too much to search
-room : (c : tie.Start) → (c .args .cover .count ≤ length (c .args .cover .nodes)) × (c .args .cover .count ≤ length (c .args .cover .patterns))
+room : (c : tie.Start) → Room (c .args .cover)
 room c =
     let n : length (c .args .cover .nodes) ≡ 64 = search needs in
     let p : length (c .args .cover .patterns) ≡ 64 = search needs in
-    (omega arith, omega arith)
+    let x : length (c .args .cover .crossings) ≡ 64 = search needs in
+    (omega arith, omega arith, omega arith)
 
 mul-bytes : tie.Need-mul-bytes
 mul-bytes c = search needs
@@ -49,23 +49,27 @@ slice-aggregate-put-matches c = search needs
 slice-aggregate-put-matches-2 : tie.Need-slice-aggregate-put-matches-2
 slice-aggregate-put-matches-2 c = search needs
 
+slice-aggregate-put-matches-3 : tie.Need-slice-aggregate-put-matches-3
+slice-aggregate-put-matches-3 c = search needs
+
 put-matches-requires : tie.Need-put-matches-requires
-put-matches-requires c κs = let all = room (c .before .before .before .before .before .before .before .before .before .before .before .before .before .before .before .before .before .before .before .before .before .before) in omega arith
+put-matches-requires c κs = let all = room (c .before .before .before .before .before .before .before .before .before .before .before .before .before .before .before .before .before .before .before .before .before .before .before .before) in omega arith
 
 same-length : tie.Need-same-length
 same-length c = search needs
 
 returns : tie.Need-returns
 returns c =
-    let a = c .before .before .before .before .before .before .before .before .before .before .before .before .before .before .before .before .before .before .before .before .before .before .before .before .before .args in
-    let all = room (c .before .before .before .before .before .before .before .before .before .before .before .before .before .before .before .before .before .before .before .before .before .before .before .before .before) in
-    let cleared = c .before .before .before .before .before .before .before .before .before .before .before .before .before .before .before .before .before .before .before .before .clear in
-    let one = c .before .before .before .before .before .before .before .before .before .before .before .before .before .before .before .before .put in
-    let two = c .before .before .before .before .before .before .before .before .before .before .before .before .put2 in
-    let three = c .before .before .before .before .before .before .before .before .put3 in
-    let done = c .before .before .put-matches in
-    cover-written (a .cover) (all .0) (all .1) (a .output .now) (cleared .last .0) (one .last .0) (two .last .0) (three .last .0) (done .last .0)
-    (cleared .ensures) (one .ensures) (two .ensures) (three .ensures) (done .ensures)
+    let done = c .before .before in
+    let three = done .before .before .before .before .before .before .before in
+    let two = three .before .before .before .before in
+    let one = two .before .before .before .before in
+    let cleared = one .before .before .before .before in
+    let start = cleared .before .before .before .before .before .before in
+    let a = start .args in
+    cover-written (a .cover) (room start) (a .output .now)
+    (cleared .clear .last .0) (one .put .last .0) (two .put2 .last .0) (three .put3 .last .0) (done .put-matches .last .0)
+    (cleared .clear .ensures) (one .put .ensures) (two .put2 .ensures) (three .put3 .ensures) (done .put-matches .ensures)
 
 pub write-cover-spec : {M : Type 1} → statement M
 write-cover-spec =
@@ -81,6 +85,7 @@ write-cover-spec =
     put-requires-3
     slice-aggregate-put-matches
     slice-aggregate-put-matches-2
+    slice-aggregate-put-matches-3
     put-matches-requires
     same-length
     returns)

@@ -24,7 +24,7 @@ read c =
     let v = leafVerdict (a .rules) (take (a .n) (a .symbols .now)) in
     let got = c .before .before .before .before .raw in
     settled-field (a .s .now) (a .rules .width) v (a .scan) (got .result) (c .before .settle .result) (c .before .before .leaf-verdict .result) (a .rules .most)
-    (both (got .ensures)) (c .before .before .leaf-verdict .ensures) (c .before .settle .ensures) (λ x l e. leaf-passes (a .rules) (take (a .n) (a .symbols .now)) x e)
+    (both (got .ensures)) (c .before .before .leaf-verdict .ensures) (c .before .settle .ensures) (λ x l e. leaf-passes (a .rules) (take (a .n) (a .symbols .now)) x e .0)
 
 live : (c : tie.After-struct-known) → Live (c .before .before .before .before .before .before .before .before .before .before .args .scan)
 live c = subst Live (sym (c .before .before .before .before .before .enum-told .given .1)) tt

@@ -1,9 +1,10 @@
 //! Times of the product beside the reference, on the same bytes in one run.
 //!
 //! `bench`: a table of times and ratios.
-//! `bench repeat COUNT WHO ROW`: so many maps of a row (`typical`, `chain`, `comb`, `deep`) by
-//! `product`, `plain`, `merging` or, if it is linked, `before`, or judgements of its cover by `judge`, for a profiler that
-//! counts instructions: two counts, and the difference is free of what comes before the first one.
+//! `bench repeat COUNT WHO ROW`: so many maps of a row (`typical`, `chain`, `comb`, `deep`, `full`,
+//! `crosscomb`) by `product`, `plain`, `plain_kept`, `merging` or, if it is linked, `before`, or
+//! judgements of its cover by `judge`, for a profiler that counts instructions: two counts, and the
+//! difference is free of what comes before the first one.
 
 mod clock;
 mod cover;
@@ -12,7 +13,7 @@ mod map;
 
 fn main() {
     let arguments: Vec<String> = std::env::args().skip(1).collect();
-    if cover::repeat(&arguments) || map::repeat(arguments) {
+    if cover::repeat(&arguments) || map::repeat(&arguments) {
         return;
     }
     judge::run();

@@ -1,20 +1,25 @@
 //! Map by the product, by its own method in plain Rust, and by merging curves.
 
 use crate::clock::{medians, Contestant};
+use reference::deadline::Variant;
 use reference::generate::heavy;
+use reference::generate::problem::Problem;
+use reference::merging::{self, Extent};
 use reference::operation::{Lent, Operation, LEAST_WORK};
-use reference::{deadline, product};
+use reference::product;
 use std::hint::black_box;
 
-/// The sheets of one row, and what a mapper is lent.
+/// The problem of one row, its sheets, and the sheet that map hands over.
 struct Row {
+    problem: Problem,
     library: Vec<u8>,
     tree: Vec<u8>,
+    expected: Vec<u8>,
 }
 
 /// Who maps: the product first, and an earlier one last, if it is linked.
 fn who() -> Vec<&'static str> {
-    let mut who = vec!["product", "plain", "merging"];
+    let mut who = vec!["product", "plain", "plain_kept", "merging"];
     if cfg!(feature = "before") {
         who.push("before");
     }
@@ -23,14 +28,11 @@ fn who() -> Vec<&'static str> {
 
 pub fn run() {
     for (name, problem) in heavy::all() {
-        let (library, tree) = (&problem.library, &problem.tree.shape);
-        let sizes =
-            format!("{} cells, {} patterns, {} nodes", library.cells.len(), library.pattern_count(), tree.nodes.len());
-        let row = Row { library: problem.library_sheet(), tree: problem.tree_sheet() };
+        let row = Row::of(problem);
         let calls = if name == "typical" { 200 } else { 2 };
         let contestants = who().iter().map(|who| row.contestant(who)).collect();
         let times = medians(31, calls, contestants);
-        println!("map, {name} ({sizes}):");
+        println!("map, {name} ({}):", row.size());
         print!("  product {:.0} ns", times[0]);
         for (who, time) in who().iter().zip(&times).skip(1) {
             print!("; {who} {time:.0} ns, ratio {:.3}", times[0] / time);
@@ -40,44 +42,93 @@ pub fn run() {
 }
 
 /// Some maps of a row by one of them, if the arguments ask for it.
-pub fn repeat(arguments: Vec<String>) -> bool {
-    let [word, count, who, name] = arguments.as_slice() else { return false };
+pub fn repeat(arguments: &[String]) -> bool {
+    let [word, count, who, name] = arguments else { return false };
     let named = heavy::all().into_iter().find(|(row, _)| row == name);
     let (Some((_, problem)), Ok(count), "repeat") = (named, count.parse(), word.as_str()) else { return false };
-    let row = Row { library: problem.library_sheet(), tree: problem.tree_sheet() };
+    let row = Row::of(problem);
     let mut contestant = row.contestant(who);
     (0..count).for_each(|_: u32| contestant());
     true
 }
 
 impl Row {
+    fn of(problem: Problem) -> Row {
+        let (library, tree) = (problem.library_sheet(), problem.tree_sheet());
+        let expected = Operation::Map.run(Lent::ENOUGH, &library, &tree).expect("a cover");
+        Row { problem, library, tree, expected }
+    }
+
+    fn size(&self) -> String {
+        let Problem { library, tree } = &self.problem;
+        let Extent { matches, most_trade_offs } = merging::extent(library, tree).expect("no node is overfull");
+        let (cells, patterns, nodes) = (library.cells.len(), library.pattern_count(), tree.shape.nodes.len());
+        format!(
+            "{cells} cells, {patterns} patterns, {nodes} nodes, {matches} matches, up to {most_trade_offs} trade-offs"
+        )
+    }
+
     fn contestant(&self, who: &str) -> Contestant<'_> {
-        let mut output = [0; 179];
-        let mut work = vec![0; LEAST_WORK];
-        let expected = Operation::Map.run(Lent::ENOUGH, &self.library, &self.tree).expect("a cover");
-        match who {
-            "product" => Box::new(move || {
-                let length = product::run(Operation::Map, black_box(&self.library), &self.tree, &mut output, &mut work);
-                assert_eq!(length, expected.len() as u64);
-                assert_eq!(output[..expected.len()], expected);
-            }),
+        match (who, Variant::named(who)) {
+            (_, Some(variant)) => self.plain(variant),
+            ("product", _) => self.product(),
+            ("merging", _) => self.merging(),
             #[cfg(feature = "before")]
-            "before" => Box::new(move || {
-                let length = product::map_before(black_box(&self.library), &self.tree, &mut output, &mut work);
-                assert_eq!(length, expected.len() as u64);
-                assert_eq!(output[..expected.len()], expected);
-            }),
-            "plain" => Box::new(move || {
-                let length =
-                    deadline::run(Operation::Map, black_box(&self.library), &self.tree, &mut output, &mut work);
-                assert_eq!(length, Ok(expected.len()));
-                assert_eq!(output[..expected.len()], expected);
-            }),
-            "merging" => Box::new(move || {
-                let sheet = Operation::Map.run(Lent::ENOUGH, black_box(&self.library), &self.tree);
-                assert_eq!(sheet.as_ref(), Ok(&expected));
-            }),
-            _ => panic!("product, plain, merging or, with an earlier product linked, before"),
+            ("before", _) => self.before(),
+            _ => panic!("one of {:?}", self::who()),
         }
     }
+
+    fn product(&self) -> Contestant<'_> {
+        let (mut output, mut work) = lent();
+        Box::new(move || {
+            let length = product::run(Operation::Map, black_box(&self.library), &self.tree, &mut output, &mut work);
+            assert_eq!(length, self.expected.len() as u64);
+            assert_eq!(output[..self.expected.len()], self.expected);
+        })
+    }
+
+    fn plain(&self, variant: Variant) -> Contestant<'_> {
+        let (mut output, mut work) = lent();
+        Box::new(move || {
+            let length = variant.run(Operation::Map, black_box(&self.library), &self.tree, &mut output, &mut work);
+            assert_eq!(length, Ok(self.expected.len()));
+            assert_eq!(output[..self.expected.len()], self.expected);
+        })
+    }
+
+    fn merging(&self) -> Contestant<'_> {
+        Box::new(move || {
+            let sheet = Operation::Map.run(Lent::ENOUGH, black_box(&self.library), &self.tree);
+            assert_eq!(sheet.as_ref(), Ok(&self.expected));
+        })
+    }
+
+    /// The earlier product's cover sheet has no crossings: of it only area and arrival are compared, with those of
+    /// the best cover and of the best as drawn.
+    #[cfg(feature = "before")]
+    fn before(&self) -> Contestant<'_> {
+        use reference::cover::Cover;
+        let (mut output, mut work) = lent();
+        let Problem { library, tree } = &self.problem;
+        let mut as_drawn = reference::matching::redrawings(library);
+        as_drawn.retain(|redrawing| redrawing.crossing == 0);
+        let covers = [merging::map(library, tree), merging::map_among(&as_drawn, library, tree)];
+        let sheets = covers.map(|cover| Cover { matches: vec![], ..cover.expect("a cover") }.sheet());
+        Box::new(move || {
+            let length = product::map_before(black_box(&self.library), &self.tree, &mut output, &mut work);
+            assert!(length >> 32 == 0 && sheets.iter().any(|sheet| same_figures(sheet, &output)));
+        })
+    }
+}
+
+/// Output and work area of the least lengths.
+fn lent() -> ([u8; 149], Vec<u64>) {
+    ([0; 149], vec![0; LEAST_WORK])
+}
+
+/// Whether two cover sheets agree in their first 46 bits.
+#[cfg(feature = "before")]
+fn same_figures(one: &[u8], other: &[u8]) -> bool {
+    one[..5] == other[..5] && one[5] >> 2 == other[5] >> 2
 }

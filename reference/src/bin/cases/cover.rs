@@ -1,8 +1,9 @@
 //! Stored cases of the judge of covers. A record is a kind byte (5), the lengths of library, tree
 //! and cover sheet in two bytes each, high byte first, the library, the tree, and the cover sheet.
 
-use crate::stored::Stored;
-use reference::cover::Cover;
+use crate::stored::{Stored, MOST_BYTES};
+use reference::cover::{Cover, Placed};
+use reference::crossing::{bit, crossings, redrawn, CROSSINGS};
 use reference::form::Role;
 use reference::generate::covers::damage::{any_case, spoiled, Damage, ELSEWHERE, IN_COVER};
 use reference::generate::covers::draw::{any_cover, loose_cover, Draw};
@@ -15,19 +16,21 @@ use reference::judging;
 use reference::library::Library;
 use reference::merging;
 use reference::rng::Rng;
-use reference::shape::Shape;
 use reference::shape::Step::{Inv, Leaf, Nand};
+use reference::shape::{Shape, Step};
 use reference::tree::{self, Tree, LATEST_LEAF, LATEST_REQUIRED};
 use reference::verdict::Verdict;
 use std::collections::{BTreeMap, HashSet};
 
-/// What the cases must be at the least, and their bytes at the most.
+/// How many cases there must be, of all kinds and of each.
 const LEAST_CASES: usize = 1_500;
 const LEAST_OF_A_KIND: usize = 20;
-const MOST_BYTES: usize = 600_000;
+
+/// Every field at its highest.
+const LAST: Placed = Placed { node: 63, pattern: 127, crossing: CROSSINGS - 1 };
 
 /// The kinds of answers, as `kind` has them, that must each occur.
-const KINDS: [&str; 19] = [
+const KINDS: [&str; 23] = [
     "accepted",
     "accepted late",
     "refused 22 torn",
@@ -37,11 +40,15 @@ const KINDS: [&str; 19] = [
     "refused 23 at 0: shape",
     "refused 23 at 0: held",
     "refused 23 at 0: load",
+    "refused 23 at 0: crossing",
+    "refused 23 at 0: unused bit",
     "refused 23 later: node",
     "refused 23 later: number",
     "refused 23 later: shape",
     "refused 23 later: held",
     "refused 23 later: load",
+    "refused 23 later: crossing",
+    "refused 23 later: unused bit",
     "refused 23 without matches",
     "refused 23 at the match count",
     "refused 24 area",
@@ -86,7 +93,26 @@ fn chosen() -> Vec<Draft> {
         let cover = Draw::new(&problem).cover(&mut rng).or_else(|| loose_cover(&mut rng, &problem));
         drafts.push(Draft::new(problem, cover.expect("a cover, be it legal or not")));
     }
+    drafts.extend(recrossed().into_iter().filter_map(mapped));
     drafts
+}
+
+/// Problems whose covers exchange inputs, at the root and below it.
+fn recrossed() -> Vec<Problem> {
+    let five = [Nand, Inv, Nand, Leaf(3), Inv, Nand, Inv, Leaf(0), Leaf(5), Nand, Nand, Leaf(1), Inv, Leaf(4), Leaf(2)];
+    let mut cells =
+        vec![cell(1, 7, pin(1, 4, 5), INVERTER), cell(4, 7, pin(0, 6, 2), NAND), cell(9, 7, pin(0, 10, 1), &five)];
+    cells[1].pins[0] = pin(2, 1, 1);
+    for (number, pin) in cells[2].pins.iter_mut().enumerate() {
+        pin.intrinsic += 1 << number;
+    }
+    let library = Library { bins: vec![1, 3, 7], cells };
+    let shape = Shape::from_steps(&five);
+    let tree_under = |crossing, above: &[Step]| {
+        let steps = redrawn(&shape, crossing).steps();
+        Problem { library: library.clone(), tree: tree(2, LATEST_REQUIRED, &[above, &steps].concat()) }
+    };
+    vec![tree_under(22, &[]), tree_under(9, &[Inv]), tree_under(31, &[Nand, Leaf(40)])]
 }
 
 /// Drafts of whose sheets every bit is flipped and every length cut.
@@ -192,14 +218,15 @@ impl Covers {
     fn additions(&mut self, draft: &Draft, position: usize) {
         let nodes = draft.problem.tree.shape.nodes.len();
         let listed = draft.cover.matches.iter().copied().take(3);
-        for added in listed.chain([(0, 0), (nodes - 1, 0), (nodes, 1), (63, 127)]) {
+        let others = [Placed::new(0, 0, 0), Placed::new(nodes - 1, 0, 16), Placed::new(nodes, 1, 0), LAST];
+        for added in listed.chain(others) {
             let mut matches = draft.cover.matches.clone();
             matches.insert(position, added);
             self.add(draft.with_matches(matches).case());
         }
     }
 
-    /// The match at a position left out, moved, given another node or another pattern.
+    /// The match at a position left out, moved, given another node, pattern or crossing.
     fn changes(&mut self, draft: &Draft, position: usize) {
         let matches = &draft.cover.matches;
         let mut others = matches.clone();
@@ -212,8 +239,11 @@ impl Covers {
         }
         let nodes = (0..=draft.problem.tree.shape.nodes.len()).chain([63]);
         let patterns = (0..=draft.problem.library.pattern_count()).chain([127]);
-        let changed = nodes.map(|node| (node, taken.1)).chain(patterns.map(|pattern| (taken.0, pattern)));
-        for another in changed {
+        let nodes = nodes.map(|node| Placed { node, ..taken });
+        let patterns = patterns.map(|pattern| Placed { pattern, ..taken });
+        let crossings = telling_crossings(&draft.problem.library, taken);
+        let crossings = crossings.into_iter().map(|crossing| Placed { crossing, ..taken });
+        for another in nodes.chain(patterns).chain(crossings) {
             let mut changed = matches.clone();
             changed[position] = another;
             self.add(draft.with_matches(changed).case());
@@ -261,14 +291,16 @@ impl Covers {
         let draft = inverters(63);
         self.tails(&draft);
         self.figures(&draft);
-        for length in [6, 7, 8, 9, 107, 108] {
+        for length in [6, 7, 8, 9, 147, 148] {
             self.add_sheet(&draft, draft.form().bytes()[..length].to_vec());
         }
         [0, 1, 62].into_iter().for_each(|count| self.add(Draft { count, ..draft.clone() }.case()));
         for position in [0, 1, 31, 61, 62] {
-            for another in [(63, 0), (position, 4), (position, 127), (position, 2), (position, 1)] {
+            for (node, pattern, crossing) in
+                [(63, 0, 0), (position, 4, 0), (position, 127, 0), (position, 2, 0), (position, 1, 0), (position, 0, 1)]
+            {
                 let mut matches = draft.cover.matches.clone();
-                matches[position] = another;
+                matches[position] = Placed { node, pattern, crossing };
                 self.add(draft.with_matches(matches).case());
             }
             let mut fewer = draft.cover.matches.clone();
@@ -276,7 +308,7 @@ impl Covers {
             self.add(draft.with_matches(fewer).case());
             self.add(draft.with_matches(draft.cover.matches[..position].to_vec()).case());
         }
-        let more = [draft.cover.matches.as_slice(), &[(63, 0)]].concat();
+        let more = [draft.cover.matches.as_slice(), &[Placed::new(63, 0, 0)]].concat();
         self.add(draft.with_matches(more).case());
     }
 
@@ -395,6 +427,13 @@ fn flipped_at(bytes: &[u8], bit: usize) -> Vec<u8> {
     let mut flipped = bytes.to_vec();
     flipped[bit / 8] ^= 128 >> (bit % 8);
     flipped
+}
+
+/// The crossings of a match's pattern, and the match's own with each bit changed.
+fn telling_crossings(library: &Library, placed: Placed) -> Vec<u32> {
+    let (_, shape) = library.patterns().nth(placed.pattern).expect("a pattern of the library");
+    let changed = (0..5).map(|nand| placed.crossing ^ bit(nand));
+    crossings(shape).chain(changed).collect()
 }
 
 /// A sheet as it is, torn, followed by a byte, and empty.

@@ -3,9 +3,10 @@
 //! the library, and the tree.
 
 use crate::stored::Stored;
+use reference::generate::chosen::{self, Outcome};
 use reference::generate::damage::{damaged, Kind};
 use reference::generate::problem::{any_style, problem, Problem};
-use reference::generate::{chosen, heavy, specimen};
+use reference::generate::{heavy, specimen};
 use reference::hex::hex;
 use reference::merging;
 use reference::operation::{Lent, Operation, LEAST_WORK};
@@ -14,22 +15,33 @@ use reference::tree::{Tree, LATEST_REQUIRED};
 
 const BOTH: [Operation; 2] = [Operation::Map, Operation::List];
 
+/// Random problems, with all times that tell and with one: as many as the file has room for.
+const SWEEPS: usize = 32;
+const RANDOM: usize = 560;
+
 pub fn add_all(stored: &mut Stored) {
     specimens(stored);
     for chosen in chosen::all() {
-        sweep(stored, &chosen.problem, 3);
+        match chosen.outcome {
+            Outcome::Single(arrival, _) if chosen.matches.is_some() => at_its_point(stored, &chosen.problem, arrival),
+            _ => sweep(stored, &chosen.problem, if chosen.problem.library.cells.len() < 10 { 3 } else { 2 }),
+        }
     }
     for (_, problem) in heavy::all() {
-        sweep(stored, &problem, 2);
+        if problem.library_sheet().len() < 2_000 {
+            sweep(stored, &problem, 2);
+        } else {
+            at_three_times(stored, &problem);
+        }
     }
     lent_lengths(stored);
     order_of_refusals(stored);
     damaged_sheets(stored, 200);
     let mut rng = Rng::new(88);
-    for _ in 0..40 {
+    for _ in 0..SWEEPS {
         sweep(stored, &any_problem(&mut rng), 4);
     }
-    for _ in 0..700 {
+    for _ in 0..RANDOM {
         random(stored, &mut rng);
     }
 }
@@ -53,12 +65,29 @@ fn ask(stored: &mut Stored, operation: Operation, problem: &Problem) {
     add(stored, operation, Lent::ENOUGH, &problem.library_sheet(), &problem.tree_sheet());
 }
 
+fn map_by(stored: &mut Stored, problem: &Problem, required: u32) {
+    let tree = Tree { required, ..problem.tree.clone() };
+    ask(stored, Operation::Map, &Problem { library: problem.library.clone(), tree });
+}
+
 /// The list, and map at the times that tell.
 fn sweep(stored: &mut Stored, problem: &Problem, most: usize) {
     ask(stored, Operation::List, problem);
-    for required in telling_times(problem, most) {
-        let tree = Tree { required, ..problem.tree.clone() };
-        ask(stored, Operation::Map, &Problem { library: problem.library.clone(), tree });
+    telling_times(problem, most).into_iter().for_each(|required| map_by(stored, problem, required));
+}
+
+/// Map at the arrival of the only trade-off, and just before.
+fn at_its_point(stored: &mut Stored, problem: &Problem, arrival: u32) {
+    map_by(stored, problem, arrival);
+    map_by(stored, problem, arrival - 1);
+}
+
+/// The list, and map at the latest time, in the middle of the list, and just before its beginning.
+fn at_three_times(stored: &mut Stored, problem: &Problem) {
+    ask(stored, Operation::List, problem);
+    let pairs = merging::list(&problem.library, &problem.tree).expect("a list");
+    for required in [LATEST_REQUIRED, pairs[pairs.len() / 2].arrival, pairs[0].arrival - 1] {
+        map_by(stored, problem, required);
     }
 }
 
@@ -83,12 +112,12 @@ fn specimens(stored: &mut Stored) {
     sweep(stored, &example, 31);
 }
 
-/// Outputs and work areas short by one, just long enough, and longer.
+/// Outputs and work areas short by one, just long enough, and longer, for the longest of covers.
 fn lent_lengths(stored: &mut Stored) {
-    let problem = Problem { library: specimen::example_library(), tree: specimen::example_tree(45) };
+    let problem = heavy::deepest();
     let (library, tree) = (problem.library_sheet(), problem.tree_sheet());
     for operation in BOTH {
-        for output in [0, 1, 108, 109, 110, 178, 179, 180, 1_000] {
+        for output in [0, 1, 108, 109, 148, 149, 150, 178, 179, 180, 1_000] {
             for work in [0, 1, LEAST_WORK - 1, LEAST_WORK, LEAST_WORK + 1, 12_345] {
                 add(stored, operation, Lent { output, work }, &library, &tree);
             }
@@ -101,7 +130,7 @@ fn order_of_refusals(stored: &mut Stored) {
     let is_overfull = |chosen: &chosen::Chosen| chosen.name == "overfull under a root without cover";
     let overfull = chosen::all().into_iter().find(is_overfull).expect("that problem").problem;
     let (library, tree) = (overfull.library_sheet(), overfull.tree_sheet());
-    for lent in [Lent::ENOUGH, Lent { output: 108, work: LEAST_WORK }, Lent { output: 200, work: LEAST_WORK - 1 }] {
+    for lent in [Lent::ENOUGH, Lent { output: 148, work: LEAST_WORK }, Lent { output: 200, work: LEAST_WORK - 1 }] {
         for library in [&library[..], &library[1..], &[]] {
             for tree in [&tree[..], &tree[..tree.len() - 1], &[]] {
                 BOTH.iter().for_each(|&operation| add(stored, operation, lent, library, tree));

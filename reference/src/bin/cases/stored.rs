@@ -4,6 +4,9 @@ use std::collections::BTreeMap;
 use std::io;
 use std::path::Path;
 
+/// The most bytes of records: the program that runs them keeps them in one array.
+pub const MOST_BYTES: usize = 672_000;
+
 #[derive(Default)]
 pub struct Stored {
     records: Vec<u8>,
@@ -24,6 +27,7 @@ impl Stored {
 
     /// Writes both files and prints what is in them.
     pub fn write(&self, directory: &Path, name: &str) -> io::Result<()> {
+        assert!(self.records.len() <= MOST_BYTES, "{name}: {} bytes", self.records.len());
         std::fs::write(directory.join(format!("{name}.bin")), &self.records)?;
         let lines: String = self.lines.iter().map(|line| format!("{line}\n")).collect();
         std::fs::write(directory.join(format!("{name}.expected")), lines)?;

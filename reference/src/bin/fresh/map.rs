@@ -1,9 +1,10 @@
 //! Fresh problems for map and list: the answer, the output and the work area.
 
 use crate::tally::{key, words, Tally};
-use reference::generate::chosen;
+use reference::cover::{self, Cover};
 use reference::generate::damage::{any_sheet, Kind};
 use reference::generate::problem::{any_style, problem, varied, Problem};
+use reference::generate::{chosen, heavy};
 use reference::hex::hex;
 use reference::operation::{Lent, Operation, LEAST_WORK};
 use reference::product;
@@ -17,6 +18,12 @@ struct Question {
     tree: Vec<u8>,
 }
 
+/// Problems made by hand, and those of the benchmark.
+struct Known {
+    chosen: Vec<Problem>,
+    heavy: Vec<Problem>,
+}
+
 /// What a call gives back: the coded answer and what it was lent.
 #[derive(PartialEq)]
 struct Answer {
@@ -28,25 +35,36 @@ struct Answer {
 pub fn run(count: u64, seed: u64) -> Tally {
     let mut rng = Rng::new(seed);
     let mut tally = Tally::default();
-    let chosen: Vec<Problem> = chosen::all().into_iter().map(|chosen| chosen.problem).collect();
+    let known = Known {
+        chosen: chosen::all().into_iter().map(|chosen| chosen.problem).collect(),
+        heavy: heavy::all().into_iter().map(|(_, problem)| problem).collect(),
+    };
     for _ in 0..count {
-        let question = ask(&mut rng, &chosen);
+        let question = ask(&mut rng, &known);
         let before = junk(&mut rng, question.lent);
         compare(&mut tally, &question, before);
     }
     tally
 }
 
-/// Mostly sound sheets; sometimes a damaged one, or too little lent.
-fn ask(rng: &mut Rng, chosen: &[Problem]) -> Question {
-    let operation = rng.pick(&[Operation::Map, Operation::Map, Operation::List]);
-    let problem = if rng.once_in(12) {
-        let number = rng.below(chosen.len());
-        varied(rng, &chosen[number])
-    } else {
-        let style = any_style(rng);
-        problem(rng, style)
+/// A random problem, now and then one made by hand with something changed, and rarely one that takes long.
+fn any_problem(rng: &mut Rng, known: &Known) -> Problem {
+    let similar = match rng.below(1_000) {
+        0 => &known.heavy,
+        1..=80 => &known.chosen,
+        _ => {
+            let style = any_style(rng);
+            return problem(rng, style);
+        }
     };
+    let number = rng.below(similar.len());
+    varied(rng, &similar[number])
+}
+
+/// Mostly sound sheets; sometimes a damaged one, or too little lent.
+fn ask(rng: &mut Rng, known: &Known) -> Question {
+    let operation = rng.pick(&[Operation::Map, Operation::Map, Operation::List]);
+    let problem = any_problem(rng, known);
     let mut question = Question {
         operation,
         lent: lent(rng, operation),
@@ -86,10 +104,21 @@ fn compare(tally: &mut Tally, question: &Question, before: Answer) {
     actual.coded = by_product(question, &mut actual.output, &mut actual.work);
     let expected = by_reference(question, before);
     if actual == expected {
-        let name = format!("{:?}", question.operation).to_lowercase();
-        tally.agree(key(&name, expected.coded));
+        tally.agree(key(name(question, &expected), expected.coded));
     } else {
         tally.disagree(|| story(question, &expected, &actual));
+    }
+}
+
+/// How a success is counted: covers that exchange inputs by themselves.
+fn name(question: &Question, answer: &Answer) -> &'static str {
+    let sheet = answer.output.get(..answer.coded as usize);
+    let cover = sheet.and_then(|sheet| cover::decode(sheet).ok());
+    let exchanges = |cover: Cover| cover.matches.iter().any(|placed| placed.crossing != 0);
+    match question.operation {
+        Operation::List => "list",
+        Operation::Map if cover.is_some_and(exchanges) => "map exchanged",
+        Operation::Map => "map as drawn",
     }
 }
 

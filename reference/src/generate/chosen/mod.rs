@@ -1,5 +1,6 @@
 //! Problems made by hand, each with what its list of trade-offs must be.
 
+mod crossings;
 mod loads;
 mod overfull;
 mod points;
@@ -7,6 +8,7 @@ mod unions;
 
 use super::parts::{cell, pin, tree};
 use super::problem::Problem;
+use crate::cover::Placed;
 use crate::library::{Cell, Library};
 use crate::refusal::OVERFULL;
 use crate::shape::Step;
@@ -25,6 +27,8 @@ pub struct Chosen {
     pub name: String,
     pub problem: Problem,
     pub outcome: Outcome,
+    /// Where it is stated, what map hands over at the latest required time.
+    pub matches: Option<Vec<Placed>>,
 }
 
 pub fn all() -> Vec<Chosen> {
@@ -33,6 +37,7 @@ pub fn all() -> Vec<Chosen> {
     unions::add(&mut table);
     loads::add(&mut table);
     points::add(&mut table);
+    crossings::add(&mut table);
     table.rows
 }
 
@@ -43,7 +48,21 @@ struct Table {
 impl Table {
     fn add(&mut self, name: &str, library: &Library, root_load: u32, steps: &[Step], outcome: Outcome) {
         let problem = Problem { library: library.clone(), tree: tree(root_load, 0, steps) };
-        self.rows.push(Chosen { name: name.to_string(), problem, outcome });
+        self.rows.push(Chosen { name: name.to_string(), problem, outcome, matches: None });
+    }
+
+    /// One trade-off under root load 1, and the cover that reaches it, as nodes, patterns and crossings.
+    fn add_cover(
+        &mut self,
+        name: &str,
+        library: &Library,
+        steps: &[Step],
+        (arrival, area): (u32, u32),
+        matches: &[(usize, usize, u32)],
+    ) {
+        self.add(name, library, 1, steps, Outcome::Single(arrival, area));
+        let placed = matches.iter().map(|&(node, pattern, crossing)| Placed { node, pattern, crossing });
+        self.rows.last_mut().expect("the row just added").matches = Some(placed.collect());
     }
 }
 

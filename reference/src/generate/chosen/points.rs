@@ -23,11 +23,13 @@ fn greatest(table: &mut Table) {
     table.add("both bounds", &cells, 255, &steps(LATEST_LEAF), Outcome::Single(9_225_280, 4_128_705));
     table.add("one before the bound", &cells, 255, &steps(LATEST_LEAF - 1), Outcome::Single(9_225_279, 4_128_705));
     table.add("a lower root load", &cells, 254, &steps(LATEST_LEAF), Outcome::Single(9_225_025, 4_128_705));
-    let mut nand = cell(65_535, 255, slowest, NAND);
-    nand.pins[0] = pin(0, 0, 0);
-    let cells = library(&[255], vec![nand]);
-    let outcome = Outcome::Single(LATEST_LEAF + 31 * 130_560, 31 * 65_535);
-    table.add("a comb of the largest", &cells, 255, &comb(&[LATEST_LEAF; 32]), outcome);
+    let slow = cell(65_535, 255, slowest, NAND);
+    let mut uneven = slow.clone();
+    uneven.pins[0] = pin(0, 0, 0);
+    let late = |delay| Outcome::Single(LATEST_LEAF + delay, 31 * 65_535);
+    let steps = comb(&[LATEST_LEAF; 32]);
+    table.add("a comb of the largest", &library(&[255], vec![slow]), 255, &steps, late(31 * 130_560));
+    table.add("its NANDs on the fast pins", &library(&[255], vec![uneven]), 255, &steps, late(130_560));
 }
 
 /// Cells and patterns that are quite alike.

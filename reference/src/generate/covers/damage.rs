@@ -3,10 +3,10 @@
 
 use super::draw::any_cover;
 use super::{Case, Draft};
+use crate::cover::Placed;
 use crate::generate::damage::{damage_bytes, damaged, Kind};
 use crate::generate::problem::{any_style, problem};
 use crate::library::Cell;
-use crate::matching::inputs_at;
 use crate::rng::Rng;
 
 #[derive(Clone, Copy, PartialEq, Eq, Debug)]
@@ -20,6 +20,10 @@ pub enum Damage {
     Exchanged,
     Pattern,
     PatternThatStands,
+    Crossing,
+    CrossingThatStands,
+    CrossingThatDoesNot,
+    UnusedBit,
     Node,
     Count,
     Held,
@@ -30,7 +34,7 @@ pub enum Damage {
 }
 
 /// Other figures and matches, on a sheet that is whole.
-pub const IN_COVER: [Damage; 10] = [
+pub const IN_COVER: [Damage; 14] = [
     Damage::Area,
     Damage::Arrival,
     Damage::LeftOut,
@@ -40,8 +44,16 @@ pub const IN_COVER: [Damage; 10] = [
     Damage::Exchanged,
     Damage::Pattern,
     Damage::PatternThatStands,
+    Damage::Crossing,
+    Damage::CrossingThatStands,
+    Damage::CrossingThatDoesNot,
+    Damage::UnusedBit,
     Damage::Node,
 ];
+
+/// Those of them that change nothing but a crossing, and not at random; the last can be done to few covers.
+const OF_CROSSING: [Damage; 4] =
+    [Damage::CrossingThatStands, Damage::UnusedBit, Damage::CrossingThatDoesNot, Damage::CrossingThatDoesNot];
 
 /// All others: the match count alone, a cell of the cover, and the bytes of the sheets.
 pub const ELSEWHERE: [Damage; 6] =
@@ -58,10 +70,10 @@ pub fn any_case(rng: &mut Rng) -> Case {
 }
 
 fn any_damage(rng: &mut Rng) -> Damage {
-    if rng.once_in(3) {
-        rng.pick(&ELSEWHERE)
-    } else {
-        rng.pick(&IN_COVER)
+    match rng.below(6) {
+        0 | 1 => rng.pick(&ELSEWHERE),
+        2 => rng.pick(&OF_CROSSING),
+        _ => rng.pick(&IN_COVER),
     }
 }
 
@@ -101,9 +113,7 @@ impl Draft {
     /// Damages of a list that has matches.
     fn damage_one(&mut self, rng: &mut Rng, damage: Damage) {
         let position = rng.below(self.cover.matches.len());
-        let (node, _) = self.cover.matches[position];
-        let standing = self.standing(node);
-        let another = self.any_match(rng);
+        let (changed, other) = self.another(rng, damage, position);
         let matches = &mut self.cover.matches;
         match damage {
             Damage::LeftOut if rng.once_in(2) => drop(matches.pop()),
@@ -113,29 +123,8 @@ impl Draft {
                 matches.insert(rng.below(matches.len() + 1), moved);
             }
             Damage::Exchanged => matches.swap(position.saturating_sub(1), position),
-            Damage::PatternThatStands if !standing.is_empty() => matches[position].1 = rng.pick(&standing),
-            Damage::Node => matches[position].0 = another.0,
-            _ => matches[position].1 = another.1,
+            _ => matches[changed] = other,
         }
-    }
-
-    /// One of the list, or any node and pattern: some that there are, the first that there is not, or the last number.
-    fn any_match(&self, rng: &mut Rng) -> (usize, usize) {
-        let listed = &self.cover.matches;
-        if !listed.is_empty() && rng.once_in(3) {
-            return rng.pick(listed);
-        }
-        let node = any_number(rng, self.problem.tree.shape.nodes.len(), 63);
-        let pattern = any_number(rng, self.problem.library.pattern_count(), 127);
-        (node, pattern)
-    }
-
-    /// The patterns that match at a node, those of held cells too.
-    fn standing(&self, node: usize) -> Vec<usize> {
-        let shape = &self.problem.tree.shape;
-        let patterns = self.problem.library.patterns().enumerate();
-        let stands = |pattern| node < shape.nodes.len() && inputs_at(pattern, shape, node).is_some();
-        patterns.filter(|(_, (_, pattern))| stands(pattern)).map(|(number, _)| number).collect()
     }
 
     /// Holds a cell of the cover, or sets its highest load to one of the loads, or just below.
@@ -154,7 +143,7 @@ impl Draft {
         if self.cover.matches.is_empty() {
             return None;
         }
-        let (_, pattern) = rng.pick(&self.cover.matches);
+        let Placed { pattern, .. } = rng.pick(&self.cover.matches);
         let cells = self.problem.library.cells.iter().enumerate();
         let number = cells.flat_map(|(number, cell)| vec![number; cell.patterns.len()]).nth(pattern)?;
         Some(&mut self.problem.library.cells[number])
@@ -180,13 +169,4 @@ fn beside(rng: &mut Rng, value: u32, width: u32) -> u32 {
     let top = (1 << width) - 1;
     let any = rng.value(0, top);
     rng.pick(&[value.saturating_sub(1), value.saturating_sub(1), value + 1, value + 1, any]).min(top)
-}
-
-/// Mostly a number below a count; sometimes the count itself, or the highest that a field holds.
-fn any_number(rng: &mut Rng, count: usize, highest: usize) -> usize {
-    match rng.below(6) {
-        0 => count.min(highest),
-        1 => highest,
-        _ => rng.below(count),
-    }
 }

@@ -3,7 +3,7 @@
 use crate::cover::Cover;
 use crate::generate::problem::Problem;
 use crate::library::Library;
-use crate::matching::{matches_at, Match};
+use crate::matching::{matches_by_node, redrawings, Match};
 use crate::merging;
 use crate::rng::Rng;
 use crate::shape::Node;
@@ -23,7 +23,7 @@ impl<'a> Draw<'a> {
     pub fn new(problem: &'a Problem) -> Self {
         let Problem { library, tree } = problem;
         let count = tree.shape.nodes.len();
-        let matches = (0..count).map(|node| matches_at(library, &tree.shape, node)).collect();
+        let matches = matches_by_node(&redrawings(library), &tree.shape);
         let mut draw = Draw { library, tree, matches, has_cover: vec![Vec::new(); count] };
         for node in (0..count).rev() {
             let has_cover = |&load: &u32| tree.shape.is_leaf(node) || !draw.choices(node, load).is_empty();
@@ -46,7 +46,7 @@ impl<'a> Draw<'a> {
             return None;
         }
         let found = rng.pick(&choices);
-        let mut cover = Cover { area: found.cell.area, arrival: 0, matches: vec![(node, found.pattern)] };
+        let mut cover = Cover { area: found.cell.area, arrival: 0, matches: vec![found.placed(node)] };
         for input in &found.inputs {
             let below = self.cover_of(rng, input.node, self.library.bins[found.bin(input)])?;
             cover = cover.beside(&below, found.delay(input, load));

@@ -2,9 +2,10 @@
 
 pub mod damage;
 pub mod draw;
+mod others;
 
 use super::problem::Problem;
-use crate::cover::Cover;
+use crate::cover::{Cover, Placed};
 use crate::form::{Form, Role};
 use crate::judging::{self, Judged};
 
@@ -57,7 +58,7 @@ impl Draft {
     }
 
     /// The same with other matches and their number.
-    pub fn with_matches(&self, matches: Vec<(usize, usize)>) -> Draft {
+    pub fn with_matches(&self, matches: Vec<Placed>) -> Draft {
         Draft::new(self.problem.clone(), Cover { matches, ..self.cover.clone() })
     }
 }

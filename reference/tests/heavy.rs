@@ -1,0 +1,45 @@
+//! The rows of the benchmark: what they are, and that every method gives the same cover.
+
+use reference::deadline::Variant;
+use reference::generate::heavy;
+use reference::merging::{extent, Extent};
+use reference::operation::{Lent, Operation, LEAST_WORK};
+
+/// Name, the sheets' digests, matches over all nodes, and the most trade-offs of a node under a load.
+const ROWS: [(&str, u64, u64, usize, usize); 6] = [
+    ("typical", 0xfb71_64ab_f9bb_7a1f, 0x577a_5fc9_a095_2fca, 189, 12),
+    ("chain", 0xbe9a_8d6f_a4d2_86e7, 0x3cb3_aa88_ec01_c30c, 6_721, 31),
+    ("comb", 0x22ed_991d_752a_bc41, 0xc40c_4a1f_3cc5_d258, 7_189, 31),
+    ("deep", 0xbe53_b972_f4ae_79d8, 0x3cb3_aa88_ec01_c30c, 63, 1),
+    ("full", 0x87f3_76b7_600d_8490, 0xcea8_477e_ef0f_40c1, 16_190, 31),
+    ("crosscomb", 0x87f3_76b7_600d_8490, 0x60b3_c32a_2f51_3341, 3_464, 31),
+];
+
+/// FNV-1a: sheets that change are noticed, so that times can be compared over the years.
+fn digest(sheet: &[u8]) -> u64 {
+    sheet.iter().fold(0xcbf2_9ce4_8422_2325, |sum, &byte| (sum ^ byte as u64).wrapping_mul(0x100_0000_01b3))
+}
+
+#[test]
+fn the_rows_are_what_they_were() {
+    assert_eq!(heavy::all().len(), ROWS.len());
+    for ((name, problem), row) in heavy::all().into_iter().zip(ROWS) {
+        let Extent { matches, most_trade_offs } = extent(&problem.library, &problem.tree).unwrap();
+        let (library, tree) = (digest(&problem.library_sheet()), digest(&problem.tree_sheet()));
+        assert_eq!((name, library, tree, matches, most_trade_offs), row, "{library:#x}, {tree:#x}");
+    }
+}
+
+#[test]
+fn all_methods_give_the_same_cover() {
+    let mut output = [0; 179];
+    let mut work = vec![0; LEAST_WORK];
+    for (name, problem) in heavy::all() {
+        let (library, tree) = (problem.library_sheet(), problem.tree_sheet());
+        let expected = Operation::Map.run(Lent::ENOUGH, &library, &tree).expect("a cover");
+        for variant in Variant::ALL {
+            let length = variant.run(Operation::Map, &library, &tree, &mut output, &mut work).expect("a cover");
+            assert_eq!(output[..length], expected, "{name}, {}", variant.name());
+        }
+    }
+}
