@@ -1,15 +1,22 @@
 -- Laws about numbers as text and about text put into a slice.
-use Prim.Native.Nat.{ℕ, zero, suc, _+_, _-_, _/_, _%_, _^_, _≤_, _<_}
+use Prim.Native.Nat.{ℕ, zero, suc, _+_, _-_, _*_, _/_, _%_, _^_, _≤_, _<_}
 use mathlib.Core.Path.{_≡_, refl, sym, ap, ap₂, subst, _∙_}
-use mathlib.Core.List.{List, [], _∷_, _++_, append-assoc}
-use native.Mathlib.Nat.{add-zero, add-assoc, pow-suc, pow-le-pow-right, mod-eq-of-lt}
+use mathlib.Core.Bool.{Bool, true, false, cond, true≢false}
+use mathlib.Core.List.{List, [], _∷_, _++_, flatMap, append-assoc, List·Memᴰ, List·Memᴰ·head, List·Memᴰ·tail}
+use native.Mathlib.Nat.{add-zero, zero-add, add-assoc, mul-suc, pow-suc, pow-le-pow-right, mod-eq-of-lt}
 use native.Mathlib.Decide.{decLt}
 use native.Mathlib.Omega.{arith}
-use borrow.Author.Tests.{lt-ltb, le-ltb}
+use borrow.Author.Tests.{lt-ltb, le-ltb, ltb-true}
+use lib.IntN.{ℤ, pos, negsuc, natAbs, _-ℤ_}
 use lib.ListN.{length, take, drop, length-append}
 use lib.Seq.{paste, paste-zero, take-length, length-take-le, take-at, drop-at, drop-drop}
+use lib.Dec.{T, ltb}
+use lib.Signed.{mag, nonNeg, ltZ}
+use mir.Syntax.{w32, w64}
+use mir.Val.{Fits, SFits, toZ, ofZ}
+use mir.ValLaws.{toZ-ofZ}
 use Rattle.io.specs.Digits.{glyph, digits, Fewest}
-use Rattle.lines.specs.Text.{digit, decimalIn, decimal, spaced, line, Appended}
+use Rattle.lines.specs.Text.{digit, decimalIn, decimal, minus, signed, spaced, line, Appended}
 
 -- ---- numbers
 
@@ -80,6 +87,80 @@ length-line w ws = length-append w (spaced ws)
 pub length-last : (v w : List ℕ) → length (spaced (v ∷ w ∷ [])) ≡ length v + length w + 3
 unfolding spaced
 length-last v w = omega (arith, length-spaced v (w ∷ []), length-spaced w [])
+
+-- ---- integers
+
+-- A test against 0 tells the sign.
+is-negative : (z : ℤ) → ltZ z (pos 0) ≡ true → (k : ℕ) × (z ≡ negsuc k)
+is-negative (pos n) t = absurd (omega (arith, ltb-true n 0 t))
+is-negative (negsuc k) t = (k, refl)
+
+not-negative : (z : ℤ) → ltZ z (pos 0) ≡ false → (k : ℕ) × (z ≡ pos k)
+not-negative (pos k) t = (k, refl)
+not-negative (negsuc n) t = absurd (true≢false t)
+
+-- A negative integer of 32 bits taken from 0 in 64 bits.
+module _ (z : ℤ) (f : SFits w32 z) where
+  abbrev taken : ℤ
+  taken = pos 0 -ℤ toZ w64 (ofZ w64 z)
+
+  -- What the subtraction asks, what the cast to an unsigned number asks, and that the result is how far the integer is from 0.
+  pub record Negated : Type 0 where
+    pub subtracts : SFits w64 taken
+    pub casts : T (nonNeg (toZ w64 (ofZ w64 taken))) × Fits w64 (natAbs (toZ w64 (ofZ w64 taken)))
+    pub result : natAbs (toZ w64 (ofZ w64 taken)) ≡ natAbs z
+
+  pub fits-wide : SFits w64 z
+  fits-wide = record { sfits = omega (arith, f .sfits) }
+
+  pub negated : ltZ z (pos 0) ≡ true → Negated
+  negated t =
+      let (k, e) = is-negative z t in
+      let small : k < 2147483648 = omega (arith, f .sfits, ap mag e) in
+      let taken-is : taken ≡ pos (suc k) = ap (λ (v : ℤ). pos 0 -ℤ v) (toZ-ofZ w64 z fits-wide ∙ e) ∙ ap pos (zero-add (suc k)) in
+      let fits : SFits w64 taken = subst (SFits w64) (sym taken-is) (record { sfits = omega arith }) in
+      let read : toZ w64 (ofZ w64 taken) ≡ pos (suc k) = toZ-ofZ w64 taken fits ∙ taken-is in
+      record {
+        subtracts = fits;
+        casts = subst (λ (v : ℤ). T (nonNeg v) × Fits w64 (natAbs v)) (sym read) (tt, record { fits = omega arith });
+        result = ap natAbs read ∙ sym (ap natAbs e);
+      }
+
+  -- One that is not negative, cast to an unsigned number.
+  pub unsigned-casts : ltZ z (pos 0) ≡ false → T (nonNeg z) × Fits w64 (natAbs z)
+  unsigned-casts t = let (k, e) = not-negative z t in subst (λ (v : ℤ). T (nonNeg v) × Fits w64 (natAbs v)) (sym e) (tt, record { fits = omega (arith, f .sfits, ap mag e) })
+
+-- The text of an integer, by its sign.
+pub signed-negative : (z : ℤ) → ltZ z (pos 0) ≡ true → signed z ≡ minus ∷ decimal (natAbs z)
+unfolding signed
+signed-negative z t = let (k, e) = is-negative z t in rw e
+
+pub signed-other : (z : ℤ) → ltZ z (pos 0) ≡ false → signed z ≡ decimal (natAbs z)
+unfolding signed
+signed-other z t = let (k, e) = not-negative z t in rw e
+
+-- A number less another takes no more bytes than the first has digits, and one more than the second has.
+pub signed-fits : (d a b : ℕ) → a < 10 ^ suc (suc d) → b < 10 ^ suc d → length (signed (pos a -ℤ pos b)) ≤ suc (suc d)
+unfolding signed
+signed-fits d a zero h g = decimal-fits (suc d) (a + 0) (omega arith)
+signed-fits d a (suc k) h g = go (ltb a (suc k))
+  where
+    go : (b : Bool) → length (signed (cond b (negsuc (suc k - suc a)) (pos (a - suc k)))) ≤ suc (suc d)
+    go true = unfold signed in omega (arith, decimal-fits d (suc (suc k - suc a)) (omega arith))
+    go false = unfold signed in decimal-fits (suc d) (a - suc k) (omega arith)
+
+-- ---- lines for each entry of a list
+
+module _ {A : Type 0} (f : A → List ℕ) where
+  pub flatMap-append : (xs ys : List A) → flatMap f (xs ++ ys) ≡ flatMap f xs ++ flatMap f ys
+  unfolding flatMap
+  flatMap-append [] ys = refl
+  flatMap-append (x ∷ xs) ys = ap (λ (r : List ℕ). f x ++ r) (flatMap-append xs ys) ∙ sym (append-assoc (f x) (flatMap f xs) (flatMap f ys))
+
+  pub lines-short : (most : ℕ) (xs : List A) → ((x : A) → List·Memᴰ x xs → length (f x) ≤ most) → length (flatMap f xs) ≤ most * length xs
+  unfolding flatMap
+  lines-short most [] h = omega arith
+  lines-short most (x ∷ xs) h = omega (arith, length-append (f x) (flatMap f xs), h x (List·Memᴰ·head refl), lines-short most xs (λ y m. h y (List·Memᴰ·tail m)), mul-suc most (length xs))
 
 -- ---- text put into a slice
 

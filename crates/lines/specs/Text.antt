@@ -4,6 +4,7 @@ use mathlib.Core.Path.{_≡_}
 use mathlib.Core.Bool.{cond}
 use mathlib.Core.List.{List, [], _∷_, _++_}
 use lib.Dec.{ltb}
+use lib.IntN.{ℤ, pos, negsuc}
 use lib.ListN.{length, take, drop}
 
 -- The digit of a number below ten.
@@ -19,6 +20,15 @@ decimalIn (suc steps) n = cond (ltb n 10) (digit n ∷ []) (decimalIn steps (n /
 unfoldable pub decimal : ℕ → List ℕ
 unfolding decimalIn
 decimal n = decimalIn n n
+
+abbrev pub minus : ℕ
+minus = 45
+
+-- An integer: a minus sign before the digits of a negative one, and no sign before others.
+unfoldable pub signed : ℤ → List ℕ
+unfolding decimal
+signed (pos n) = decimal n
+signed (negsuc n) = minus ∷ decimal (suc n)
 
 abbrev pub newline : ℕ
 newline = 10

@@ -1,16 +1,16 @@
 -- The patterns of a sound library, and their rows in the table that the core is lent.
 use Prim.Native.Nat.{ℕ, suc, _+_, _*_, _≤_, _<_}
-use mathlib.Core.Path.{_≡_, sym, ap, subst, _∙_}
+use mathlib.Core.Path.{_≡_, refl, sym, ap, subst, _∙_}
 use mathlib.Core.Logic.{⊎-elim}
-use mathlib.Core.Bool.{cond}
+use mathlib.Core.Bool.{false, cond}
 use mathlib.Core.List.{List, [], _∷_, map, List·Memᴰ, List·Memᴰ·head, List·Memᴰ·tail, List·Memᴰ·not-nil, List·Memᴰ·append-cases, Memᴰ·of-map}
-use native.Mathlib.Nat.{add-zero, add-suc, suc-add}
+use native.Mathlib.Nat.{add-zero, zero-add, add-suc, suc-add}
 use native.Mathlib.Omega.{arith}
 use lib.ListN.{length, getD, take, drop, replicate, length-map, length-drop, length-replicate}
 use lib.Seq.{length-take-le, getD-take, getD-drop}
 use Rattle.fields.proofs.Lists.{at-mem, at-map}
-use Rattle.shapes.specs.Shape.{Shape, size, symbols}
-use Rattle.sheets.specs.Model.{Pin, binLoadOf, Cell, Library, Pattern, drawn, patternsFrom, patterns}
+use Rattle.shapes.specs.Shape.{Shape, leaf, size, symbols}
+use Rattle.sheets.specs.Model.{Pin, binLoadOf, Cell, Library, Pattern, drawn, patternsFrom, patterns, cellOf, areaOf}
 use Rattle.sheets.specs.Sound.{SoundDrawing, SoundCell, SoundLibrary}
 use Rattle.sheets.specs.Layout.{padded, pinsMost, cellLaid, pinWords, figuresAt, sizeAt, symbolsAt, rowWords, tableWords, pinFigures, tableFrom, patternRow, patternRows, libraryLaid, patternTable}
 use Rattle.sheets.proofs.Rows.{length-row, row-cell, row-held, row-area, row-highest, row-pins, row-figure, row-size, row-symbol}
@@ -25,6 +25,7 @@ record Listed (n : ℕ) (cs : List Cell) (p : Pattern) : Type 0 where
   number : p .cellNumber ≡ n + place
   inside : place < length cs
   cell-in : List·Memᴰ (p .cell) cs
+  cell-at : (d : Cell) → getD cs place d ≡ p .cell
   drawing-in : List·Memᴰ (p .drawing) (p .cell .drawings)
 
 drawn-cases : (n : ℕ) (c : Cell) (ds : List Shape) {p : Pattern} → List·Memᴰ p (drawn n c ds) → (p .cellNumber ≡ n) × (p .cell ≡ c) × List·Memᴰ (p .drawing) ds
@@ -46,6 +47,7 @@ listed n (c ∷ cs) {p} h =
       number = r .0 ∙ sym (add-zero n);
       inside = omega arith;
       cell-in = List·Memᴰ·head (r .1);
+      cell-at = λ d. sym (r .1);
       drawing-in = subst (λ (x : Cell). List·Memᴰ (p .drawing) (x .drawings)) (sym (r .1)) (r .2);
     })
     (λ m.
@@ -55,6 +57,7 @@ listed n (c ∷ cs) {p} h =
       number = r .number ∙ suc-add n (r .place) ∙ sym (add-suc n (r .place));
       inside = omega (arith, r .inside);
       cell-in = List·Memᴰ·tail (r .cell-in);
+      cell-at = r .cell-at;
       drawing-in = r .drawing-in;
     })
     (List·Memᴰ·append-cases (drawn n c (c .drawings)) h)
@@ -63,6 +66,7 @@ listed n (c ∷ cs) {p} h =
 pub record SoundPattern (l : Library) (p : Pattern) : Type 0 where
   pub number-small : p .cellNumber < length (l .cells)
   pub cell-in : List·Memᴰ (p .cell) (l .cells)
+  pub cell-at : (d : Cell) → getD (l .cells) (p .cellNumber) d ≡ p .cell
   pub cell : SoundCell (length (l .bins)) (p .cell)
   pub drawing : SoundDrawing (length (p .cell .pins)) (p .drawing)
 
@@ -71,7 +75,13 @@ unfolding patterns
 sound-pattern l h {p} m =
     let r = listed 0 (l .cells) m in
     let c = h .cells (p .cell) (r .cell-in) in
-    record { number-small = omega (arith, r .number, r .inside); cell-in = r .cell-in; cell = c; drawing = c .drawings (p .drawing) (r .drawing-in) }
+    record {
+      number-small = omega (arith, r .number, r .inside);
+      cell-in = r .cell-in;
+      cell-at = λ d. ap (λ (k : ℕ). getD (l .cells) k d) (r .number ∙ zero-add (r .place)) ∙ r .cell-at d;
+      cell = c;
+      drawing = c .drawings (p .drawing) (r .drawing-in);
+    }
 
 -- The figures of a pin that a cell has.
 pub pin-laid : (bins : List ℕ) (c : Cell) (d : Pin) (k : ℕ) → length (c .pins) ≤ pinsMost → k < length (c .pins) →
@@ -116,12 +126,14 @@ told bins p r e h =
       symbol = λ k i. h (symbolsAt + k) (omega arith) ∙ row-symbol n c x k;
     }
 
+pub all-words : (l : Library) → length (libraryLaid l .rows) ≡ tableWords
+unfolding libraryLaid
+all-words l = length-table rowWords (replicate tableWords 0) 0 (patternRows (l .bins) (patterns l)) ∙ length-replicate {A = ℕ} tableWords 0
+
 module _ (l : Library) (sound : SoundLibrary l) where
   pub table-long : length (patternTable l) ≡ rowWords * length (patterns l)
-  unfolding patternTable libraryLaid
-  table-long =
-      length-take-le (rowWords * length (patterns l)) (libraryLaid l .rows)
-      (omega (arith, length-table rowWords (replicate tableWords 0) 0 (patternRows (l .bins) (patterns l)), length-replicate {A = ℕ} tableWords 0, sound .few-patterns))
+  unfolding patternTable
+  table-long = length-take-le (rowWords * length (patterns l)) (libraryLaid l .rows) (omega (arith, all-words l, sound .few-patterns))
 
   -- The row of pattern j, which is lent in m words.
   module _ (d : Pattern) (j m : ℕ) (h : j < length (patterns l)) (e : m ≡ rowWords) where
@@ -153,3 +165,55 @@ module _ (l : Library) (sound : SoundLibrary l) where
         told (l .bins) p _
         (length-take-le m (drop (rowWords * j) (patternTable l)) (omega (arith, length-drop (rowWords * j) (patternTable l), table-long)) ∙ e)
         (λ c g. words c g (omega arith))
+
+-- ---- a pattern's cell, by the words of the whole table
+
+abbrev noCell : Cell
+noCell = record { held = false; area = 0; highest = 0; pins = []; drawings = [] }
+
+abbrev noPattern : Pattern
+noPattern = record { cellNumber = 0; cell = noCell; drawing = leaf 0 }
+
+module _ {l : Library} (sound : SoundLibrary l) (j : ℕ) (h : j < length (patterns l)) where
+  abbrev ps : List Pattern
+  ps = patterns l
+
+  abbrev rows : List ℕ
+  rows = libraryLaid l .rows
+
+  known : SoundPattern l (getD ps j noPattern)
+  known = sound-pattern l sound (at-mem ps j noPattern h)
+
+  cell-of : cellOf l j ≡ getD ps j noPattern .cellNumber
+  unfolding cellOf
+  cell-of = at-map (λ (p : Pattern). p .cellNumber) ps j noPattern 0 h
+
+  pub cell-below : cellOf l j < length (l .cells)
+  cell-below = omega (arith, known .number-small, cell-of)
+
+  -- The area of a pattern's cell is that of the cell with its number.
+  pub area-of : areaOf l (cellOf l j) ≡ getD ps j noPattern .cell .area
+  unfolding areaOf
+  area-of =
+      let area : Cell → ℕ = λ c. c .area in
+      ap (λ (n : ℕ). getD (map area (l .cells)) n 0) cell-of ∙ at-map area (l .cells) (getD ps j noPattern .cellNumber) noCell 0 (known .number-small) ∙ ap area (known .cell-at noCell)
+
+  pub area-small : areaOf l (cellOf l j) ≤ 65535
+  area-small = omega (arith, area-of, known .cell .area)
+
+  -- Its row is in the table, and has both.
+  pub row-in : rowWords * j + rowWords ≤ length rows
+  row-in = omega (arith, sound .few-patterns, all-words l)
+
+  word-of : (c : ℕ) → c < rowWords → getD rows (rowWords * j + c) 0 ≡ getD (take rowWords (drop (rowWords * j) (patternTable l))) c 0
+  unfolding patternTable
+  word-of c small =
+      sym (getD-take (rowWords * length ps) rows (rowWords * j + c) 0 (omega arith))
+      ∙ sym (getD-drop (rowWords * j) (patternTable l) c 0)
+      ∙ sym (getD-take rowWords (drop (rowWords * j) (patternTable l)) c 0 small)
+
+  pub cell-told : getD rows (rowWords * j + 0) 0 ≡ cellOf l j
+  cell-told = word-of 0 (omega arith) ∙ row-told l sound noPattern j rowWords h refl .number ∙ sym cell-of
+
+  pub area-told : getD rows (rowWords * j + 2) 0 ≡ areaOf l (cellOf l j)
+  area-told = word-of 2 (omega arith) ∙ row-told l sound noPattern j rowWords h refl .area ∙ sym area-of

@@ -1,6 +1,6 @@
 -- The values that a sound library and a sound tree stand for. Every later definition speaks of these.
 use Prim.Native.Nat.{ℕ, suc}
-use mathlib.Core.List.{List, [], _∷_, _++_}
+use mathlib.Core.List.{List, [], _∷_, _++_, map}
 use mathlib.Core.Bool.{Bool}
 use lib.ListN.{getD}
 pub use Rattle.shapes.specs.Shape.{Shape, leaf, inv, nand}
@@ -46,6 +46,14 @@ patternsFrom n (c ∷ cs) = drawn n c (c .drawings) ++ patternsFrom (suc n) cs
 -- The patterns, numbered by their place in this list: from 0 through the whole sheet, held cells included.
 unfoldable pub patterns : Library → List Pattern
 patterns l = patternsFrom 0 (l .cells)
+
+-- The number of a pattern's cell, and a cell's area, each by its own number.
+unfoldable pub cellOf : Library → ℕ → ℕ
+unfolding patterns
+cellOf l pattern = getD (map (λ (p : Pattern). p .cellNumber) (patterns l)) pattern 0
+
+unfoldable pub areaOf : Library → ℕ → ℕ
+areaOf l cell = getD (map (λ (c : Cell). c .area) (l .cells)) cell 0
 
 -- A subject tree with its root load and its required time.
 pub record Tree : Type 0 where
