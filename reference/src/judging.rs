@@ -104,27 +104,38 @@ pub fn name(judged: &Judged) -> String {
 
 /// Judges the cover that the last of three sheets holds.
 pub fn judge(library: &[u8], tree: &[u8], cover: &[u8]) -> Judged {
+    let (library, tree, cover) = decode(library, tree, cover)?;
+    check(&library, &tree, &cover)
+}
+
+/// What the three sheets hold.
+pub fn decode(library: &[u8], tree: &[u8], cover: &[u8]) -> Result<(Library, Tree, Cover), Fault> {
     let library = library::decode(library).map_err(Fault::Before)?;
     let tree = tree::decode(tree).map_err(Fault::Before)?;
     let cover = cover::decode(cover).map_err(Fault::of_sheet)?;
-    check(&library, &tree, &cover)
+    Ok((library, tree, cover))
 }
 
 /// Judges a cover of a sound tree by a sound library.
 pub fn check(library: &Library, tree: &Tree, cover: &Cover) -> Judged {
-    let mut walk = Walk::begin(library, tree);
-    for (position, &placed) in cover.matches.iter().enumerate() {
-        walk.take(placed).map_err(|wrong| Fault::Match(position, wrong))?;
-    }
-    if !walk.uncovered.is_empty() {
-        return Err(Fault::Unfinished(cover.matches.len()));
-    }
-    let figures = Pair { arrival: walk.arrival(0), area: walk.area() };
+    let figures = figures(library, tree, &cover.matches)?;
     let (area, arrival) = (cover.area != figures.area, cover.arrival != figures.arrival);
     if area || arrival {
         return Err(Fault::Figures { area, arrival });
     }
     Ok(figures)
+}
+
+/// The figures of a list of matches, if it is a legal cover.
+pub fn figures(library: &Library, tree: &Tree, matches: &[Placed]) -> Judged {
+    let mut walk = Walk::begin(library, tree);
+    for (position, &placed) in matches.iter().enumerate() {
+        walk.take(placed).map_err(|wrong| Fault::Match(position, wrong))?;
+    }
+    if !walk.uncovered.is_empty() {
+        return Err(Fault::Unfinished(matches.len()));
+    }
+    Ok(Pair { arrival: walk.arrival(0), area: walk.area() })
 }
 
 /// A list of matches walked up to some position.

@@ -1,6 +1,7 @@
 //! A second implementation of the mapper, written from the documents and by another
 //! method than the product: it makes stored cases and checks fresh ones.
 
+pub mod bill;
 pub mod bits;
 pub mod brute;
 pub mod cover;

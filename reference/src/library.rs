@@ -35,6 +35,11 @@ impl Library {
     pub fn patterns(&self) -> impl Iterator<Item = (&Cell, &Shape)> {
         self.cells.iter().flat_map(|cell| cell.patterns.iter().map(move |shape| (cell, shape)))
     }
+
+    /// The number of each pattern's cell, in the same order.
+    pub fn cell_numbers(&self) -> Vec<usize> {
+        self.cells.iter().enumerate().flat_map(|(number, cell)| vec![number; cell.patterns.len()]).collect()
+    }
 }
 
 pub const MOST_PATTERNS: usize = 128;

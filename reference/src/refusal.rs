@@ -36,6 +36,11 @@ impl Refusal {
         Refusal { number, place: place as u32 }
     }
 
+    /// As a line of a program's text and of the stored results.
+    pub fn line(&self) -> String {
+        format!("refused {} {}", self.number, self.place)
+    }
+
     /// The form in which the C interface hands a refusal over.
     pub fn coded(&self) -> u64 {
         (self.number as u64) << 32 | self.place as u64

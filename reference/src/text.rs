@@ -17,12 +17,19 @@ pub fn input(library: &[u8], tree: &[u8]) -> Vec<u8> {
 /// The text for an input.
 pub fn printed(input: &[u8]) -> String {
     match parts(input) {
-        None => "spoiled\n".to_string(),
-        Some((library, tree)) => match mapped(library, tree) {
-            Err(refusal) => format!("refused {} {}\n", refusal.number, refusal.place),
-            Ok(text) => text,
-        },
+        None => spoiled(),
+        Some((library, tree)) => mapped(library, tree).unwrap_or_else(refused),
     }
+}
+
+/// The text for an input that is not of the right length.
+pub(crate) fn spoiled() -> String {
+    "spoiled\n".to_string()
+}
+
+/// The text in place of a result.
+pub(crate) fn refused(refusal: Refusal) -> String {
+    refusal.line() + "\n"
 }
 
 fn parts(input: &[u8]) -> Option<(&[u8], &[u8])> {
@@ -39,8 +46,7 @@ fn mapped(library: &[u8], tree: &[u8]) -> Result<String, Refusal> {
 
 /// `cover`, area, arrival and match count, and a line of node, cell, pattern and crossing for each match.
 fn cover_text(library: &Library, cover: &Cover) -> String {
-    let cells: Vec<usize> =
-        library.cells.iter().enumerate().flat_map(|(number, cell)| vec![number; cell.patterns.len()]).collect();
+    let cells = library.cell_numbers();
     let head = format!("cover {} {} {}\n", cover.area, cover.arrival, cover.matches.len());
     let line =
         |&Placed { node, pattern, crossing }: &Placed| format!("{node} {} {pattern} {crossing}\n", cells[pattern]);

@@ -35,7 +35,7 @@ impl Verdict {
             Verdict::Library { cells, patterns } => format!("library {cells} {patterns}"),
             Verdict::Tree { nodes } => format!("tree {nodes}"),
             Verdict::Cover(pair) => format!("accepted {} {}", pair.area, pair.arrival),
-            Verdict::Refused(refusal) => format!("refused {} {}", refusal.number, refusal.place),
+            Verdict::Refused(refusal) => refusal.line(),
         }
     }
 

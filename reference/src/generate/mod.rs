@@ -1,5 +1,6 @@
 //! Sheets for tests: sound ones, damaged ones, and ones at the limits.
 
+pub mod bills;
 pub mod chosen;
 pub mod covers;
 pub mod damage;

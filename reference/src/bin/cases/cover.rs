@@ -1,6 +1,7 @@
 //! Stored cases of the judge of covers. A record is a kind byte (5), the lengths of library, tree
 //! and cover sheet in two bytes each, high byte first, the library, the tree, and the cover sheet.
 
+use crate::kinds::Kinds;
 use crate::stored::{Stored, MOST_BYTES};
 use reference::cover::{Cover, Placed};
 use reference::crossing::{bit, crossings, redrawn, CROSSINGS};
@@ -67,8 +68,8 @@ pub fn add_all(stored: &mut Stored) {
     (0..=8).for_each(|count| covers.tails(&inverters(count)));
     covers.largest();
     covers.large_libraries();
-    covers.unsound();
-    covers.every_refusal();
+    unsound().into_iter().for_each(|case| covers.add(case));
+    every_refusal().into_iter().for_each(|case| covers.add(case));
     covers.random();
     covers.print();
     covers.check();
@@ -123,7 +124,7 @@ fn flipped() -> Vec<Draft> {
     (0..3).filter_map(by_count).chain(mapped(example_in_time())).collect()
 }
 
-fn example_in_time() -> Problem {
+pub fn example_in_time() -> Problem {
     Problem { library: specimen::example_library(), tree: specimen::example_tree(39) }
 }
 
@@ -146,7 +147,7 @@ fn crossed() -> Problem {
 }
 
 /// 63 inverters of the greatest area and delay over a leaf that arrives last.
-fn greatest() -> Draft {
+pub fn greatest() -> Draft {
     let inverter = cell(65_535, 255, pin(0, 65_535, 255), INVERTER);
     let library = Library { bins: vec![255], cells: vec![inverter] };
     let tree = tree(255, LATEST_REQUIRED, &chain(63, &[Leaf(LATEST_LEAF)]));
@@ -154,7 +155,7 @@ fn greatest() -> Draft {
 }
 
 /// The cover that map hands over.
-fn mapped(problem: Problem) -> Option<Draft> {
+pub fn mapped(problem: Problem) -> Option<Draft> {
     let cover = merging::map(&problem.library, &problem.tree).ok()?;
     Some(Draft::new(problem, cover))
 }
@@ -341,37 +342,6 @@ impl Covers {
         draft.iter().for_each(|draft| self.add(draft.case()));
     }
 
-    /// Library, tree and cover sheet each sound, torn, with a tail, or empty.
-    fn unsound(&mut self) {
-        let Case { library, tree, cover } = mapped(example_in_time()).expect("a cover in time").case();
-        for library in ways(&library) {
-            for tree in ways(&tree) {
-                for cover in ways(&cover) {
-                    self.add(Case { library: library.clone(), tree: tree.clone(), cover });
-                }
-            }
-        }
-    }
-
-    /// Some sheets of every refusal of a library and a tree, with a sound cover sheet and an empty one.
-    fn every_refusal(&mut self) {
-        let sound = mapped(example_in_time()).expect("a cover in time").case();
-        let mut counts = BTreeMap::new();
-        for row in limits::rows().into_iter().filter(|row| row.bytes.len() <= 100) {
-            let Verdict::Refused(refusal) = row.verdict else { continue };
-            let count = counts.entry(refusal.number).or_insert(0);
-            *count += 1;
-            if *count <= 4 {
-                let case = match row.kind {
-                    Kind::Library => Case { library: row.bytes, ..sound.clone() },
-                    Kind::Tree => Case { tree: row.bytes, ..sound.clone() },
-                };
-                self.add(Case { cover: vec![], ..case.clone() });
-                self.add(case);
-            }
-        }
-    }
-
     /// Small problems with every damage, and covers with none.
     fn random(&mut self) {
         let mut rng = Rng::new(2_400);
@@ -394,20 +364,12 @@ impl Covers {
 
     /// There are enough cases, of every kind, and not too many bytes.
     fn check(&self) {
-        let kinds = self.kinds();
-        for kind in KINDS {
-            let count = kinds.get(kind).copied().unwrap_or(0);
-            assert!(count >= LEAST_OF_A_KIND, "{count} cases: {kind}");
-        }
+        self.kinds().check(&KINDS, LEAST_OF_A_KIND);
         assert!(self.cases.len() >= LEAST_CASES && self.bytes() <= MOST_BYTES);
     }
 
-    fn kinds(&self) -> BTreeMap<String, usize> {
-        let mut kinds = BTreeMap::new();
-        for case in &self.cases {
-            *kinds.entry(kind(case)).or_insert(0) += 1;
-        }
-        kinds
+    fn kinds(&self) -> Kinds {
+        Kinds::of(self.cases.iter().map(kind))
     }
 
     /// The bytes of all records.
@@ -417,10 +379,43 @@ impl Covers {
 
     fn print(&self) {
         println!("{} cases of covers, {} bytes", self.cases.len(), self.bytes());
-        for (kind, count) in self.kinds() {
-            println!("  {kind}: {count}");
+        self.kinds().print();
+    }
+}
+
+/// Library, tree and cover sheet each sound, torn, with a tail, or empty.
+pub fn unsound() -> Vec<Case> {
+    let Case { library, tree, cover } = mapped(example_in_time()).expect("a cover in time").case();
+    let mut cases = Vec::new();
+    for library in ways(&library) {
+        for tree in ways(&tree) {
+            for cover in ways(&cover) {
+                cases.push(Case { library: library.clone(), tree: tree.clone(), cover });
+            }
         }
     }
+    cases
+}
+
+/// Some sheets of every refusal of a library and a tree, with a sound cover sheet and an empty one.
+pub fn every_refusal() -> Vec<Case> {
+    let sound = mapped(example_in_time()).expect("a cover in time").case();
+    let mut cases = Vec::new();
+    let mut counts = BTreeMap::new();
+    for row in limits::rows().into_iter().filter(|row| row.bytes.len() <= 100) {
+        let Verdict::Refused(refusal) = row.verdict else { continue };
+        let count = counts.entry(refusal.number).or_insert(0);
+        *count += 1;
+        if *count <= 4 {
+            let case = match row.kind {
+                Kind::Library => Case { library: row.bytes, ..sound.clone() },
+                Kind::Tree => Case { tree: row.bytes, ..sound.clone() },
+            };
+            cases.push(Case { cover: vec![], ..case.clone() });
+            cases.push(case);
+        }
+    }
+    cases
 }
 
 fn flipped_at(bytes: &[u8], bit: usize) -> Vec<u8> {

@@ -1,8 +1,10 @@
 //! Writes the stored cases and their expected results into a directory
 //! (the first argument; `cases` if there is none).
 
+mod bill;
 mod cover;
 mod judge;
+mod kinds;
 mod map;
 mod single;
 mod stored;
@@ -21,7 +23,12 @@ fn main() -> io::Result<()> {
     map::add_all(&mut stored);
     text::add_all(&mut stored);
     stored.write(&directory, "stored")?;
+    stored.print_histogram();
     let mut covers = Stored::default();
     cover::add_all(&mut covers);
-    covers.write(&directory, "covers")
+    covers.write(&directory, "covers")?;
+    covers.print_histogram();
+    let mut bills = Stored::default();
+    bill::add_all(&mut bills);
+    bills.write(&directory, "bills")
 }

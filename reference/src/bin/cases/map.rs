@@ -56,7 +56,7 @@ fn add(stored: &mut Stored, operation: Operation, lent: Lent, library: &[u8], tr
 pub fn line(operation: Operation, lent: Lent, library: &[u8], tree: &[u8]) -> String {
     let word = if operation == Operation::Map { "cover" } else { "list" };
     match operation.run(lent, library, tree) {
-        Err(refusal) => format!("refused {} {}", refusal.number, refusal.place),
+        Err(refusal) => refusal.line(),
         Ok(sheet) => format!("{word} {} {}", sheet.len(), hex(&sheet)),
     }
 }

@@ -2,8 +2,8 @@
 
 use reference::form::Form;
 use reference::generate::problem::Problem;
-use reference::generate::{longest, specimen};
-use reference::{merging, text};
+use reference::generate::{bills, longest, specimen};
+use reference::{bill, merging, text};
 use std::io;
 use std::path::Path;
 
@@ -15,7 +15,10 @@ pub fn write(directory: &Path) -> io::Result<()> {
     put("specimen.expected", text::printed(&specimen).as_bytes())?;
     let example = Problem { library: specimen::example_library(), tree: specimen::example_tree(39) };
     put("example003.input", &input(&example))?;
-    put("example003.expected", list_text(&example).as_bytes())
+    put("example003.expected", list_text(&example).as_bytes())?;
+    let billed = bills::whole(&bills::shipped().case());
+    put("bill.input", &billed)?;
+    put("bill.expected", bill::printed(&billed).as_bytes())
 }
 
 fn input(problem: &Problem) -> Vec<u8> {

@@ -1,6 +1,6 @@
 //! A file of cases and the file of their results.
 
-use std::collections::BTreeMap;
+use crate::kinds::Kinds;
 use std::io;
 use std::path::Path;
 
@@ -25,27 +25,26 @@ impl Stored {
         self.lines.push(line);
     }
 
-    /// Writes both files and prints what is in them.
+    /// Writes both files and prints how much is in them.
     pub fn write(&self, directory: &Path, name: &str) -> io::Result<()> {
         assert!(self.records.len() <= MOST_BYTES, "{name}: {} bytes", self.records.len());
         std::fs::write(directory.join(format!("{name}.bin")), &self.records)?;
         let lines: String = self.lines.iter().map(|line| format!("{line}\n")).collect();
         std::fs::write(directory.join(format!("{name}.expected")), lines)?;
         println!("{name}: {} cases, {} bytes", self.lines.len(), self.records.len());
-        self.print_histogram();
         Ok(())
     }
 
     /// How many lines open with each word, refusals by their number.
-    fn print_histogram(&self) {
-        let mut counts = BTreeMap::new();
-        for line in &self.lines {
+    pub fn print_histogram(&self) {
+        let opening = |line: &String| {
             let words: Vec<&str> = line.split(' ').collect();
-            let key = if words[0] == "refused" { format!("refused {:>2}", words[1]) } else { words[0].to_string() };
-            *counts.entry(key).or_insert(0) += 1;
-        }
-        for (key, count) in counts {
-            println!("  {key}: {count}");
-        }
+            if words[0] == "refused" {
+                format!("refused {:>2}", words[1])
+            } else {
+                words[0].to_string()
+            }
+        };
+        Kinds::of(self.lines.iter().map(opening)).print();
     }
 }

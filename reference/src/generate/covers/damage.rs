@@ -144,8 +144,7 @@ impl Draft {
             return None;
         }
         let Placed { pattern, .. } = rng.pick(&self.cover.matches);
-        let cells = self.problem.library.cells.iter().enumerate();
-        let number = cells.flat_map(|(number, cell)| vec![number; cell.patterns.len()]).nth(pattern)?;
+        let number = *self.problem.library.cell_numbers().get(pattern)?;
         Some(&mut self.problem.library.cells[number])
     }
 }

@@ -5,7 +5,7 @@ pub mod draw;
 mod others;
 
 use super::problem::Problem;
-use crate::cover::{Cover, Placed};
+use crate::cover::{Cover, Pair, Placed};
 use crate::form::{Form, Role};
 use crate::judging::{self, Judged};
 
@@ -46,6 +46,13 @@ impl Draft {
         Draft { problem, cover, count }
     }
 
+    /// The legal cover that these matches are, with its figures.
+    pub fn legal(problem: Problem, matches: Vec<Placed>) -> Draft {
+        let figures = judging::figures(&problem.library, &problem.tree, &matches);
+        let Pair { arrival, area } = figures.expect("a legal cover");
+        Draft::new(problem, Cover { area, arrival, matches })
+    }
+
     /// The cover sheet's fields; of the count only what its field holds.
     pub fn form(&self) -> Form {
         let form = Form::of_cover(&self.cover);
@@ -60,5 +67,12 @@ impl Draft {
     /// The same with other matches and their number.
     pub fn with_matches(&self, matches: Vec<Placed>) -> Draft {
         Draft::new(self.problem.clone(), Cover { matches, ..self.cover.clone() })
+    }
+
+    /// The same with another required time.
+    pub fn due(&self, required: u32) -> Draft {
+        let mut due = self.clone();
+        due.problem.tree.required = required;
+        due
     }
 }
