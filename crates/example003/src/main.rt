@@ -2,9 +2,9 @@
 // bytes, high byte first, the library, and the tree as all that is left. Prints "list" and the count, then a line of arrival and area for
 // each trade-off; or "refused", number, place.
 use fields::Scan;
+use framing::Frame;
 use libc::STDOUT_FILENO;
 use operations::Reply;
-use printing::Text;
 use results::Sheet;
 use sheets::Limits;
 ghost use Prim.Native.Nat.{_+_, _*_, _≤_};
@@ -73,16 +73,16 @@ fn write_reply(reply: Reply, output: &[u8]) {
 
 // Splits the input and lists the trade-offs.
 fn run(s: &[u8]) {
-    if s.len() < Text::HEAD {
+    if s.len() < Frame::LENGTH {
         return;
     }
-    let end = Text::HEAD + printing::length_of(s[0], s[1]);
+    let end = Frame::LENGTH + framing::length_of(s[0], s[1]);
     if s.len() < end {
         return;
     }
     let mut output = [0u8; Limits::OUTPUT_LIST];
     let mut work = [0u64; Limits::WORK];
-    let reply = operations::list(&s[Text::HEAD..end], &s[end..], &mut output, &mut work);
+    let reply = operations::list(&s[Frame::LENGTH..end], &s[end..], &mut output, &mut work);
     write_reply(reply, &output);
 }
 

@@ -1,16 +1,12 @@
--- Laws about the lines that are put, and about the input that they are put for.
-use Prim.Native.Nat.{ℕ, zero, suc, _+_, _-_, _*_, _≤_, _<_}
+-- Laws about the lines that are put.
+use Prim.Native.Nat.{ℕ, zero, suc, _+_, _*_, _≤_, _<_}
 use mathlib.Core.Path.{_≡_, refl, sym, ap, ap₂, subst, _∙_}
-use mathlib.Core.Bool.{Bool, true, false, _||_, true≢false}
 use mathlib.Core.List.{List, [], _∷_, _++_, flatMap, append-nil, append-assoc, List·Memᴰ}
-use native.Mathlib.Nat.{add-zero, zero-add}
+use native.Mathlib.Nat.{add-zero}
 use native.Mathlib.Omega.{arith}
 use native.Mathlib.Numerals.{add-one}
-use lib.Dec.{ltb}
-use lib.ListN.{length, take, drop, getD, length-append, length-drop}
-use lib.Seq.{take-all, length-take-le}
-use Rattle.io.specs.Counts.{Counts}
-use borrow.Author.Tests.{lt-ltb, le-ltb, ltb-false, le-leb, lt-leb}
+use lib.ListN.{length, take, getD, length-append}
+use lib.Seq.{take-all}
 use Rattle.fields.specs.Promises.{Live}
 use Rattle.fields.specs.Reading.{start}
 use Rattle.fields.proofs.Lists.{at-mem}
@@ -22,11 +18,11 @@ use Rattle.sheets.specs.Public.{LibraryIs}
 use Rattle.covers.specs.Cover.{Placed, Cover}
 use Rattle.results.specs.declared.CoverRecord.{CoverRecord}
 use Rattle.results.specs.declared.CoverRead.{CoverRead}
-use Rattle.results.specs.Public.{coverOf, Written, CoverIs}
+use Rattle.results.specs.Public.{coverOf, CoverIs}
 use Rattle.results.proofs.Laws.{placed-at, Room, many}
 use Rattle.lines.specs.Text.{decimal, spaced, line, Appended}
 use Rattle.lines.proofs.Laws.{length-spaced, length-line, appended-none, appended-both}
-use Rattle.printing.specs.Printed.{coverWord, refusedWord, coverLine, refusalLine, spoiledLine, mapText, statedLength, spoiled, printed, longestText, printedWithin}
+use Rattle.printing.specs.Printed.{coverWord, coverLine}
 use Rattle.printing.specs.Rows.{rowsOf, coverIn, rowLine, rowLines, rowText, HaveRows, Printable}
 
 -- ---- how long a line is, by what is put for it
@@ -34,10 +30,6 @@ use Rattle.printing.specs.Rows.{rowsOf, coverIn, rowLine, rowLines, rowT
 pub cover-line-length : (a b n : ℕ) → length (coverLine a b n) ≡ 6 + length (decimal a) + length (spaced (decimal b ∷ decimal n ∷ []))
 unfolding coverLine
 cover-line-length a b n = omega (arith, length-line coverWord (decimal a ∷ decimal b ∷ decimal n ∷ []), length-spaced (decimal a) (decimal b ∷ decimal n ∷ []))
-
-pub refusal-length : (n p : ℕ) → length (refusalLine n p) ≡ 7 + length (spaced (decimal n ∷ decimal p ∷ []))
-unfolding refusalLine
-refusal-length n p = length-line refusedWord (decimal n ∷ decimal p ∷ [])
 
 -- A pattern's cell and the line of a match, as they are put.
 abbrev pub cellText : List ℕ → ℕ → List ℕ
@@ -120,57 +112,3 @@ module _ {library sheet : List ℕ} {read : LibraryRead} {found : CoverRead} (h 
 
   pub printable-read : (text : List ℕ) → Printable (rowsOf library) (coverIn sheet) text → Printable (read .library .rows) (coverOf (found .cover)) text
   printable-read text p = subst (λ (r : List ℕ). Printable r (coverOf (found .cover)) text) (sym rows-read) (subst (λ (c : Cover). Printable (rowsOf library) c text) (sym (g .cover-is)) p)
-
--- ---- the input
-
-module _ (input : List ℕ) where
-  pub spoiled-short : length input < 2 → spoiled input ≡ true
-  unfolding spoiled
-  spoiled-short h = rw (lt-ltb (length input) 2 h)
-
-  pub spoiled-long : 2 ≤ length input → 4096 < length input → spoiled input ≡ true
-  unfolding spoiled
-  spoiled-long g h = rw (le-ltb (length input) 2 g, lt-ltb 4096 (length input) h)
-
-  pub spoiled-truncated : 2 ≤ length input → length input ≤ 4096 → spoiled input ≡ ltb (length input) (2 + statedLength input)
-  unfolding spoiled
-  spoiled-truncated g h = rw (le-ltb (length input) 2 g, le-ltb 4096 (length input) h)
-
-  pub whole : spoiled input ≡ false → (2 ≤ length input) × (2 + statedLength input ≤ length input)
-  unfolding spoiled
-  whole e = go (ltb (length input) 2) refl (ltb 4096 (length input)) e
-    where
-      go : (b : Bool) → ltb (length input) 2 ≡ b → (c : Bool) → b || c || ltb (length input) (2 + statedLength input) ≡ false → (2 ≤ length input) × (2 + statedLength input ≤ length input)
-      go true p c e = absurd (true≢false e)
-      go false p true e = absurd (true≢false e)
-      go false p false e = (ltb-false (length input) 2 p, ltb-false (length input) (2 + statedLength input) e)
-
-  -- ---- what is put at the front of a text
-
-  module _ (room : ℕ) where
-    pub fitting-none : room < longestText → printedWithin room input ≡ []
-    unfolding printedWithin
-    fitting-none h = rw (lt-leb longestText room h)
-
-    module _ (h : longestText ≤ room) where
-      pub fitting-spoiled : spoiled input ≡ true → printedWithin room input ≡ spoiledLine
-      unfolding printedWithin printed
-      fitting-spoiled e = rw (le-leb longestText room h, e)
-
-      -- The library and the tree as the parts of the input that map is handed.
-      pub fitting-whole : spoiled input ≡ false → (n : ℕ) → n ≡ statedLength input → printedWithin room input ≡ mapText (take (2 + n - 2) (drop 2 input)) (take (length input - (2 + n)) (drop (2 + n) input))
-      unfolding printedWithin printed
-      fitting-whole e n f =
-          let size : statedLength input ≡ 2 + n - 2 = omega arith in
-          let rest = drop (2 + n) input in
-          rw (le-leb longestText room h, e)
-          (ap₂ mapText (ap (λ (k : ℕ). take k (drop 2 input)) size) (ap (λ (k : ℕ). drop (2 + k) input) (sym f) ∙ sym (take-all (length input - (2 + n)) rest (omega (arith, length-drop (2 + n) input)))))
-
-pub at-front : {words entry exit : List ℕ} {r : ℕ} → Appended words entry 0 exit r → Written words entry exit r
-at-front {words} {entry} h = record { bytes = h .place ∙ zero-add (length words); output = h .text ∙ ap (λ (k : ℕ). words ++ drop k entry) (zero-add (length words)) }
-
--- What is written fits the output, so that its front can be lent.
-pub counted : {words entry exit : List ℕ} {r : ℕ} → Written words entry exit r → Written words entry exit r × Counts r exit
-counted {words} {entry} {exit} {r} h =
-    let fits : r ≤ length exit = omega (arith, h .bytes, ap length (h .output), length-append words (drop (length words) entry)) in
-    (h, (fits, sym (length-take-le r exit fits)))

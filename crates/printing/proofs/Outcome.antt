@@ -1,5 +1,5 @@
 -- The outcome of map as text: what its reply says, and what is put after it.
-use Prim.Native.Nat.{ℕ, _^_, _≤_, _<_}
+use Prim.Native.Nat.{ℕ, _≤_}
 use mathlib.Core.Path.{_≡_, refl, sym, ap, subst, _∙_}
 use mathlib.Core.List.{List}
 use native.Mathlib.Omega.{arith}
@@ -28,16 +28,10 @@ use Rattle.covers.proofs.FromSheets.{cover-fits}
 use Rattle.covers.proofs.Promises.{MapPromise, too-many, none-wanted, right, map-promise}
 use Rattle.operations.specs.declared.Reply.{Reply}
 use Rattle.operations.specs.Public.{ofReply, Operated}
-use Rattle.lines.specs.Text.{decimal}
-use Rattle.lines.proofs.Laws.{decimal-fits, length-last}
-use Rattle.printing.specs.Printed.{coverText, refusalLine, outcomeText, textAnswer, mapText, longestText}
+use Rattle.framing.specs.Framed.{refusalLine, outcomeText}
+use Rattle.printing.specs.Printed.{coverText, textAnswer, mapShown, longestText}
 use Rattle.printing.specs.Rows.{coverIn, rowText, HaveRows}
-use Rattle.printing.proofs.Laws.{refusal-length}
 use Rattle.printing.proofs.Reading.{cover-rows, cover-read, cover-short}
-
--- Any number of 32 bits and any place of 64 fit.
-pub refusal-fits : (n p : ℕ) → n < 2 ^ 32 → p < 2 ^ 64 → length (refusalLine n p) ≤ longestText
-refusal-fits n p h g = omega (arith, refusal-length n p, length-last (decimal n) (decimal p), decimal-fits 9 n (omega arith), decimal-fits 19 p (omega arith))
 
 -- A sheet that reads as the text, which is short, after a library with this scan.
 pub record Readable (l : Library) (q : Scan) (bytes text : List ℕ) : Type 0 where
@@ -91,10 +85,10 @@ module _ (ls ts : List ℕ) where
 
   -- The same of map's reply.
   abbrev pub Replied : Answer ℕ → List ℕ → Type 0
-  Replied = Says (libraryOf ls start .0) (libraryOf ls start .1) (mapText ls ts)
+  Replied = Says (libraryOf ls start .0) (libraryOf ls start .1) (outcomeText (mapShown ls ts))
 
   outcome-says : (output : List ℕ) → Replied (told outcome) (outputAfter outcome output)
-  unfolding mapOutcome mapText operation lent
+  unfolding mapOutcome mapShown operation lent
   outcome-says output = told-says output (sheets-shown (libraryOf ls start .0) (treeOf ts start .0) (libraryOf ls start .1) (treeOf ts start .1) (library-limits ls) (tree-limits ts))
 
   pub replied : {output output′ work work′ : List ℕ} {r q : Reply} → Operated outcome output output′ work work′ r → r ≡ q → Replied (ofReply q) output′

@@ -1,33 +1,25 @@
 -- The text of a legal cover by the library's rows is its text, and it is short.
 use Prim.Native.Nat.{ℕ, _+_, _*_, _≤_, _<_}
 use mathlib.Core.Path.{_≡_, refl, sym, ap, ap₂, _∙_}
-use mathlib.Core.Bool.{false}
-use mathlib.Core.List.{List, [], _∷_, _++_, map, flatMap, List·Memᴰ, List·Memᴰ·head, List·Memᴰ·tail, Memᴰ·of-map}
-use native.Mathlib.Nat.{add-zero, mul-suc}
+use mathlib.Core.List.{List, [], _∷_, _++_, flatMap, List·Memᴰ, List·Memᴰ·head, List·Memᴰ·tail}
+use native.Mathlib.Nat.{add-zero}
 use native.Mathlib.Omega.{arith}
-use lib.ListN.{length, drop, getD, replicate, length-append, length-replicate}
-use lib.Seq.{getD-take, getD-drop}
-use Rattle.fields.proofs.Lists.{at-map}
-use Rattle.sheets.specs.Model.{leaf, Library, Pattern, patterns, Tree}
-use Rattle.sheets.specs.Layout.{rowWords, tableWords, patternRows, libraryLaid, patternTable}
+use lib.ListN.{length, getD, length-append}
+use Rattle.sheets.specs.Model.{Library, Pattern, patterns, cellOf, Tree}
+use Rattle.sheets.specs.Layout.{rowWords, libraryLaid}
 use Rattle.sheets.specs.Sound.{SoundLibrary, SoundTree}
-use Rattle.sheets.proofs.Tables.{length-table}
-use Rattle.sheets.proofs.Patterns.{sound-pattern, row-told}
+use Rattle.sheets.proofs.Patterns.{cell-below, row-in, cell-told}
 use Rattle.covers.specs.Cover.{Placed, Cover}
 use Rattle.covers.specs.Promise.{RootCover}
-use Rattle.covers.proofs.Basics.{at-all}
 use Rattle.covers.proofs.Listing.{known-patterns}
 use Rattle.covers.proofs.FromSheets.{root-bounds, cover-fits}
 use Rattle.lines.specs.Text.{decimal, line}
-use Rattle.lines.proofs.Laws.{decimal-fits, length-line, length-spaced, length-last}
-use Rattle.printing.specs.Printed.{cellOf, matchLine, coverLine, coverText, longestText}
+use Rattle.lines.proofs.Laws.{decimal-fits, length-line, length-spaced, length-last, lines-short}
+use Rattle.printing.specs.Printed.{matchLine, coverLine, coverText, longestText}
 use Rattle.printing.specs.Rows.{rowLine, rowLines, rowText, HaveRows}
 use Rattle.printing.proofs.Laws.{cover-line-length}
 
 -- ---- the cell of a pattern
-
-abbrev noPattern : Pattern
-noPattern = record { cellNumber = 0; cell = record { held = false; area = 0; highest = 0; pins = []; drawings = [] }; drawing = leaf 0 }
 
 module _ {l : Library} (sound : SoundLibrary l) where
   abbrev ps : List Pattern
@@ -37,25 +29,10 @@ module _ {l : Library} (sound : SoundLibrary l) where
   rows = libraryLaid l .rows
 
   cell-at : (j : ℕ) → j < length ps → getD rows (rowWords * j) 0 ≡ cellOf l j
-  unfolding patternTable cellOf
-  cell-at j h =
-      let row = drop (rowWords * j) (patternTable l) in
-      ap (λ (i : ℕ). getD rows i 0) (sym (add-zero (rowWords * j)))
-      ∙ sym (getD-take (rowWords * length ps) rows (rowWords * j + 0) 0 (omega arith))
-      ∙ sym (getD-drop (rowWords * j) (patternTable l) 0 0)
-      ∙ sym (getD-take rowWords row 0 0 (omega arith))
-      ∙ row-told l sound noPattern j rowWords h refl .number
-      ∙ sym (at-map (λ (p : Pattern). p .cellNumber) ps j noPattern 0 h)
-
-  cell-small : (j : ℕ) → cellOf l j < 64
-  unfolding cellOf
-  cell-small j = at-all (λ n. n < 64) (map (λ (p : Pattern). p .cellNumber) ps) j 0 (omega arith) (λ n m.
-      let p = Memᴰ·of-map (λ (p : Pattern). p .cellNumber) ps m in
-      omega (arith, sound-pattern l sound (p .1) .number-small, sound .few-cells, p .2))
+  cell-at j h = ap (λ (i : ℕ). getD rows i 0) (sym (add-zero (rowWords * j))) ∙ cell-told sound j h
 
   have-rows : (xs : List Placed) → ((x : Placed) → List·Memᴰ x xs → x .pattern < length ps) → HaveRows rows xs
-  unfolding libraryLaid
-  have-rows xs h x m = omega (arith, h x m, sound .few-patterns, length-table rowWords (replicate tableWords 0) 0 (patternRows (l .bins) ps), length-replicate {A = ℕ} tableWords 0)
+  have-rows xs h x m = omega (arith, row-in sound (x .pattern) (h x m))
 
   lines-read : (xs : List Placed) → ((x : Placed) → List·Memᴰ x xs → x .pattern < length ps) → rowLines rows xs ≡ flatMap (matchLine l) xs
   unfolding rowLines rowLine matchLine flatMap
@@ -63,11 +40,6 @@ module _ {l : Library} (sound : SoundLibrary l) where
   lines-read (x ∷ xs) h = ap₂ _++_ (ap (λ (n : ℕ). line (decimal (x .node) ∷ decimal n ∷ decimal (x .pattern) ∷ decimal (x .crossing) ∷ [])) (cell-at (x .pattern) (h x (List·Memᴰ·head refl)))) (lines-read xs (λ y m. h y (List·Memᴰ·tail m)))
 
 -- ---- the text of a cover
-
-lines-few : (f : Placed → List ℕ) (most : ℕ) (xs : List Placed) → ((x : Placed) → List·Memᴰ x xs → length (f x) ≤ most) → length (flatMap f xs) ≤ most * length xs
-unfolding flatMap
-lines-few f most [] h = omega arith
-lines-few f most (x ∷ xs) h = omega (arith, length-append (f x) (flatMap f xs), h x (List·Memᴰ·head refl), lines-few f most xs (λ y m. h y (List·Memᴰ·tail m)), mul-suc most (length xs))
 
 module _ {l : Library} {t : Tree} {c : Cover} (sound : SoundLibrary l) (tree : SoundTree t) (legal : RootCover l t c) where
   known : (x : Placed) → List·Memᴰ x (c .placed) → x .pattern < length (patterns l)
@@ -92,7 +64,7 @@ module _ {l : Library} {t : Tree} {c : Cover} (sound : SoundLibrary l) (tree : S
         length-spaced cell last,
         length-last (decimal (x .pattern)) (decimal (x .crossing)),
         decimal-fits 1 (x .node) (omega (arith, b .0)),
-        decimal-fits 1 (cellOf l (x .pattern)) (omega (arith, cell-small sound (x .pattern))),
+        decimal-fits 1 (cellOf l (x .pattern)) (omega (arith, cell-below sound (x .pattern) (known x m), sound .few-cells)),
         decimal-fits 2 (x .pattern) (omega (arith, b .1)),
         decimal-fits 1 (x .crossing) (omega (arith, b .2)),
       )
@@ -115,5 +87,5 @@ module _ {l : Library} {t : Tree} {c : Cover} (sound : SoundLibrary l) (tree : S
         decimal-fits 6 arrival (omega (arith, b .1)),
         decimal-fits 1 count (omega (arith, fits .count)),
         fits .count,
-        lines-few (matchLine l) 13 (c .placed) match-short,
+        lines-short (matchLine l) 13 (c .placed) match-short,
       )

@@ -14,46 +14,17 @@ ghost use Rattle.sheets.specs.Layout.{rowWords};
 ghost use Rattle.covers.specs.CoverSheet.{matchCountWidth};
 ghost use Rattle.results.specs.Public.{coverOf, Written};
 ghost use Rattle.lines.specs.Text.{Appended};
-ghost use Rattle.printing.specs.Printed.{coverLine, refusalLine, spoiledLine, mapText, spoiled, longestText, printedWithin};
+ghost use Rattle.framing.specs.Framed.{outcomeText};
+ghost use Rattle.printing.specs.Printed.{coverLine, mapShown, longestText, printedWithin};
 ghost use Rattle.printing.specs.Rows.{rowsOf, coverIn, rowLine, rowLines, rowText, HaveRows, Printable};
 
-// The bytes of the library's length, and the longest text: a cover of 63 matches.
+// How many lengths an input has, the library's alone; and the longest text, a cover of 63 matches.
 pub struct Text {}
 
 impl Text {
-    pub const HEAD: usize = 2;
+    pub const LENGTHS: usize = 1;
 
     pub const LONGEST: usize = 844;
-}
-
-fn wide(x: u8) -> usize
-    ensures { λ r. ⌜ (r ≡ x) × (r < 256) ⌝ }
-{
-    x as usize
-}
-
-// A length of two bytes, high byte first.
-pub fn length_of(high: u8, low: u8) -> usize
-    ensures { λ r. ⌜ (r ≡ 256 * high + low) × (r < 65536) ⌝ }
-{
-    256 * wide(high) + wide(low)
-}
-
-// The line of a refusal.
-fn put_refusal(text: &mut [u8], number: u32, place: usize) -> usize
-    requires { ⌜ length (refusalLine number place) ≤ length (now text) ⌝ }
-    ensures { λ r. ⌜ Appended (refusalLine number place) (now (text .entry)) 0 (now (text .exit)) r ⌝ }
-{
-    let at = lines::put_word(text, 0, b"refused");
-    lines::put_last(text, at, number as u64, place as u64)
-}
-
-// The line of an input that is not what its length says.
-fn put_spoiled(text: &mut [u8]) -> usize
-    requires { ⌜ length spoiledLine ≤ length (now text) ⌝ }
-    ensures { λ r. ⌜ Appended spoiledLine (now (text .entry)) 0 (now (text .exit)) r ⌝ }
-{
-    lines::put_word(text, 0, b"spoiled\n")
 }
 
 // The first line of a cover.
@@ -116,29 +87,16 @@ fn put_sheet(text: &mut [u8], sheet: &[u8], library: &[u8]) -> usize
     put_cover(text, read.cover, &rows)
 }
 
-// Whether the input is under 2 bytes, over 4,096, or too short for the library's length.
-fn is_spoiled(input: &[u8]) -> bool
-    ensures { λ r. ⌜ r ≡ spoiled (now (input .entry)) ⌝ }
-{
-    if input.len() < Text::HEAD {
-        return true;
-    }
-    if Limits::INPUT < input.len() {
-        return true;
-    }
-    input.len() < Text::HEAD + length_of(input[0], input[1])
-}
-
 // The outcome of map for a library and a tree.
 fn put_map(text: &mut [u8], library: &[u8], tree: &[u8]) -> usize
     requires { ⌜ longestText ≤ length (now text) ⌝ }
-    ensures { λ r. ⌜ Appended (mapText (now (library .entry)) (now (tree .entry))) (now (text .entry)) 0 (now (text .exit)) r ⌝ }
+    ensures { λ r. ⌜ Appended (outcomeText (mapShown (now (library .entry)) (now (tree .entry)))) (now (text .entry)) 0 (now (text .exit)) r ⌝ }
 {
     let mut output = [0u8; Limits::OUTPUT_MAP];
     let mut work = [0u64; Limits::WORK];
     let reply = operations::map(library, tree, &mut output, &mut work);
     match reply {
-        Reply::Refused(number, place) => put_refusal(text, number, place),
+        Reply::Refused(number, place) => framing::put_refusal(text, number, place),
         Reply::Sheet(bytes) => put_sheet(text, &output[..bytes], library),
     }
 }
@@ -152,11 +110,14 @@ pub fn print_cover(input: &[u8], text: &mut [u8]) -> usize
     if text.len() < Text::LONGEST {
         return 0;
     }
-    if is_spoiled(input) {
-        return put_spoiled(text);
+    let split = framing::split_input(input, Text::LENGTHS, false);
+    if split.spoiled {
+        return framing::put_spoiled(text);
     }
-    let end = Text::HEAD + length_of(input[0], input[1]);
-    put_map(text, &input[Text::HEAD..end], &input[end..])
+    let places = split.places;
+    let library = places[0];
+    let tree = places[1];
+    put_map(text, &input[library..tree], &input[tree..])
 }
 
 // Reads an input from standard input and prints its text; answers how many bytes were printed.

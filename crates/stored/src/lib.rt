@@ -1,9 +1,10 @@
-// Runs the stored cases on standard input through the judges, map, list, treecover's text and the judge of covers, and writes what each answers.
+// Runs the stored cases on standard input through the judges, map, list, the texts of treecover and of bill and the judge of covers, and writes what each answers.
 // A case opens with a kind, and its lengths are two bytes each, high byte first.
 //   0 library, 1 tree: the sheet's length, the sheet.
 //   2 map, 3 list: the lengths of library, tree, output in bytes and work area in words, the library, the tree.
 //   4 treecover: the input's length, the input.
 //   5 a cover to be judged: the lengths of library, tree and cover sheet, the three sheets.
+//   6 bill: the input's length, the input.
 use judge::CoverJudged;
 use libc::STDOUT_FILENO;
 use mapper::Numbers;
@@ -27,7 +28,7 @@ impl Lent {
     const WORD: u64 = 11936128518282651045;
 }
 
-// The input is not what its lengths say, or a case's kind is none of the six.
+// The input is not what its lengths say, or a case's kind is none of the seven.
 fn write_spoiled() {
     io::write_all(STDOUT_FILENO, b"spoiled\n");
 }
@@ -42,7 +43,7 @@ fn length_at(s: &[u8], at: usize) -> usize
     requires { ⌜ at + 2 ≤ length (now s) ⌝ }
     ensures { λ r. ⌜ r < 65536 ⌝ }
 {
-    printing::length_of(s[at], s[at + 1])
+    framing::length_of(s[at], s[at + 1])
 }
 
 // A space and a number.
@@ -126,7 +127,42 @@ fn run_text(input: &[u8]) {
     io::write_all(STDOUT_FILENO, &text[..length]);
 }
 
-// The case of a judge or of treecover, which has one part. Answers where the next case starts.
+// Whether a line of a text opens with a word.
+fn has_line(text: &[u8], word: &[u8]) -> bool {
+    let mut starts = true;
+    let mut k = 0;
+    while k < text.len() {
+        if starts && opens_with(&text[k..], word) {
+            return true;
+        }
+        starts = text[k] == b'\n';
+        k += 1;
+    }
+    false
+}
+
+// Whether a text has the words that bill's texts have: one of those for an input that has no bill, or both of a bill.
+fn has_fixed(text: &[u8]) -> bool {
+    if opens_with(text, b"refused ") {
+        return true;
+    }
+    if opens_with(text, b"spoiled\n") {
+        return true;
+    }
+    has_line(text, b"total ") && has_line(text, b"margin ")
+}
+
+// The text that bill prints; before it a line "changed" if it lacks a fixed word.
+fn run_bill(input: &[u8]) {
+    let mut text = [0u8; billing::Text::LONGEST];
+    let length = billing::print_bill(input, &mut text);
+    if !has_fixed(&text[..length]) {
+        write_changed();
+    }
+    io::write_all(STDOUT_FILENO, &text[..length]);
+}
+
+// The case of a judge, of treecover or of bill, which has one part. Answers where the next case starts.
 fn run_single(s: &[u8], kind: u8, at: usize) -> usize
     requires { ⌜ at ≤ length (now s) ⌝ }
     ensures { λ r. ⌜ at ≤ r ⌝ }
@@ -146,8 +182,10 @@ fn run_single(s: &[u8], kind: u8, at: usize) -> usize
         run_library(&s[first..end]);
     } else if kind == 1 {
         run_tree(&s[first..end]);
-    } else {
+    } else if kind == 4 {
         run_text(&s[first..end]);
+    } else {
+        run_bill(&s[first..end]);
     }
     end
 }
@@ -355,6 +393,9 @@ fn run_case(s: &[u8], at: usize) -> usize
     }
     if kind == 5 {
         return run_judged(s, at + 1);
+    }
+    if kind == 6 {
+        return run_single(s, kind, at + 1);
     }
     write_spoiled();
     s.len()

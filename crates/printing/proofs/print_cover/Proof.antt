@@ -1,32 +1,28 @@
 use borrow.Author.Needs.{needs}
 use native.Mathlib.Omega.{arith}
-use Prim.Native.Nat.{ℕ, _+_, _≤_}
-use mathlib.Core.Path.{_≡_, refl, sym, subst, _∙_}
+use Prim.Native.Nat.{ℕ, _≤_}
+use mathlib.Core.Path.{_≡_, refl, sym, ap, ap₂, subst, _∙_}
+use mathlib.Core.Bool.{false}
 use mathlib.Core.List.{List}
-use lib.ListN.{length}
+use lib.ListN.{length, getD}
 use Rattle.results.specs.Public.{Written}
 use Rattle.lines.specs.Text.{spaced, line}
-use Rattle.printing.specs.Printed.{spoiledLine, statedLength}
-use Rattle.printing.proofs.Laws.{whole, fitting-none, fitting-spoiled, fitting-whole, at-front, counted}
+use Rattle.framing.specs.Framed.{spoiled, sheet, rest, spoiledLine, outcomeText}
+use Rattle.framing.proofs.Laws.{place-in, place-up, not-spoiled, sheet-part, rest-part, text-none, text-spoiled, text-whole, at-front, counted}
+use Rattle.printing.specs.Printed.{mapShown, printed, printedWithin, longestText}
 use Rattle.printing.proofs.print_cover.Statement.{statement}
 use Rattle.printing.proofs.print_cover.Tie as tie
 
--- The input is not spoiled, and its length is the one it states.
-sound : (c : tie.Else2) → let s = c .before .before .before .before .before .args .input .now in (2 ≤ length s) × (2 + statedLength s ≤ length s)
-sound c = whole (c .before .before .before .before .before .args .input .now) (sym (c .before .is-spoiled .ensures) ∙ c .if2 .left)
-
-stated : (c : tie.After-length-of) → c .length-of .result ≡ statedLength (c .before .before .before .before .before .before .before .before .args .input .now)
-unfolding statedLength
-stated c = c .length-of .ensures .0
-
 returns : tie.Need-returns
+unfolding printedWithin printed
 returns c =
     let a = c .before .before .before .args in
     let text = a .text .now in
-    counted (subst (λ (w : List ℕ). Written w text text 0) (sym (fitting-none (a .input .now) (length text) (omega arith))) record { bytes = refl; output = refl })
+    let input = a .input .now in
+    counted (subst (λ (w : List ℕ). Written w text text 0) (sym (text-none longestText (length text) (spoiled input 1 false) (mapShown (sheet input 1 0) (rest input 1)) (omega arith))) record { bytes = refl; output = refl })
 
-is-spoiled-requires : tie.Need-is-spoiled-requires
-is-spoiled-requires c κs = search needs
+split-input-requires : tie.Need-split-input-requires
+split-input-requires c κs = search needs
 
 put-spoiled-requires : tie.Need-put-spoiled-requires
 unfolding spoiledLine line spaced
@@ -36,41 +32,48 @@ same-length : tie.Need-same-length
 same-length c = search needs
 
 returns-2 : tie.Need-returns-2
+unfolding printedWithin printed
 returns-2 c =
-    let a = c .before .before .before .before .before .before .before .before .before .args in
-    let found = c .before .before .before .before in
+    let split = c .before .before .before .before in
+    let a = split .before .before .before .before .before .args in
     let put = c .before .before .put-spoiled in
+    let input = a .input .now in
     counted
     (subst (λ (w : List ℕ). Written w (a .text .now) (put .last .0) (put .result))
-    (sym (fitting-spoiled (a .input .now) (length (a .text .now)) (omega arith) (sym (found .before .is-spoiled .ensures) ∙ found .if2 .taken)))
+    (sym (text-spoiled longestText (length (a .text .now)) (spoiled input 1 false) (mapShown (sheet input 1 0) (rest input 1)) (omega arith) (sym (split .before .split-input .ensures .spoiled-is) ∙ split .if2 .taken)))
     (at-front (put .ensures)))
 
-shared-slice-read-length-of : tie.Need-shared-slice-read-length-of
-shared-slice-read-length-of c = omega (arith, sound (c .before) .0)
+array-read-library : tie.Need-array-read-library
+array-read-library c = search needs
 
-shared-slice-read-length-of-2 : tie.Need-shared-slice-read-length-of-2
-shared-slice-read-length-of-2 c = omega (arith, sound (c .before .before) .0)
+array-read-tree : tie.Need-array-read-tree
+array-read-tree c = search needs
 
-length-of-requires : tie.Need-length-of-requires
-length-of-requires c κs = search needs
+-- The library begins before the tree, and that in the input.
+module _ (c : tie.Else2) where
+  abbrev input : List ℕ
+  input = c .before .before .before .before .before .args .input .now
 
-add-end : tie.Need-add-end
-add-end c = search needs
+  up : getD (c .before .split-input .result .places) 0 0 ≤ getD (c .before .split-input .result .places) 1 0
+  up = place-up input 1 false (c .before .split-input .ensures) (c .if2 .left) 0 (omega arith)
+
+  inside : getD (c .before .split-input .result .places) 1 0 ≤ length input
+  inside = place-in input 1 false (c .before .split-input .ensures) (c .if2 .left) 1 (omega arith)
 
 sub-put-map : tie.Need-sub-put-map
-sub-put-map c = search needs
+sub-put-map c = up (c .before .before)
 
 part-put-map-start : tie.Need-part-put-map-start
-part-put-map-start c = search needs
+part-put-map-start c = omega (arith, up (c .before .before))
 
 part-put-map-end : tie.Need-part-put-map-end
-part-put-map-end c = omega (arith, sound (c .before .before .before .before) .1, stated (c .before))
+part-put-map-end c = omega (arith, inside (c .before .before))
 
 sub-put-map-2 : tie.Need-sub-put-map-2
-sub-put-map-2 c = omega (arith, sound (c .before .before .before .before .before) .1, stated (c .before .before))
+sub-put-map-2 c = omega (arith, inside (c .before .before .before))
 
 part-put-map-start-2 : tie.Need-part-put-map-start-2
-part-put-map-start-2 c = omega (arith, sound (c .before .before .before .before .before) .1, stated (c .before .before))
+part-put-map-start-2 c = omega (arith, inside (c .before .before .before))
 
 part-put-map-end-2 : tie.Need-part-put-map-end-2
 part-put-map-end-2 c = search needs
@@ -82,13 +85,17 @@ same-length-2 : tie.Need-same-length-2
 same-length-2 c = search needs
 
 returns-3 : tie.Need-returns-3
+unfolding printedWithin printed
 returns-3 c =
-    let a = c .before .before .before .before .before .before .before .before .before .before .before .before .before .before .args in
-    let found = c .before .before .before .before .before .before .before .before .before in
+    let split = c .before .before .before .before .before .before .before in
+    let a = split .before .before .before .before .before .args in
     let put = c .before .before .put-map in
+    let text = a .text .now in
+    let here = split .before .split-input .ensures in
+    let parts = ap₂ mapShown (sheet-part (input split) 1 false here (split .if2 .left) 0 (omega arith)) (rest-part (input split) 1 false here (split .if2 .left)) in
     counted
-    (subst (λ (w : List ℕ). Written w (a .text .now) (put .last .0) (put .result))
-    (sym (fitting-whole (a .input .now) (length (a .text .now)) (omega arith) (sym (found .before .is-spoiled .ensures) ∙ found .if2 .left) (c .before .before .before .before .before .before .length-of .result) (stated (c .before .before .before .before .before .before))))
+    (subst (λ (w : List ℕ). Written w text (put .last .0) (put .result))
+    (ap outcomeText parts ∙ sym (text-whole longestText (length text) (spoiled (input split) 1 false) (mapShown (sheet (input split) 1 0) (rest (input split) 1)) (omega arith) (not-spoiled (input split) 1 false here (split .if2 .left))))
     (at-front (put .ensures)))
 
 pub print-cover-spec : {M : Type 1} → statement M
@@ -96,14 +103,12 @@ print-cover-spec =
     tie.close
     (tie.spec
     returns
-    is-spoiled-requires
+    split-input-requires
     put-spoiled-requires
     same-length
     returns-2
-    shared-slice-read-length-of
-    shared-slice-read-length-of-2
-    length-of-requires
-    add-end
+    array-read-library
+    array-read-tree
     sub-put-map
     part-put-map-start
     part-put-map-end

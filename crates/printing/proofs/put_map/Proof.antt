@@ -8,7 +8,8 @@ use lib.Seq.{length-take-le}
 use Rattle.fields.specs.Answer.{success}
 use Rattle.operations.specs.Public.{ofReply}
 use Rattle.lines.specs.Text.{Appended}
-use Rattle.printing.proofs.Outcome.{refusal-fits, Replied, replied}
+use Rattle.framing.proofs.Laws.{refusal-short}
+use Rattle.printing.proofs.Outcome.{Replied, replied}
 use Rattle.printing.proofs.put_map.Statement.{statement}
 use Rattle.printing.proofs.put_map.Tie as tie
 
@@ -32,7 +33,7 @@ enum-known-reply c = search needs
 put-refusal-requires : tie.Need-put-refusal-requires
 put-refusal-requires c κs =
     let told = c .before .before .reply .given in
-    omega (arith, refusal-fits (told .0 .0) (told .0 .1 .0) (omega arith) (omega arith))
+    omega (arith, refusal-short (told .0 .0) (told .0 .1 .0) (omega arith) (omega arith))
 
 enum-known-reply-2 : tie.Need-enum-known-reply-2
 enum-known-reply-2 c = search needs

@@ -1,9 +1,9 @@
 use borrow.Author.Needs.{needs}
 use native.Mathlib.Omega.{arith}
 use Rattle.lines.specs.Text.{spaced, line}
-use Rattle.printing.specs.Printed.{spoiledLine}
-use Rattle.printing.proofs.put_spoiled.Statement.{statement}
-use Rattle.printing.proofs.put_spoiled.Tie as tie
+use Rattle.framing.specs.Framed.{spoiledLine}
+use Rattle.framing.proofs.put_spoiled.Statement.{statement}
+use Rattle.framing.proofs.put_spoiled.Tie as tie
 
 slice-aggregate-put-word : tie.Need-slice-aggregate-put-word
 slice-aggregate-put-word c = search needs

@@ -2,10 +2,10 @@ use borrow.Author.Needs.{needs}
 use native.Mathlib.Omega.{arith}
 use Rattle.lines.specs.Text.{line}
 use Rattle.lines.proofs.Laws.{appended-both}
-use Rattle.printing.specs.Printed.{refusalLine}
-use Rattle.printing.proofs.Laws.{refusal-length}
-use Rattle.printing.proofs.put_refusal.Statement.{statement}
-use Rattle.printing.proofs.put_refusal.Tie as tie
+use Rattle.framing.specs.Framed.{refusalLine}
+use Rattle.framing.proofs.Laws.{refusal-length}
+use Rattle.framing.proofs.put_refusal.Statement.{statement}
+use Rattle.framing.proofs.put_refusal.Tie as tie
 
 slice-aggregate-put-word : tie.Need-slice-aggregate-put-word
 slice-aggregate-put-word c = search needs

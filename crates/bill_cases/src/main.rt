@@ -1,0 +1,4 @@
+// The stored cases of bills.
+fn main() {
+    stored::run();
+}

@@ -1,0 +1,3 @@
+-- The laws of `billing`, in reading order.
+pub mod Laws
+pub mod Held

@@ -1,0 +1,61 @@
+-- What the functions inside promise each other.
+use Prim.Native.Nat.{ℕ, _+_, _*_, _≤_, _<_}
+use mathlib.Core.Path.{_≡_}
+use mathlib.Core.List.{List, [], _∷_, flatMap, List·Memᴰ}
+use lib.Dec.{ltb}
+use lib.ListN.{length, getD}
+use Rattle.sheets.specs.Model.{Library, cellOf, areaOf, Tree}
+use Rattle.sheets.specs.Sound.{SoundLibrary, SoundTree}
+use Rattle.sheets.specs.Layout.{rowWords, libraryLaid}
+use Rattle.covers.specs.Lists.{keepIf}
+use Rattle.covers.specs.Cover.{Placed}
+use Rattle.covers.specs.Promise.{RootCover}
+use Rattle.results.specs.declared.CoverRecord.{CoverRecord}
+use Rattle.results.specs.Public.{coverOf}
+use Rattle.lines.specs.Text.{Appended}
+use Rattle.bills.specs.Bill.{uses, entriesBelow, amounts}
+use Rattle.bills.specs.Billed.{entryLine}
+use Rattle.billing.specs.declared.Put.{Put}
+
+-- The line of a cell, if it is used.
+unfoldable pub entryText : (cell count amount : ℕ) → List ℕ
+unfolding flatMap entryLine keepIf
+entryText cell count amount = flatMap entryLine (keepIf (ltb 0 count) (record { cell = cell; count = count; amount = amount }) [])
+
+-- The rows tell of each listed match its cell and that cell's area, and the numbers are small.
+pub record CellTold (l : Library) (rows : List ℕ) (x : Placed) : Type 0 where
+  pub row-in : rowWords * x .pattern + 2 < length rows
+  pub cell-is : getD rows (rowWords * x .pattern + 0) 0 ≡ cellOf l (x .pattern)
+  pub area-is : getD rows (rowWords * x .pattern + 2) 0 ≡ areaOf l (cellOf l (x .pattern))
+  pub cell-small : cellOf l (x .pattern) < 64
+  pub area-small : areaOf l (cellOf l (x .pattern)) ≤ 65535
+
+pub record Countable (l : Library) (rows : List ℕ) (xs : List Placed) : Type 0 where
+  pub few : length xs ≤ 63
+  pub told : (x : Placed) → List·Memᴰ x xs → CellTold l rows x
+
+-- For each cell how often it is used, and that times its area.
+abbrev pub TallyIs : Library → List Placed → (counts amounts : List ℕ) → Type 0
+TallyIs l xs counts amounts = (n : ℕ) → n < 64 → (getD counts n 0 ≡ uses l xs n) × (getD amounts n 0 ≡ uses l xs n * areaOf l n)
+
+-- A tally, and room for the lines of the first cells.
+pub record Listing (l : Library) (xs : List Placed) (tallied sums : List ℕ) (cells : ℕ) (text : List ℕ) : Type 0 where
+  pub tally-is : TallyIs l xs tallied sums
+  pub few-cells : cells ≤ 64
+  pub small : amounts (entriesBelow l xs cells) < 4294967296
+  pub room : length (flatMap entryLine (entriesBelow l xs cells)) ≤ length text
+
+-- The lines of the first cells are put, and their total is known.
+pub record EntriesPut (l : Library) (xs : List Placed) (cells : ℕ) (entry exit : List ℕ) (r : Put) : Type 0 where
+  pub lines-put : Appended (flatMap entryLine (entriesBelow l xs cells)) entry 0 exit (r .at)
+  pub total-is : r .total ≡ amounts (entriesBelow l xs cells)
+
+-- A legal cover, with the rows and the number of cells of a sound library and the required time of a sound tree.
+pub record BillHeld (l : Library) (t : Tree) (rows : List ℕ) (cells : ℕ) (cover : CoverRecord) (required : ℕ) : Type 0 where
+  pub sound : SoundLibrary l
+  pub tree : SoundTree t
+  pub legal : RootCover l t (coverOf cover)
+  pub rows-are : rows ≡ libraryLaid l .rows
+  pub cells-are : cells ≡ length (l .cells)
+  pub required-is : required ≡ t .required
+  pub count-small : cover .count < 64

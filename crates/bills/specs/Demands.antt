@@ -1,0 +1,54 @@
+-- What a printed bill is worth.
+use Prim.Native.Nat.{ℕ, _+_, _*_, _≤_, _<_}
+use mathlib.Core.Path.{_≡_}
+use mathlib.Core.Logic.{_↔_}
+use mathlib.Core.Bool.{true, false}
+use mathlib.Core.List.{List, map, List·Memᴰ}
+use lib.IntN.{pos, _+ℤ_}
+use lib.ListN.{length, getD}
+use Rattle.fields.specs.Reading.{start}
+use Rattle.fields.specs.Answer.{success}
+use Rattle.sheets.specs.Model.{Library, cellOf, areaOf, Tree}
+use Rattle.sheets.specs.LibrarySheet.{library}
+use Rattle.sheets.specs.TreeSheet.{tree}
+use Rattle.covers.specs.Cover.{Point, Placed, Cover}
+use Rattle.covers.specs.CoverSheet.{coverRead}
+use Rattle.covers.specs.Promise.{RootCover, listedArea}
+use Rattle.judgement.specs.Judgement.{judgement}
+use Rattle.framing.specs.Framed.{spoiled, sheet}
+use Rattle.bills.specs.Bill.{Entry, Bill, uses, amounts, counts}
+use Rattle.bills.specs.Billed.{billText, longestBill}
+
+-- The cell on line k.
+abbrev pub cellAt : Bill → ℕ → ℕ
+cellAt b k = getD (map (λ (e : Entry). e .cell) (b .entries)) k 0
+
+-- What a bill of a cover says.
+pub record BillIs (l : Library) (t : Tree) (c : Cover) (b : Bill) : Type 0 where
+  -- "The total must equal the area on the cover and the sum over its matches"; it is the sum of the lines too.
+  pub total-area : b .total ≡ c .point .area
+  pub total-matches : b .total ≡ listedArea l (c .placed)
+  pub total-lines : b .total ≡ amounts (b .entries)
+  -- The counts add up to the match count.
+  pub counts-matches : counts (b .entries) ≡ length (c .placed)
+  -- The lines ascend by cell, so that no cell has two.
+  pub ascending : (j k : ℕ) → j < k → k < length (b .entries) → cellAt b j < cellAt b k
+  -- The cells that have a line are those of the listed matches.
+  pub used : (n : ℕ) → List·Memᴰ n (map (λ (e : Entry). e .cell) (b .entries)) ↔ ((x : Placed) × List·Memᴰ x (c .placed) × (cellOf l (x .pattern) ≡ n))
+  -- Each line has its cell's count, and count × area.
+  pub counted : (e : Entry) → List·Memᴰ e (b .entries) → e .count ≡ uses l (c .placed) (e .cell)
+  pub amounted : (e : Entry) → List·Memᴰ e (b .entries) → e .amount ≡ e .count * areaOf l (e .cell)
+  -- The margin is required time minus arrival, as an integer.
+  pub margin-is : b .margin +ℤ pos (c .point .arrival) ≡ pos (t .required)
+
+-- What is demanded of the bytes printed for an input: where the cover is accepted, they are a bill of it, and it is a legal cover with its true figures.
+pub record BillDemands (ls ts cs printed : List ℕ) : Type 0 where
+  pub accepted : (p : Point) → judgement ls ts cs ≡ success p →
+      let l = library ls start .0 in
+      let t = tree ts start .0 in
+      let c = coverRead cs start .0 in
+      (b : Bill) × (printed ≡ billText b) × BillIs l t c b × RootCover l t c × (c .point ≡ p)
+
+-- The demands of the three sheets of an input, if it is not spoiled and the text has room.
+abbrev pub BilledWhereWhole : (room : ℕ) (input printed : List ℕ) → Type 0
+BilledWhereWhole room input printed = longestBill ≤ room → spoiled input 3 true ≡ false → BillDemands (sheet input 3 0) (sheet input 3 1) (sheet input 3 2) printed

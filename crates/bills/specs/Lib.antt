@@ -1,0 +1,4 @@
+-- The bill of a cover, in reading order.
+pub mod Bill
+pub mod Billed
+pub mod Demands

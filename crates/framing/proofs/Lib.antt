@@ -1,0 +1,2 @@
+-- The laws of `framing`.
+pub mod Laws
