@@ -5,7 +5,7 @@ use sheets::Limits;
 use sheets::library::PatternRow;
 ghost use mathlib.Core.Path.{_≡_};
 ghost use mathlib.Core.List.{List};
-ghost use Prim.Native.Nat.{ℕ, _+_, _≤_, _<_};
+ghost use Prim.Native.Nat.{_+_, _≤_, _<_, _^_};
 ghost use lib.ListN.{length, take};
 ghost use Rattle.io.specs.Counts.{Counts};
 ghost use Rattle.fields.specs.Answer.{success};
@@ -31,8 +31,12 @@ impl Text {
 
 // For each cell how many matches are of it, and their areas added up.
 pub struct Tally {
-    pub counts: [u32; 64],
-    pub amounts: [u32; 64],
+    pub counts: [u32; Tally::CELLS],
+    pub amounts: [u32; Tally::CELLS],
+}
+
+impl Tally {
+    pub const CELLS: usize = 64;
 }
 
 // Where the lines of the cells end, and their total.
@@ -48,8 +52,8 @@ fn count_cells(cover: CoverRecord, rows: &[u32]) -> Tally
 {
     let count = cover.count;
     let patterns = cover.patterns;
-    let mut counts = [0u32; 64];
-    let mut amounts = [0u32; 64];
+    let mut counts = [0u32; Tally::CELLS];
+    let mut amounts = [0u32; Tally::CELLS];
     let mut k = 0;
     while k < count {
         let row = PatternRow::WORDS * patterns[k] as usize;
@@ -113,7 +117,7 @@ fn put_margin(text: &mut [u8], at: usize, margin: i32) -> usize
 
 // The required time minus the arrival: negative for a late cover.
 fn margin_of(required: u32, arrival: u32) -> i32
-    requires { ⌜ (required < 2147483648) × (arrival < 2147483648) ⌝ }
+    requires { ⌜ (required < 2 ^ 31) × (arrival < 2 ^ 31) ⌝ }
     ensures { λ r. ⌜ r ≡ marginOf required arrival ⌝ }
 {
     required as i32 - arrival as i32

@@ -40,6 +40,7 @@ module _ (ls ts cs : List ℕ) where
     accepted = λ p e.
         let found = accepted ls ts cs p e in
         (itsBill, is ∙ ap outcomeText (shown-bill e), bill-is (tree ts start .0) (library-limits ls (found .library-live)) (found .legal), found .legal, found .point);
+    not-accepted = λ number place e. is ∙ ap outcomeText (shown-refusal e);
   }
 
 -- What is written at the front of a text is worth what is demanded.

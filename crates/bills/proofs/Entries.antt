@@ -54,6 +54,17 @@ module _ (l : Library) (xs : List Placed) where
       go true e = unfold keepIf in has (ltb-true 0 (uses l xs n) e)
       go false e = unfold keepIf in hasn't (omega (arith, ltb-false 0 (uses l xs n) e))
 
+  -- Ascending by cell.
+  line-ascends : {n : ℕ} {es : List Entry} → Line n es → Ascending (λ (e : Entry). e .cell) n (suc n) es
+  unfolding entryOf
+  line-ascends {n} (has h) = then {x = entryOf l xs n} (le-refl n) (end (le-refl (suc n)))
+  line-ascends {n} (hasn't e) = end {low = n} {high = suc n} (omega arith)
+
+  entries-ascend : (n : ℕ) → Ascending (λ (e : Entry). e .cell) 0 n (entriesBelow l xs n)
+  unfolding entriesBelow
+  entries-ascend zero = end (le-refl 0)
+  entries-ascend (suc n) = ascending-append (entries-ascend n) (line-ascends (line-of n))
+
   line-amounts : {n : ℕ} {es : List Entry} → Line n es → amounts es ≡ uses l xs n * areaOf l n
   unfolding amounts entryOf
   line-amounts {n} (has h) = add-zero (uses l xs n * areaOf l n)
@@ -118,17 +129,6 @@ module _ (l : Library) (xs : List Placed) where
       go : Dec (k ≡ n) → (k < n → 0 < uses l xs k → List·Memᴰ (entryOf l xs k) (entriesBelow l xs n)) → List·Memᴰ (entryOf l xs k) (entriesBelow l xs n ++ lineOf n)
       go (yes e) before = rw e (Memᴰ·append-right (entriesBelow l xs n) (line-has (line-of n) (rw e at u)))
       go (no e) before = Memᴰ·append-left (lineOf n) (before (omega (arith, e)) u)
-
-  -- Ascending by cell.
-  line-ascends : {n : ℕ} {es : List Entry} → Line n es → Ascending (λ (e : Entry). e .cell) n (suc n) es
-  unfolding entryOf
-  line-ascends {n} (has h) = then {x = entryOf l xs n} (le-refl n) (end (le-refl (suc n)))
-  line-ascends {n} (hasn't e) = end {low = n} {high = suc n} (omega arith)
-
-  entries-ascend : (n : ℕ) → Ascending (λ (e : Entry). e .cell) 0 n (entriesBelow l xs n)
-  unfolding entriesBelow
-  entries-ascend zero = end (le-refl 0)
-  entries-ascend (suc n) = ascending-append (entries-ascend n) (line-ascends (line-of n))
 
 -- A list that ascends by a number, place by place.
 module _ {A : Type 0} (number : A → ℕ) where

@@ -1,5 +1,5 @@
 -- What a printed bill is worth.
-use Prim.Native.Nat.{ℕ, _+_, _*_, _≤_, _<_}
+use Prim.Native.Nat.{ℕ, _*_, _≤_, _<_}
 use mathlib.Core.Path.{_≡_}
 use mathlib.Core.Logic.{_↔_}
 use mathlib.Core.Bool.{true, false}
@@ -7,7 +7,7 @@ use mathlib.Core.List.{List, map, List·Memᴰ}
 use lib.IntN.{pos, _+ℤ_}
 use lib.ListN.{length, getD}
 use Rattle.fields.specs.Reading.{start}
-use Rattle.fields.specs.Answer.{success}
+use Rattle.fields.specs.Answer.{refused, success}
 use Rattle.sheets.specs.Model.{Library, cellOf, areaOf, Tree}
 use Rattle.sheets.specs.LibrarySheet.{library}
 use Rattle.sheets.specs.TreeSheet.{tree}
@@ -15,7 +15,7 @@ use Rattle.covers.specs.Cover.{Point, Placed, Cover}
 use Rattle.covers.specs.CoverSheet.{coverRead}
 use Rattle.covers.specs.Promise.{RootCover, listedArea}
 use Rattle.judgement.specs.Judgement.{judgement}
-use Rattle.framing.specs.Framed.{spoiled, sheet}
+use Rattle.framing.specs.Framed.{spoiled, sheet, refusalLine}
 use Rattle.bills.specs.Bill.{Entry, Bill, uses, amounts, counts}
 use Rattle.bills.specs.Billed.{billText, longestBill}
 
@@ -41,13 +41,14 @@ pub record BillIs (l : Library) (t : Tree) (c : Cover) (b : Bill) : Type 0 where
   -- The margin is required time minus arrival, as an integer.
   pub margin-is : b .margin +ℤ pos (c .point .arrival) ≡ pos (t .required)
 
--- What is demanded of the bytes printed for an input: where the cover is accepted, they are a bill of it, and it is a legal cover with its true figures.
+-- What is demanded of the bytes printed for three sheets: where the cover is accepted, they are a bill of it, and it is a legal cover with its true figures; else the judge's refusal.
 pub record BillDemands (ls ts cs printed : List ℕ) : Type 0 where
   pub accepted : (p : Point) → judgement ls ts cs ≡ success p →
       let l = library ls start .0 in
       let t = tree ts start .0 in
       let c = coverRead cs start .0 in
       (b : Bill) × (printed ≡ billText b) × BillIs l t c b × RootCover l t c × (c .point ≡ p)
+  pub not-accepted : (number place : ℕ) → judgement ls ts cs ≡ refused number place → printed ≡ refusalLine number place
 
 -- The demands of the three sheets of an input, if it is not spoiled and the text has room.
 abbrev pub BilledWhereWhole : (room : ℕ) (input printed : List ℕ) → Type 0

@@ -17,7 +17,7 @@ use Rattle.results.specs.Public.{Written}
 use Rattle.lines.specs.Text.{decimal, spaced, Appended}
 use Rattle.lines.proofs.Laws.{length-line, length-last, decimal-fits}
 use Rattle.framing.specs.declared.Split.{Split}
-use Rattle.framing.specs.Inside.{SplitIs}
+use Rattle.framing.specs.Promises.{SplitIs}
 use Rattle.framing.specs.Framed.{inputLimit, statedLength, sheetAt, sheet, rest, spoiled, refusedWord, refusalLine, spoiledLine, outcomeText, framed, within}
 
 -- ---- lines

@@ -1,3 +1,3 @@
--- What the contracts of `framing` say, in reading order, and what its functions promise each other.
+-- What the contracts of `framing` say, in reading order.
 pub mod Framed
-pub mod Inside
+pub mod Promises

@@ -7,19 +7,23 @@ ghost use lib.Dec.{ltb};
 ghost use lib.ListN.{length};
 ghost use Rattle.lines.specs.Text.{Appended};
 ghost use Rattle.framing.specs.Framed.{inputLimit, refusalLine, spoiledLine};
-ghost use Rattle.framing.specs.Inside.{PlacesAre, SplitIs};
+ghost use Rattle.framing.specs.Promises.{PlacesAre, SplitIs};
 
-// The bytes of one length.
+// The bytes of one length, how many lengths an input has at the most, and how many places that makes.
 pub struct Frame {}
 
 impl Frame {
     pub const LENGTH: usize = 2;
+
+    pub const LENGTHS: usize = 3;
+
+    pub const PLACES: usize = Frame::LENGTHS + 1;
 }
 
 // Whether an input is not what its lengths say; and, if it is, where its sheets begin and, after these, where the last one ends.
 pub struct Split {
     pub spoiled: bool,
-    pub places: [usize; 4],
+    pub places: [usize; Frame::PLACES],
 }
 
 fn wide(x: u8) -> usize
@@ -60,11 +64,11 @@ fn misfits(bytes: usize, end: usize, exact: bool) -> bool
 }
 
 // Where each sheet begins, and where the last one ends.
-fn sheet_places(input: &[u8], lengths: usize) -> [usize; 4]
+fn sheet_places(input: &[u8], lengths: usize) -> [usize; Frame::PLACES]
     requires { ⌜ (lengths ≤ 3) × (2 * lengths ≤ length (now input)) ⌝ }
     ensures { λ r. ⌜ PlacesAre (now (input .entry)) lengths r ⌝ }
 {
-    let mut places = [0usize; 4];
+    let mut places = [0usize; Frame::PLACES];
     let mut at = Frame::LENGTH * lengths;
     let mut k = 0;
     while k < lengths {
@@ -84,7 +88,7 @@ pub fn split_input(input: &[u8], lengths: usize, exact: bool) -> Split
     if lacks_lengths(input.len(), lengths) {
         return Split {
             spoiled: true,
-            places: [0usize; 4],
+            places: [0usize; Frame::PLACES],
         };
     }
     let places = sheet_places(input, lengths);
