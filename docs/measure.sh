@@ -11,7 +11,8 @@ scratch=$(mktemp -d)
 trap 'rm -rf "$scratch"' EXIT
 
 rt staticlib interface >"$scratch/staticlib" 2>&1
-export TREECOVER_LIB_DIR=$PWD/target/staticlib TREECOVER_LIB_NAME=interface
+rt check bill_cases >"$scratch/bill_cases" 2>&1
+export TREECOVER_LIB_DIR=$PWD/target/staticlib TREECOVER_LIB_NAME=interface TREECOVER_BILL_CASES=$PWD/target/bin/bill_cases
 cargo build -q --release --offline --manifest-path reference/Cargo.toml --features "$features" --bins --target-dir target/reference
 bench=$PWD/target/reference/release/bench
 fresh=$PWD/target/reference/release/fresh
@@ -70,6 +71,8 @@ $ fresh judge 200000 32
 $("$fresh" judge 200000 32)
 $ fresh cover 200000 33
 $("$fresh" cover 200000 33)
+$ fresh bill 200000 34
+$("$fresh" bill 200000 34)
 \`\`\`
 
 ## The gate
