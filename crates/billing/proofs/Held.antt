@@ -22,7 +22,7 @@ use Rattle.sheets.proofs.Patterns.{cell-below, area-small, row-in, cell-told, a
 use Rattle.covers.specs.Cover.{Point, Placed, Cover}
 use Rattle.covers.specs.Promise.{RootCover}
 use Rattle.covers.proofs.Listing.{known-patterns}
-use Rattle.covers.proofs.FromSheets.{root-bounds}
+use Rattle.covers.proofs.FromSheets.{root-bounds, cover-fits}
 use Rattle.results.specs.declared.CoverRecord.{CoverRecord}
 use Rattle.results.specs.declared.CoverRead.{CoverRead}
 use Rattle.results.specs.Public.{coverOf, CoverIs}
@@ -32,11 +32,11 @@ use Rattle.lines.proofs.Laws.{appended-three}
 use Rattle.bills.specs.Bill.{entriesBelow, amounts, margin, bill}
 use Rattle.bills.specs.Billed.{entryLine, totalLine, marginLine, billText, billShown, longestBill}
 use Rattle.bills.proofs.Accepted.{accepted}
-use Rattle.bills.proofs.Text.{few-matches, small-total, bill-short}
+use Rattle.bills.proofs.Text.{small-total, bill-short}
 use Rattle.bills.proofs.Demands.{shown-bill}
 use Rattle.framing.specs.Framed.{outcomeText}
 use Rattle.billing.specs.declared.Put.{Put}
-use Rattle.billing.specs.Inside.{CellTold, Countable, TallyIs, Listing, EntriesPut, BillHeld}
+use Rattle.billing.specs.Inside.{CellTold, Countable, TallyIs, Tallied, EntriesPut, BillHeld}
 
 module _ {l : Library} {t : Tree} {rows : List ℕ} {cells : ℕ} {cover : CoverRecord} {required : ℕ} (h : BillHeld l t rows cells cover required) where
   abbrev xs : List Placed
@@ -64,7 +64,7 @@ module _ {l : Library} {t : Tree} {rows : List ℕ} {cells : ℕ} {cover : Cover
       })
 
   pub countable : Countable l rows xs
-  countable = record { few = few-matches t (h .sound) (h .tree) (h .legal); told = told }
+  countable = record { few = cover-fits (h .sound) (h .tree) (h .legal) .count; told = told }
 
   -- The lines of the cells, the total and the margin are the bill's text.
   text-is : flatMap entryLine (entriesBelow l xs cells) ++ (totalLine total ++ marginLine spare) ≡ billText (bill l t (coverOf cover))
@@ -80,7 +80,7 @@ module _ {l : Library} {t : Tree} {rows : List ℕ} {cells : ℕ} {cover : Cover
     length-append (totalLine total) (marginLine spare),
   )
 
-  pub listing : {tallied sums : List ℕ} → TallyIs l xs tallied sums → (text : List ℕ) → longestBill ≤ length text → Listing l xs tallied sums cells text
+  pub listing : {tallied sums : List ℕ} → TallyIs l xs tallied sums → (text : List ℕ) → longestBill ≤ length text → Tallied l xs tallied sums cells text
   listing is text room = record {
     tally-is = is;
     few-cells = omega (arith, h .cells-are, h .sound .few-cells);

@@ -107,10 +107,21 @@ placed-names (suc k) (n ∷ ns) (p ∷ ps) (x ∷ xs) a b c = ap (λ (r : List �
 pub cover-names : (cover : CoverRecord) → Room cover → Names (coverOf cover .placed) (cover .count) (cover .patterns)
 cover-names cover room = placed-names (cover .count) (cover .nodes) (cover .patterns) (cover .crossings) (room .0) (room .1) (room .2)
 
+-- A match's row is there, and its cell's numbers are small.
+pub record Here (rows : List ℕ) (row : ℕ) (counts amounts : List ℕ) : Type 0 where
+  pub row-in : row + 2 < length rows
+  pub cell-small : getD rows (row + 0) 0 < 64
+  pub area-small : getD rows (row + 2) 0 ≤ 65535
+  pub count-small : getD counts (getD rows (row + 0) 0) 0 ≤ 63
+  pub amount-small : getD amounts (getD rows (row + 0) 0) 0 ≤ 63 * 65535
+
 -- Match k of the list, of which the first k are counted.
 module _ (l : Library) (rows : List ℕ) (xs : List Placed) (countable : Countable l rows xs) (count : ℕ) (patterns : List ℕ) (room : count ≤ length patterns) (names : Names xs count patterns) (k : ℕ) (h : k < count) where
+  abbrev nowhere : Placed
+  nowhere = record { node = 0; pattern = 0; crossing = 0 }
+
   abbrev match : Placed
-  match = getD xs k (record { node = 0; pattern = 0; crossing = 0 })
+  match = getD xs k nowhere
 
   abbrev row : ℕ
   row = rowWords * getD patterns k 0
@@ -119,10 +130,10 @@ module _ (l : Library) (rows : List ℕ) (xs : List Placed) (countable : Countab
   among = omega (arith, length-map xs (λ (x : Placed). x .pattern), ap length names, length-take-le count patterns room)
 
   named : match .pattern ≡ getD patterns k 0
-  named = sym (at-map (λ (x : Placed). x .pattern) xs k (record { node = 0; pattern = 0; crossing = 0 }) 0 among) ∙ ap (λ (ps : List ℕ). getD ps k 0) names ∙ getD-take count patterns k 0 h
+  named = sym (at-map (λ (x : Placed). x .pattern) xs k nowhere 0 among) ∙ ap (λ (ps : List ℕ). getD ps k 0) names ∙ getD-take count patterns k 0 h
 
   told : CellTold l rows match
-  told = countable .told match (at-mem xs k (record { node = 0; pattern = 0; crossing = 0 }) among)
+  told = countable .told match (at-mem xs k nowhere among)
 
   cell-here : getD rows (row + 0) 0 ≡ cellOf l (match .pattern)
   cell-here = ap (λ (p : ℕ). getD rows (rowWords * p + 0) 0) (sym named) ∙ told .cell-is
@@ -130,32 +141,27 @@ module _ (l : Library) (rows : List ℕ) (xs : List Placed) (countable : Countab
   area-here : getD rows (row + 2) 0 ≡ areaOf l (cellOf l (match .pattern))
   area-here = ap (λ (p : ℕ). getD rows (rowWords * p + 2) 0) (sym named) ∙ told .area-is
 
-  pub row-here : row + 2 < length rows
-  row-here = omega (arith, told .row-in, ap (λ (p : ℕ). rowWords * p) named)
-
-  pub cell-small : getD rows (row + 0) 0 < 64
-  cell-small = omega (arith, cell-here, told .cell-small)
-
-  pub area-small : getD rows (row + 2) 0 ≤ 65535
-  area-small = omega (arith, area-here, told .area-small)
-
   module _ (counts amounts : List ℕ) (tally : TallyIs l (take k xs) counts amounts) where
-    used : uses l (take k xs) (getD rows (row + 0) 0) ≤ 63
-    used = omega (arith, uses-few l (take k xs) (getD rows (row + 0) 0), length-take-le k xs (omega (arith, among)), countable .few, among)
+    abbrev cell : ℕ
+    cell = getD rows (row + 0) 0
 
-    pub count-small : getD counts (getD rows (row + 0) 0) 0 ≤ 63
-    count-small = omega (arith, tally (getD rows (row + 0) 0) cell-small .0, used)
-
-    pub amount-small : getD amounts (getD rows (row + 0) 0) 0 ≤ 63 * 65535
-    amount-small =
-        let cell = getD rows (row + 0) 0 in
+    pub here : Here rows row counts amounts
+    here =
+        let small : cell < 64 = omega (arith, cell-here, told .cell-small) in
+        let few : uses l (take k xs) cell ≤ 63 = omega (arith, uses-few l (take k xs) cell, length-take-le k xs (omega (arith, among)), countable .few, among) in
         let area : areaOf l cell ≤ 65535 = omega (arith, told .area-small, ap (areaOf l) cell-here) in
-        omega (arith, tally cell cell-small .1, mul-le-mul used area)
+        record {
+          row-in = omega (arith, told .row-in, ap (λ (p : ℕ). rowWords * p) named);
+          cell-small = small;
+          area-small = omega (arith, area-here, told .area-small);
+          count-small = omega (arith, tally cell small .0);
+          amount-small = omega (arith, tally cell small .1, mul-le-mul few area);
+        }
 
-    pub tally-turn : length counts ≡ 64 → length amounts ≡ 64 → TallyIs l (take (k + 1) xs) (set counts (getD rows (row + 0) 0) (getD counts (getD rows (row + 0) 0) 0 + 1)) (set amounts (getD rows (row + 0) 0) (getD amounts (getD rows (row + 0) 0) 0 + getD rows (row + 2) 0))
+    pub tally-turn : length counts ≡ 64 → length amounts ≡ 64 → TallyIs l (take (k + 1) xs) (set counts cell (getD counts cell 0 + 1)) (set amounts cell (getD amounts cell 0 + getD rows (row + 2) 0))
     tally-turn lc la =
-        rw (add-one k, take-suc xs k (record { node = 0; pattern = 0; crossing = 0 }) among)
-        (tally-more l (take k xs) match (getD rows (row + 0) 0) (getD rows (row + 2) 0) cell-here area-here counts amounts (omega (arith, cell-small)) (omega (arith, cell-small)) tally)
+        rw (add-one k, take-suc xs k nowhere among)
+        (tally-more l (take k xs) match cell (getD rows (row + 2) 0) cell-here area-here counts amounts (omega (arith, here .cell-small)) (omega (arith, here .cell-small)) tally)
 
 -- ---- lines
 

@@ -1,14 +1,15 @@
 -- What the functions inside promise each other.
-use Prim.Native.Nat.{ℕ, _+_, _*_, _≤_, _<_}
+use Prim.Native.Nat.{ℕ, _+_, _*_, _^_, _≤_, _<_}
 use mathlib.Core.Path.{_≡_}
-use mathlib.Core.List.{List, [], _∷_, flatMap, List·Memᴰ}
+use mathlib.Core.List.{List, [], flatMap, List·Memᴰ}
 use lib.Dec.{ltb}
 use lib.ListN.{length, getD}
 use Rattle.sheets.specs.Model.{Library, cellOf, areaOf, Tree}
 use Rattle.sheets.specs.Sound.{SoundLibrary, SoundTree}
-use Rattle.sheets.specs.Layout.{rowWords, libraryLaid}
+use Rattle.sheets.specs.Layout.{numberAt, areaAt, rowWords, libraryLaid}
 use Rattle.covers.specs.Lists.{keepIf}
 use Rattle.covers.specs.Cover.{Placed}
+use Rattle.covers.specs.CoverSheet.{matchCountWidth}
 use Rattle.covers.specs.Promise.{RootCover}
 use Rattle.results.specs.declared.CoverRecord.{CoverRecord}
 use Rattle.results.specs.Public.{coverOf}
@@ -17,6 +18,10 @@ use Rattle.bills.specs.Bill.{uses, entriesBelow, amounts}
 use Rattle.bills.specs.Billed.{entryLine}
 use Rattle.billing.specs.declared.Put.{Put}
 
+-- How many cells a library has at the most.
+abbrev pub mostCells : ℕ
+mostCells = 64
+
 -- The line of a cell, if it is used.
 unfoldable pub entryText : (cell count amount : ℕ) → List ℕ
 unfolding flatMap entryLine keepIf
@@ -24,25 +29,25 @@ entryText cell count amount = flatMap entryLine (keepIf (ltb 0 count) (record { 
 
 -- The rows tell of each listed match its cell and that cell's area, and the numbers are small.
 pub record CellTold (l : Library) (rows : List ℕ) (x : Placed) : Type 0 where
-  pub row-in : rowWords * x .pattern + 2 < length rows
-  pub cell-is : getD rows (rowWords * x .pattern + 0) 0 ≡ cellOf l (x .pattern)
-  pub area-is : getD rows (rowWords * x .pattern + 2) 0 ≡ areaOf l (cellOf l (x .pattern))
-  pub cell-small : cellOf l (x .pattern) < 64
+  pub row-in : rowWords * x .pattern + areaAt < length rows
+  pub cell-is : getD rows (rowWords * x .pattern + numberAt) 0 ≡ cellOf l (x .pattern)
+  pub area-is : getD rows (rowWords * x .pattern + areaAt) 0 ≡ areaOf l (cellOf l (x .pattern))
+  pub cell-small : cellOf l (x .pattern) < mostCells
   pub area-small : areaOf l (cellOf l (x .pattern)) ≤ 65535
 
 pub record Countable (l : Library) (rows : List ℕ) (xs : List Placed) : Type 0 where
-  pub few : length xs ≤ 63
+  pub few : length xs < 2 ^ matchCountWidth
   pub told : (x : Placed) → List·Memᴰ x xs → CellTold l rows x
 
 -- For each cell how often it is used, and that times its area.
-abbrev pub TallyIs : Library → List Placed → (counts amounts : List ℕ) → Type 0
-TallyIs l xs counts amounts = (n : ℕ) → n < 64 → (getD counts n 0 ≡ uses l xs n) × (getD amounts n 0 ≡ uses l xs n * areaOf l n)
+abbrev pub TallyIs : Library → List Placed → (counts sums : List ℕ) → Type 0
+TallyIs l xs counts sums = (n : ℕ) → n < mostCells → (getD counts n 0 ≡ uses l xs n) × (getD sums n 0 ≡ uses l xs n * areaOf l n)
 
 -- A tally, and room for the lines of the first cells.
-pub record Listing (l : Library) (xs : List Placed) (tallied sums : List ℕ) (cells : ℕ) (text : List ℕ) : Type 0 where
-  pub tally-is : TallyIs l xs tallied sums
-  pub few-cells : cells ≤ 64
-  pub small : amounts (entriesBelow l xs cells) < 4294967296
+pub record Tallied (l : Library) (xs : List Placed) (counts sums : List ℕ) (cells : ℕ) (text : List ℕ) : Type 0 where
+  pub tally-is : TallyIs l xs counts sums
+  pub few-cells : cells ≤ mostCells
+  pub small : amounts (entriesBelow l xs cells) < 2 ^ 32
   pub room : length (flatMap entryLine (entriesBelow l xs cells)) ≤ length text
 
 -- The lines of the first cells are put, and their total is known.
@@ -58,4 +63,4 @@ pub record BillHeld (l : Library) (t : Tree) (rows : List ℕ) (cells : ℕ) (co
   pub rows-are : rows ≡ libraryLaid l .rows
   pub cells-are : cells ≡ length (l .cells)
   pub required-is : required ≡ t .required
-  pub count-small : cover .count < 64
+  pub count-small : cover .count < 2 ^ matchCountWidth

@@ -1,4 +1,5 @@
 // The text that `bill` prints: the bill of the cover that the last of an input's three sheets says.
+use framing::Frame;
 use judge::CoverJudged;
 use results::CoverRecord;
 use sheets::Limits;
@@ -11,6 +12,7 @@ ghost use Rattle.io.specs.Counts.{Counts};
 ghost use Rattle.fields.specs.Answer.{success};
 ghost use Rattle.sheets.specs.Model.{Library, Tree};
 ghost use Rattle.covers.specs.Cover.{Point, Placed};
+ghost use Rattle.covers.specs.CoverSheet.{matchCountWidth};
 ghost use Rattle.results.specs.Public.{coverOf, Written};
 ghost use Rattle.judgement.specs.Judgement.{judgement};
 ghost use Rattle.lines.specs.Text.{Appended};
@@ -18,14 +20,19 @@ ghost use Rattle.framing.specs.Framed.{outcomeText};
 ghost use Rattle.bills.specs.Bill.{margin as marginOf, bill};
 ghost use Rattle.bills.specs.Billed.{totalLine, marginLine, billText, billShown, longestBill, billedWithin};
 ghost use Rattle.bills.specs.Demands.{BilledWhereWhole};
-ghost use Rattle.billing.specs.Inside.{entryText, Countable, TallyIs, Listing, EntriesPut, BillHeld};
+ghost use Rattle.billing.specs.Inside.{entryText, Countable, TallyIs, Tallied, EntriesPut, BillHeld};
 
-// How many lengths an input has, and the longest text: 63 cells, the total and the margin.
+// How many lengths an input has: library, tree and cover sheet.
+struct Input {}
+
+impl Input {
+    const LENGTHS: usize = 3;
+}
+
+// No text is longer than this: 63 cells, the total and the margin.
 pub struct Text {}
 
 impl Text {
-    pub const LENGTHS: usize = 3;
-
     pub const LONGEST: usize = 912;
 }
 
@@ -36,7 +43,7 @@ pub struct Tally {
 }
 
 impl Tally {
-    pub const CELLS: usize = 64;
+    pub const CELLS: usize = Limits::CELLS as usize;
 }
 
 // Where the lines of the cells end, and their total.
@@ -47,7 +54,7 @@ pub struct Put {
 
 // Counts the matches of a cover by their cells.
 fn count_cells(cover: CoverRecord, rows: &[u32]) -> Tally
-    requires { ⌜ (cover .count < 64) × ((l : Library) × Countable l (now rows) (coverOf cover .placed)) ⌝ }
+    requires { ⌜ (cover .count < 2 ^ matchCountWidth) × ((l : Library) × Countable l (now rows) (coverOf cover .placed)) ⌝ }
     ensures { λ r. ⌜ ((l : Library) → Countable l (now (rows .entry)) (coverOf cover .placed) → TallyIs l (coverOf cover .placed) (r .counts) (r .amounts)) ⌝ }
 {
     let count = cover.count;
@@ -79,8 +86,8 @@ fn put_entry(text: &mut [u8], at: usize, cell: usize, count: u32, amount: u32) -
 
 // A line for each of so many cells that is used.
 fn put_entries(text: &mut [u8], tally: Tally, cells: usize) -> Put
-    requires { ⌜ ((l : Library) × ((xs : List Placed) × Listing l xs (tally .counts) (tally .amounts) cells (now text))) ⌝ }
-    ensures { λ r. ⌜ ((l : Library) (xs : List Placed) → Listing l xs (tally .counts) (tally .amounts) cells (now (text .entry)) → EntriesPut l xs cells (now (text .entry)) (now (text .exit)) r) ⌝ }
+    requires { ⌜ ((l : Library) × ((xs : List Placed) × Tallied l xs (tally .counts) (tally .amounts) cells (now text))) ⌝ }
+    ensures { λ r. ⌜ ((l : Library) (xs : List Placed) → Tallied l xs (tally .counts) (tally .amounts) cells (now (text .entry)) → EntriesPut l xs cells (now (text .entry)) (now (text .exit)) r) ⌝ }
 {
     let counts = tally.counts;
     let amounts = tally.amounts;
@@ -100,8 +107,8 @@ fn put_total(text: &mut [u8], at: usize, total: u32) -> usize
     requires { ⌜ at + length (totalLine total) ≤ length (now text) ⌝ }
     ensures { λ r. ⌜ Appended (totalLine total) (now (text .entry)) at (now (text .exit)) r ⌝ }
 {
-    let second = lines::put_word(text, at, b"total");
-    let end = lines::put_spaced(text, second, total as u64);
+    let second = lines::put_word(text, at, b"total ");
+    let end = lines::put_number(text, second, total as u64);
     lines::put_word(text, end, b"\n")
 }
 
@@ -173,7 +180,7 @@ pub fn print_bill(input: &[u8], text: &mut [u8]) -> usize
     if text.len() < Text::LONGEST {
         return 0;
     }
-    let split = framing::split_input(input, Text::LENGTHS, true);
+    let split = framing::split_input(input, Input::LENGTHS, true);
     if split.spoiled {
         return framing::put_spoiled(text);
     }
@@ -194,9 +201,8 @@ pub fn print_bill(input: &[u8], text: &mut [u8]) -> usize
 pub fn run() -> usize
     ensures { λ r. ⌜ r ≤ longestBill ⌝ }
 {
-    // One byte more than the longest input, so that a longer one shows.
-    let mut input = [0u8; Limits::INPUT + 1];
-    let count = io::read_full(libc::STDIN_FILENO, &mut input);
+    let mut input = [0u8; Frame::BUFFER];
+    let count = framing::read_input(&mut input);
     let mut text = [0u8; Text::LONGEST];
     let length = print_bill(&input[..count], &mut text);
     io::write_all(libc::STDOUT_FILENO, &text[..length]);

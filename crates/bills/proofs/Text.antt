@@ -45,7 +45,7 @@ module _ {l : Library} (t : Tree) {c : Cover} (sound : SoundLibrary l) (tree : S
   abbrev es : List Entry
   es = entriesBelow l (c .placed) (length (l .cells))
 
-  pub few-matches : length (c .placed) ≤ 63
+  few-matches : length (c .placed) ≤ 63
   few-matches = omega (arith, cover-fits sound tree legal .count)
 
   pub small-total : amounts es ≤ 4128705

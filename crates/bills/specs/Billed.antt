@@ -1,6 +1,6 @@
 -- The text that `bill` prints for an input.
 use Prim.Native.Nat.{ℕ}
-use mathlib.Core.Bool.{true}
+use mathlib.Core.Bool.{Bool, true}
 use mathlib.Core.List.{List, [], _∷_, _++_, flatMap}
 use lib.IntN.{ℤ}
 use Rattle.fields.specs.Reading.{start}
@@ -44,9 +44,22 @@ unfolding onSuccess judgement billText bill
 billShown ls ts cs = onSuccess (λ p. billText (bill (library ls start .0) (tree ts start .0) (coverRead cs start .0))) (judgement ls ts cs)
 
 -- After three lengths come library, tree and cover sheet, and nothing else.
+module _ (input : List ℕ) where
+  abbrev pub isSpoiled : Bool
+  isSpoiled = spoiled input 3 true
+
+  abbrev pub libraryPart : List ℕ
+  libraryPart = sheet input 3 0
+
+  abbrev pub treePart : List ℕ
+  treePart = sheet input 3 1
+
+  abbrev pub coverPart : List ℕ
+  coverPart = sheet input 3 2
+
 unfoldable pub billed : List ℕ → List ℕ
 unfolding framed spoiled sheet billShown
-billed input = framed (spoiled input 3 true) (billShown (sheet input 3 0) (sheet input 3 1) (sheet input 3 2))
+billed input = framed (isSpoiled input) (billShown (libraryPart input) (treePart input) (coverPart input))
 
 -- So many bytes are enough for every text: 14 for each of 63 cells, 14 for the total and 16 for the margin.
 abbrev pub longestBill : ℕ

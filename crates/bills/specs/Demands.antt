@@ -2,7 +2,7 @@
 use Prim.Native.Nat.{ℕ, _*_, _≤_, _<_}
 use mathlib.Core.Path.{_≡_}
 use mathlib.Core.Logic.{_↔_}
-use mathlib.Core.Bool.{true, false}
+use mathlib.Core.Bool.{false}
 use mathlib.Core.List.{List, map, List·Memᴰ}
 use lib.IntN.{pos, _+ℤ_}
 use lib.ListN.{length, getD}
@@ -15,13 +15,16 @@ use Rattle.covers.specs.Cover.{Point, Placed, Cover}
 use Rattle.covers.specs.CoverSheet.{coverRead}
 use Rattle.covers.specs.Promise.{RootCover, listedArea}
 use Rattle.judgement.specs.Judgement.{judgement}
-use Rattle.framing.specs.Framed.{spoiled, sheet, refusalLine}
+use Rattle.framing.specs.Framed.{refusalLine}
 use Rattle.bills.specs.Bill.{Entry, Bill, uses, amounts, counts}
-use Rattle.bills.specs.Billed.{billText, longestBill}
+use Rattle.bills.specs.Billed.{billText, isSpoiled, libraryPart, treePart, coverPart, longestBill}
 
--- The cell on line k.
+-- The cells that have a line, in order; and the one on line k.
+abbrev pub cellsOf : Bill → List ℕ
+cellsOf b = map (λ (e : Entry). e .cell) (b .entries)
+
 abbrev pub cellAt : Bill → ℕ → ℕ
-cellAt b k = getD (map (λ (e : Entry). e .cell) (b .entries)) k 0
+cellAt b k = getD (cellsOf b) k 0
 
 -- What a bill of a cover says.
 pub record BillIs (l : Library) (t : Tree) (c : Cover) (b : Bill) : Type 0 where
@@ -34,7 +37,7 @@ pub record BillIs (l : Library) (t : Tree) (c : Cover) (b : Bill) : Type 0 where
   -- The lines ascend by cell, so that no cell has two.
   pub ascending : (j k : ℕ) → j < k → k < length (b .entries) → cellAt b j < cellAt b k
   -- The cells that have a line are those of the listed matches.
-  pub used : (n : ℕ) → List·Memᴰ n (map (λ (e : Entry). e .cell) (b .entries)) ↔ ((x : Placed) × List·Memᴰ x (c .placed) × (cellOf l (x .pattern) ≡ n))
+  pub used : (n : ℕ) → List·Memᴰ n (cellsOf b) ↔ ((x : Placed) × List·Memᴰ x (c .placed) × (cellOf l (x .pattern) ≡ n))
   -- Each line has its cell's count, and count × area.
   pub counted : (e : Entry) → List·Memᴰ e (b .entries) → e .count ≡ uses l (c .placed) (e .cell)
   pub amounted : (e : Entry) → List·Memᴰ e (b .entries) → e .amount ≡ e .count * areaOf l (e .cell)
@@ -52,4 +55,4 @@ pub record BillDemands (ls ts cs printed : List ℕ) : Type 0 where
 
 -- The demands of the three sheets of an input, if it is not spoiled and the text has room.
 abbrev pub BilledWhereWhole : (room : ℕ) (input printed : List ℕ) → Type 0
-BilledWhereWhole room input printed = longestBill ≤ room → spoiled input 3 true ≡ false → BillDemands (sheet input 3 0) (sheet input 3 1) (sheet input 3 2) printed
+BilledWhereWhole room input printed = longestBill ≤ room → isSpoiled input ≡ false → BillDemands (libraryPart input) (treePart input) (coverPart input) printed

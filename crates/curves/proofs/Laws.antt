@@ -18,7 +18,7 @@ use Rattle.covers.specs.Curve.{base, both, lookup, pointOf, wordOf}
 use Rattle.covers.proofs.Points.{point-path, both-assoc, both-carries, Leq, smaller, earlier, pick-left, pick-right, lesser-none}
 use Rattle.covers.proofs.Basics.{lt-or-le}
 use Rattle.curves.specs.Words.{absent, areaLimit, pointLimit, matchLimit, stored, slot, tableOf, Small, ZeroBelow, WorkArea}
-use Rattle.overlay.specs.Held.{heldAt, highestAt}
+use Rattle.sheets.specs.Layout.{heldAt, highestAt}
 use Rattle.matching.specs.Found.{matchBytes}
 use Rattle.curves.specs.Best.{rowOf, patternOf, rowArea, rowCount, rowLegal, inputNode, inputBin, inputLoad, inputIntrinsic, inputDrive, rowDelay, inputBest, inputLate, inputsBest, rowBest, legalBest, rowsBest, Sources, Tables, RowKnown, Matches}
 use Rattle.curves.specs.Promises.{Worth, matchBefore, Kept}

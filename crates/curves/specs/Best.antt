@@ -10,7 +10,8 @@ use Rattle.sheets.specs.Layout.{pinWords, figuresAt, rowWords}
 use Rattle.covers.specs.Cover.{late, raised, leafPoint, Point}
 use Rattle.covers.specs.Choice.{lesser, before}
 use Rattle.covers.specs.Curve.{both, lookup}
-use Rattle.overlay.specs.Held.{symbolLimit, heldAt, areaAt, highestAt}
+use Rattle.sheets.specs.Layout.{heldAt, areaAt, highestAt}
+use Rattle.overlay.specs.Held.{symbolLimit}
 use Rattle.matching.specs.Found.{matchBytes, inputPlace}
 use Rattle.curves.specs.Words.{tableOf, WorkArea}
 

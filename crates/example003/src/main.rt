@@ -73,16 +73,21 @@ fn write_reply(reply: Reply, output: &[u8]) {
 
 // Splits the input and lists the trade-offs.
 fn run(s: &[u8]) {
-    if s.len() < Frame::LENGTH {
+    if s.len() < Frame::LENGTH_BYTES {
         return;
     }
-    let end = Frame::LENGTH + framing::length_of(s[0], s[1]);
+    let end = Frame::LENGTH_BYTES + framing::length_of(s[0], s[1]);
     if s.len() < end {
         return;
     }
     let mut output = [0u8; Limits::OUTPUT_LIST];
     let mut work = [0u64; Limits::WORK];
-    let reply = operations::list(&s[Frame::LENGTH..end], &s[end..], &mut output, &mut work);
+    let reply = operations::list(
+        &s[Frame::LENGTH_BYTES..end],
+        &s[end..],
+        &mut output,
+        &mut work,
+    );
     write_reply(reply, &output);
 }
 

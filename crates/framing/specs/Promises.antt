@@ -7,6 +7,10 @@ use lib.ListN.{getD}
 use Rattle.framing.specs.declared.Split.{Split}
 use Rattle.framing.specs.Framed.{sheetAt, spoiled}
 
+-- How many lengths an input has at the most.
+abbrev pub mostLengths : ℕ
+mostLengths = 3
+
 -- Where each sheet begins, and where the last one ends.
 abbrev pub PlacesAre : List ℕ → ℕ → List ℕ → Type 0
 PlacesAre input lengths places = (k : ℕ) → k ≤ lengths → getD places k 0 ≡ sheetAt input lengths k

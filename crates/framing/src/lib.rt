@@ -1,29 +1,40 @@
-// Inputs that hold several sheets with their lengths in front: where the sheets stand, and the two lines that any of them may be answered by.
+// The frame of the programs: an input that holds several sheets with their lengths in front, where the sheets stand in it, and the two lines by which any input may be refused.
 use sheets::Limits;
 ghost use mathlib.Core.Path.{_≡_};
 ghost use mathlib.Core.Bool.{_&&_, _||_};
 ghost use Prim.Native.Nat.{_+_, _*_, _<_, _≤_};
 ghost use lib.Dec.{ltb};
 ghost use lib.ListN.{length};
+ghost use Rattle.io.specs.Counts.{Counts};
 ghost use Rattle.lines.specs.Text.{Appended};
 ghost use Rattle.framing.specs.Framed.{inputLimit, refusalLine, spoiledLine};
-ghost use Rattle.framing.specs.Promises.{PlacesAre, SplitIs};
+ghost use Rattle.framing.specs.Promises.{mostLengths, PlacesAre, SplitIs};
 
-// The bytes of one length, how many lengths an input has at the most, and how many places that makes.
+// The bytes of one length, how many lengths an input has at the most, how many places that makes, and what standard input is read into.
 pub struct Frame {}
 
 impl Frame {
-    pub const LENGTH: usize = 2;
+    pub const LENGTH_BYTES: usize = 2;
 
-    pub const LENGTHS: usize = 3;
+    pub const MOST_LENGTHS: usize = 3;
 
-    pub const PLACES: usize = Frame::LENGTHS + 1;
+    pub const PLACES: usize = Frame::MOST_LENGTHS + 1;
+
+    // One byte more than the longest input, so that a longer one shows.
+    pub const BUFFER: usize = Limits::INPUT + 1;
 }
 
 // Whether an input is not what its lengths say; and, if it is, where its sheets begin and, after these, where the last one ends.
 pub struct Split {
     pub spoiled: bool,
     pub places: [usize; Frame::PLACES],
+}
+
+// Reads standard input, and answers how many bytes were there.
+pub fn read_input(input: &mut [u8; Frame::BUFFER]) -> usize
+    ensures { λ r. ⌜ Counts r (now (input .exit)) ⌝ }
+{
+    io::read_full(libc::STDIN_FILENO, input)
 }
 
 fn wide(x: u8) -> usize
@@ -41,10 +52,10 @@ pub fn length_of(high: u8, low: u8) -> usize
 
 // Whether an input of so many bytes lacks some of its lengths, or is too long.
 fn lacks_lengths(bytes: usize, lengths: usize) -> bool
-    requires { ⌜ lengths ≤ 3 ⌝ }
+    requires { ⌜ lengths ≤ mostLengths ⌝ }
     ensures { λ r. ⌜ r ≡ (ltb bytes (2 * lengths) || ltb inputLimit bytes) ⌝ }
 {
-    if bytes < Frame::LENGTH * lengths {
+    if bytes < Frame::LENGTH_BYTES * lengths {
         return true;
     }
     Limits::INPUT < bytes
@@ -65,15 +76,18 @@ fn misfits(bytes: usize, end: usize, exact: bool) -> bool
 
 // Where each sheet begins, and where the last one ends.
 fn sheet_places(input: &[u8], lengths: usize) -> [usize; Frame::PLACES]
-    requires { ⌜ (lengths ≤ 3) × (2 * lengths ≤ length (now input)) ⌝ }
+    requires { ⌜ (lengths ≤ mostLengths) × (2 * lengths ≤ length (now input)) ⌝ }
     ensures { λ r. ⌜ PlacesAre (now (input .entry)) lengths r ⌝ }
 {
     let mut places = [0usize; Frame::PLACES];
-    let mut at = Frame::LENGTH * lengths;
+    let mut at = Frame::LENGTH_BYTES * lengths;
     let mut k = 0;
     while k < lengths {
         places[k] = at;
-        at += length_of(input[Frame::LENGTH * k], input[Frame::LENGTH * k + 1]);
+        at += length_of(
+            input[Frame::LENGTH_BYTES * k],
+            input[Frame::LENGTH_BYTES * k + 1],
+        );
         k += 1;
     }
     places[k] = at;
@@ -82,7 +96,7 @@ fn sheet_places(input: &[u8], lengths: usize) -> [usize; Frame::PLACES]
 
 // Splits an input that opens with so many lengths. Where it is exact, no byte may be left over.
 pub fn split_input(input: &[u8], lengths: usize, exact: bool) -> Split
-    requires { ⌜ lengths ≤ 3 ⌝ }
+    requires { ⌜ lengths ≤ mostLengths ⌝ }
     ensures { λ r. ⌜ SplitIs (now (input .entry)) lengths exact r ⌝ }
 {
     if lacks_lengths(input.len(), lengths) {

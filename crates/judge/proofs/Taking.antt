@@ -18,7 +18,8 @@ use Rattle.covers.proofs.Matching as matching
 use Rattle.covers.proofs.Nodes.{nodeOf, root-in, fits-in, nodes-within, node-ends}
 use Rattle.overlay.specs.declared.Walked.{Walked}
 use Rattle.overlay.specs.Standing.{Stands, DrawingHeld, extent, Measured}
-use Rattle.overlay.specs.Held.{heldAt, areaAt, highestAt, Walkable, Walks, WalkIs}
+use Rattle.sheets.specs.Layout.{heldAt, areaAt, highestAt}
+use Rattle.overlay.specs.Held.{Walkable, Walks, WalkIs}
 use Rattle.overlay.proofs.Patterns.{redrawn-sound, missed, hit}
 use Rattle.judgement.specs.Walk.{Uncovered, Walk, comeToInputs, others, matchAt, taken}
 use Rattle.judgement.specs.Order.{Apart, last, next}

@@ -12,7 +12,7 @@ use Rattle.sheets.specs.declared.library.LibraryRecord.{LibraryRecord}
 use Rattle.sheets.specs.declared.tree.TreeRecord.{TreeRecord}
 use Rattle.sheets.specs.Model.{Shape, size, leaves, nands, Pin, Cell, Library, Pattern, Tree}
 use Rattle.sheets.specs.Sound.{SoundCell, SoundLibrary, SoundTree}
-use Rattle.sheets.specs.Layout.{padded, pinWords, figuresAt, rowWords, patternTable, libraryLaid, treeLaid}
+use Rattle.sheets.specs.Layout.{padded, heldAt, areaAt, highestAt, pinWords, figuresAt, rowWords, patternTable, libraryLaid, treeLaid}
 use Rattle.covers.specs.Crossing.{exchanged, redrawn}
 use Rattle.covers.specs.Match.{Input, Match, laid, pinAt, pinLoad}
 use Rattle.overlay.specs.declared.Left.{Left}
@@ -35,15 +35,6 @@ pub record PinHeld (l : Library) (row : List ℕ) (at : ℕ) (p : Pin) : Type 0 
   pub drive-is : getD row (at + 3) 0 ≡ p .drive
 
 -- The row holds the cell c of the library l: after the cell's number its hold mark, area and highest load, and its pins from a place on.
-abbrev pub heldAt : ℕ
-heldAt = 1
-
-abbrev pub areaAt : ℕ
-areaAt = 2
-
-abbrev pub highestAt : ℕ
-highestAt = 3
-
 pub record CellHeld (l : Library) (row : List ℕ) (c : Cell) : Type 0 where
   pub long : length row ≡ rowWords
   pub held-is : getD row heldAt 0 ≡ cond (c .held) 1 0

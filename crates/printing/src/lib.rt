@@ -1,4 +1,5 @@
 // The text that `treecover` prints: the outcome of map for an input that holds a library and a tree.
+use framing::Frame;
 use operations::Reply;
 use results::CoverRecord;
 use sheets::Limits;
@@ -18,12 +19,17 @@ ghost use Rattle.framing.specs.Framed.{outcomeText};
 ghost use Rattle.printing.specs.Printed.{coverLine, mapShown, longestText, printedWithin};
 ghost use Rattle.printing.specs.Rows.{rowsOf, coverIn, rowLine, rowLines, rowText, HaveRows, Printable};
 
-// How many lengths an input has, the library's alone; and the longest text, a cover of 63 matches.
+// How many lengths an input has: the library's alone.
+struct Input {}
+
+impl Input {
+    const LENGTHS: usize = 1;
+}
+
+// No text is longer than this: that of a cover of 63 matches.
 pub struct Text {}
 
 impl Text {
-    pub const LENGTHS: usize = 1;
-
     pub const LONGEST: usize = 844;
 }
 
@@ -110,7 +116,7 @@ pub fn print_cover(input: &[u8], text: &mut [u8]) -> usize
     if text.len() < Text::LONGEST {
         return 0;
     }
-    let split = framing::split_input(input, Text::LENGTHS, false);
+    let split = framing::split_input(input, Input::LENGTHS, false);
     if split.spoiled {
         return framing::put_spoiled(text);
     }
@@ -124,9 +130,8 @@ pub fn print_cover(input: &[u8], text: &mut [u8]) -> usize
 pub fn run() -> usize
     ensures { λ r. ⌜ r ≤ longestText ⌝ }
 {
-    // One byte more than the longest input, so that a longer one shows.
-    let mut input = [0u8; Limits::INPUT + 1];
-    let count = io::read_full(libc::STDIN_FILENO, &mut input);
+    let mut input = [0u8; Frame::BUFFER];
+    let count = framing::read_input(&mut input);
     let mut text = [0u8; Text::LONGEST];
     let length = print_cover(&input[..count], &mut text);
     io::write_all(libc::STDOUT_FILENO, &text[..length]);

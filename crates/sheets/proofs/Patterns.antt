@@ -12,7 +12,7 @@ use Rattle.fields.proofs.Lists.{at-mem, at-map}
 use Rattle.shapes.specs.Shape.{Shape, leaf, size, symbols}
 use Rattle.sheets.specs.Model.{Pin, binLoadOf, Cell, Library, Pattern, drawn, patternsFrom, patterns, cellOf, areaOf}
 use Rattle.sheets.specs.Sound.{SoundDrawing, SoundCell, SoundLibrary}
-use Rattle.sheets.specs.Layout.{padded, pinsMost, cellLaid, pinWords, figuresAt, sizeAt, symbolsAt, rowWords, tableWords, pinFigures, tableFrom, patternRow, patternRows, libraryLaid, patternTable}
+use Rattle.sheets.specs.Layout.{padded, pinsMost, cellLaid, numberAt, areaAt, pinWords, figuresAt, sizeAt, symbolsAt, rowWords, tableWords, pinFigures, tableFrom, patternRow, patternRows, libraryLaid, patternTable}
 use Rattle.sheets.proofs.Rows.{length-row, row-cell, row-held, row-area, row-highest, row-pins, row-figure, row-size, row-symbol}
 use Rattle.sheets.proofs.Tables.{length-table, row-at}
 use Rattle.sheets.proofs.Laws.{in-padded}
@@ -212,8 +212,8 @@ module _ {l : Library} (sound : SoundLibrary l) (j : ℕ) (h : j < length (patte
       ∙ sym (getD-drop (rowWords * j) (patternTable l) c 0)
       ∙ sym (getD-take rowWords (drop (rowWords * j) (patternTable l)) c 0 small)
 
-  pub cell-told : getD rows (rowWords * j + 0) 0 ≡ cellOf l j
-  cell-told = word-of 0 (omega arith) ∙ row-told l sound noPattern j rowWords h refl .number ∙ sym cell-of
+  pub cell-told : getD rows (rowWords * j + numberAt) 0 ≡ cellOf l j
+  cell-told = word-of numberAt (omega arith) ∙ row-told l sound noPattern j rowWords h refl .number ∙ sym cell-of
 
-  pub area-told : getD rows (rowWords * j + 2) 0 ≡ areaOf l (cellOf l j)
-  area-told = word-of 2 (omega arith) ∙ row-told l sound noPattern j rowWords h refl .area ∙ sym area-of
+  pub area-told : getD rows (rowWords * j + areaAt) 0 ≡ areaOf l (cellOf l j)
+  area-told = word-of areaAt (omega arith) ∙ row-told l sound noPattern j rowWords h refl .area ∙ sym area-of

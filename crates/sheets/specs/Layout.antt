@@ -33,6 +33,18 @@ cellLaid bins c = record {
 
 -- A pattern's row: the number of its cell and the cell's words, then how many nodes the pattern has, and their symbols in preorder. Where
 -- its parts stand, how many words a pin takes and a row has, and how many a table of 128 rows has.
+abbrev pub numberAt : ℕ
+numberAt = 0
+
+abbrev pub heldAt : ℕ
+heldAt = 1
+
+abbrev pub areaAt : ℕ
+areaAt = 2
+
+abbrev pub highestAt : ℕ
+highestAt = 3
+
 abbrev pub pinWords : ℕ
 pinWords = 4
 

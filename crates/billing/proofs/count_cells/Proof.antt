@@ -8,10 +8,11 @@ use lib.Seq.{take-all}
 use Rattle.sheets.specs.Model.{Library}
 use Rattle.sheets.specs.Layout.{rowWords}
 use Rattle.covers.specs.Cover.{Placed}
+use Rattle.results.specs.declared.CoverRecord.{CoverRecord}
 use Rattle.results.specs.Public.{coverOf}
 use Rattle.results.proofs.Laws.{Room, many}
 use Rattle.billing.specs.Inside.{Countable, TallyIs}
-use Rattle.billing.proofs.Laws.{tally-none, Names, cover-names, row-here, cell-small, area-small, count-small, amount-small, tally-turn}
+use Rattle.billing.proofs.Laws.{tally-none, Names, cover-names, Here, here, tally-turn}
 use Rattle.billing.proofs.count_cells.Statement.{statement}
 use Rattle.billing.proofs.count_cells.Tie as tie
 
@@ -37,29 +38,14 @@ module _ (c : tie.In-loop Inv-loop μ-loop) where
   abbrev start : tie.Start Inv-loop μ-loop
   start = c .before .before .before
 
-  abbrev rows : List ℕ
-  rows = start .args .rows .now
+  abbrev cover : CoverRecord
+  cover = start .args .cover
 
-  abbrev row : ℕ
-  row = rowWords * getD (start .args .cover .patterns) (c .before .loop .k) 0
+  abbrev i : tie.At-loop Inv-loop μ-loop
+  i = c .before
 
-  abbrev cell : ℕ
-  cell = getD rows (row + 0) 0
-
-  row-in : row + 2 < length rows
-  row-in = row-here (start .pre .1 .0) rows (coverOf (start .args .cover) .placed) (start .pre .1 .1) (start .args .cover .count) (start .args .cover .patterns) (room start .1) (names start) (c .before .loop .k) (omega arith)
-
-  cell-in : cell < 64
-  cell-in = cell-small (start .pre .1 .0) rows (coverOf (start .args .cover) .placed) (start .pre .1 .1) (start .args .cover .count) (start .args .cover .patterns) (room start .1) (names start) (c .before .loop .k) (omega arith)
-
-  area-in : getD rows (row + 2) 0 ≤ 65535
-  area-in = area-small (start .pre .1 .0) rows (coverOf (start .args .cover) .placed) (start .pre .1 .1) (start .args .cover .count) (start .args .cover .patterns) (room start .1) (names start) (c .before .loop .k) (omega arith)
-
-  counted : getD (c .before .loop .counts) cell 0 ≤ 63
-  counted = count-small (start .pre .1 .0) rows (coverOf (start .args .cover) .placed) (start .pre .1 .1) (start .args .cover .count) (start .args .cover .patterns) (room start .1) (names start) (c .before .loop .k) (omega arith) (c .before .loop .counts) (c .before .loop .amounts) (c .before .loop .inv .3 (start .pre .1 .0) (coverOf (start .args .cover) .placed) (start .pre .1 .1) (names start))
-
-  summed : getD (c .before .loop .amounts) cell 0 ≤ 63 * 65535
-  summed = amount-small (start .pre .1 .0) rows (coverOf (start .args .cover) .placed) (start .pre .1 .1) (start .args .cover .count) (start .args .cover .patterns) (room start .1) (names start) (c .before .loop .k) (omega arith) (c .before .loop .counts) (c .before .loop .amounts) (c .before .loop .inv .3 (start .pre .1 .0) (coverOf (start .args .cover) .placed) (start .pre .1 .1) (names start))
+  now-here : Here (start .args .rows .now) (rowWords * getD (cover .patterns) (i .loop .k) 0) (i .loop .counts) (i .loop .amounts)
+  now-here = here (start .pre .1 .0) (start .args .rows .now) (coverOf cover .placed) (start .pre .1 .1) (cover .count) (cover .patterns) (room start .1) (names start) (i .loop .k) (omega arith) (i .loop .counts) (i .loop .amounts) (i .loop .inv .3 (start .pre .1 .0) (coverOf cover .placed) (start .pre .1 .1) (names start))
 
 loop-holds : tie.Need-loop-holds Inv-loop μ-loop
 loop-holds c = (omega arith, omega arith, omega arith, λ l xs h m. tally-none l)
@@ -71,52 +57,52 @@ cast-row : tie.Need-cast-row Inv-loop μ-loop
 cast-row c = search needs
 
 mul-row : tie.Need-mul-row Inv-loop μ-loop
-mul-row c = omega (arith, row-in c)
+mul-row c = let h = now-here c in omega arith
 
 add-cell : tie.Need-add-cell Inv-loop μ-loop
-add-cell c = omega (arith, row-in c)
+add-cell c = let h = now-here c in omega arith
 
 mul-cell : tie.Need-mul-cell Inv-loop μ-loop
-mul-cell c = omega (arith, row-in c)
+mul-cell c = let h = now-here c in omega arith
 
 shared-slice-read-cell : tie.Need-shared-slice-read-cell Inv-loop μ-loop
-shared-slice-read-cell c = omega (arith, row-in (c .before), cell-in (c .before), area-in (c .before), counted (c .before), summed (c .before))
+shared-slice-read-cell c = let h = now-here (c .before) in omega arith
 
 cast-cell : tie.Need-cast-cell Inv-loop μ-loop
-cast-cell c = omega (arith, row-in (c .before), cell-in (c .before), area-in (c .before), counted (c .before), summed (c .before))
+cast-cell c = let h = now-here (c .before) in omega arith
 
 mul-counts : tie.Need-mul-counts Inv-loop μ-loop
-mul-counts c = omega (arith, row-in (c .before), cell-in (c .before), area-in (c .before), counted (c .before), summed (c .before))
+mul-counts c = let h = now-here (c .before) in omega arith
 
 array-read-counts : tie.Need-array-read-counts Inv-loop μ-loop
-array-read-counts c = omega (arith, row-in (c .before), cell-in (c .before), area-in (c .before), counted (c .before), summed (c .before))
+array-read-counts c = let h = now-here (c .before) in omega arith
 
 add-counts : tie.Need-add-counts Inv-loop μ-loop
-add-counts c = omega (arith, row-in (c .before), cell-in (c .before), area-in (c .before), counted (c .before), summed (c .before))
+add-counts c = let h = now-here (c .before) in omega arith
 
 array-write-counts : tie.Need-array-write-counts Inv-loop μ-loop
-array-write-counts c = omega (arith, row-in (c .before), cell-in (c .before), area-in (c .before), counted (c .before), summed (c .before))
+array-write-counts c = let h = now-here (c .before) in omega arith
 
 add-amounts : tie.Need-add-amounts Inv-loop μ-loop
-add-amounts c = omega (arith, row-in (c .before), cell-in (c .before), area-in (c .before), counted (c .before), summed (c .before))
+add-amounts c = let h = now-here (c .before) in omega arith
 
 mul-amounts : tie.Need-mul-amounts Inv-loop μ-loop
-mul-amounts c = omega (arith, row-in (c .before), cell-in (c .before), area-in (c .before), counted (c .before), summed (c .before))
+mul-amounts c = let h = now-here (c .before) in omega arith
 
 shared-slice-read-amounts : tie.Need-shared-slice-read-amounts Inv-loop μ-loop
-shared-slice-read-amounts c = omega (arith, row-in (c .before .before), cell-in (c .before .before), area-in (c .before .before), counted (c .before .before), summed (c .before .before))
+shared-slice-read-amounts c = let h = now-here (c .before .before) in omega arith
 
 mul-amounts-2 : tie.Need-mul-amounts-2 Inv-loop μ-loop
-mul-amounts-2 c = omega (arith, row-in (c .before .before), cell-in (c .before .before), area-in (c .before .before), counted (c .before .before), summed (c .before .before))
+mul-amounts-2 c = let h = now-here (c .before .before) in omega arith
 
 array-read-amounts : tie.Need-array-read-amounts Inv-loop μ-loop
-array-read-amounts c = omega (arith, row-in (c .before .before), cell-in (c .before .before), area-in (c .before .before), counted (c .before .before), summed (c .before .before))
+array-read-amounts c = let h = now-here (c .before .before) in omega arith
 
 add-amounts-2 : tie.Need-add-amounts-2 Inv-loop μ-loop
-add-amounts-2 c = omega (arith, row-in (c .before .before), cell-in (c .before .before), area-in (c .before .before), counted (c .before .before), summed (c .before .before))
+add-amounts-2 c = let h = now-here (c .before .before) in omega arith
 
 array-write-amounts : tie.Need-array-write-amounts Inv-loop μ-loop
-array-write-amounts c = omega (arith, row-in (c .before .before), cell-in (c .before .before), area-in (c .before .before), counted (c .before .before), summed (c .before .before))
+array-write-amounts c = let h = now-here (c .before .before) in omega arith
 
 add-k : tie.Need-add-k Inv-loop μ-loop
 add-k c = omega arith

@@ -10,7 +10,7 @@ use Rattle.lines.specs.Text.{Appended}
 use Rattle.lines.proofs.Laws.{appended-none, appended-both}
 use Rattle.bills.specs.Bill.{entriesBelow, amounts}
 use Rattle.bills.specs.Billed.{entryLine}
-use Rattle.billing.specs.Inside.{entryText, Listing, EntriesPut}
+use Rattle.billing.specs.Inside.{entryText, Tallied, EntriesPut}
 use Rattle.billing.proofs.Laws.{lines-more, total-more, lines-within}
 use Rattle.billing.proofs.put_entries.Statement.{statement}
 use Rattle.billing.proofs.put_entries.Tie as tie
@@ -21,7 +21,7 @@ PutSo l xs n entry text at total = Appended (flatMap entryLine (entriesBelow l x
 
 abbrev Inv-loop : tie.InvT-loop
 Inv-loop text₀ cells counts sums at₀ total₀ n₀ text at total n =
-    (n ≤ cells) × (length text ≡ length text₀) × ((l : Library) (xs : List Placed) → Listing l xs counts sums cells text₀ → PutSo l xs n text₀ text at total)
+    (n ≤ cells) × (length text ≡ length text₀) × ((l : Library) (xs : List Placed) → Tallied l xs counts sums cells text₀ → PutSo l xs n text₀ text at total)
 
 abbrev μ-loop : tie.MeasureT-loop
 μ-loop text₀ cells counts sums at₀ total₀ n₀ text at total n = cells - n
@@ -40,7 +40,7 @@ module _ (c : tie.In-loop Inv-loop μ-loop) where
   abbrev xs : List Placed
   xs = start .pre .1 .0
 
-  abbrev listing : Listing l xs (start .args .tally .counts) (start .args .tally .amounts) (start .args .cells) (start .args .text .now)
+  abbrev listing : Tallied l xs (start .args .tally .counts) (start .args .tally .amounts) (start .args .cells) (start .args .text .now)
   listing = start .pre .1 .1
 
   below : n < 64

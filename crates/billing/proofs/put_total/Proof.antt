@@ -13,8 +13,8 @@ slice-aggregate-put-word c = search needs
 put-word-requires : tie.Need-put-word-requires
 put-word-requires c κs = omega (arith, total-length (c .before .before .before .args .total))
 
-put-spaced-requires : tie.Need-put-spaced-requires
-put-spaced-requires c κs = omega (arith, total-length (c .before .before .before .before .before .before .before .args .total))
+put-number-requires : tie.Need-put-number-requires
+put-number-requires c κs = omega (arith, total-length (c .before .before .before .before .before .before .before .args .total))
 
 slice-aggregate-put-word-2 : tie.Need-slice-aggregate-put-word-2
 slice-aggregate-put-word-2 c = search needs
@@ -27,7 +27,7 @@ same-length c = search needs
 
 returns : tie.Need-returns
 unfolding totalLine line spaced
-returns c = appended-three (omega arith) (c .before .before .before .before .before .before .before .before .before .before .before .put-word .ensures) (c .before .before .before .before .before .before .before .put-spaced .ensures) (c .before .before .put-word2 .ensures)
+returns c = appended-three (omega arith) (c .before .before .before .before .before .before .before .before .before .before .before .put-word .ensures) (c .before .before .before .before .before .before .before .put-number .ensures) (c .before .before .put-word2 .ensures)
 
 pub put-total-spec : {M : Type 1} → statement M
 put-total-spec =
@@ -35,7 +35,7 @@ put-total-spec =
     (tie.spec
     slice-aggregate-put-word
     put-word-requires
-    put-spaced-requires
+    put-number-requires
     slice-aggregate-put-word-2
     put-word-requires-2
     same-length
