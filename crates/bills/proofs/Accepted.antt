@@ -7,12 +7,10 @@ use Rattle.fields.specs.declared.Scan.{Scan}
 use Rattle.fields.specs.declared.Scan.the-variants.{At, Refused}
 use Rattle.fields.specs.Promises.{Live}
 use Rattle.fields.specs.Reading.{start}
-use Rattle.fields.specs.Answer.{Answer, refused, success}
+use Rattle.fields.specs.Answer.{success}
 use Rattle.sheets.specs.Model.{Library, Tree}
-use Rattle.sheets.specs.Sound.{SoundLibrary, SoundTree}
 use Rattle.sheets.specs.LibrarySheet.{library}
 use Rattle.sheets.specs.TreeSheet.{tree}
-use Rattle.sheets.proofs.Sound.{library-limits, tree-limits}
 use Rattle.covers.specs.Cover.{Point, Cover}
 use Rattle.covers.specs.CoverSheet.{coverRead}
 use Rattle.covers.specs.Outcome.{withLibrary, withTree}

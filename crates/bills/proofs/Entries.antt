@@ -4,38 +4,38 @@ use mathlib.Core.Path.{_≡_, refl, sym, ap, ap₂, subst, _∙_}
 use mathlib.Core.Logic.{⊎-elim, _↔_}
 use mathlib.Core.Bool.{Bool, true, false}
 use mathlib.Core.List.{List, [], _∷_, _++_, map, List·Memᴰ, List·Memᴰ·head, List·Memᴰ·tail, List·Memᴰ·not-nil, List·Memᴰ·append-cases, List·Memᴰ·eq-of-singleton, Memᴰ·append-left, Memᴰ·append-right, Memᴰ·map, Memᴰ·of-map}
-use mathlib.Core.Option.{Option, none, some}
-use native.Mathlib.Nat.{add-zero, zero-mul, le-refl}
+use mathlib.Core.Option.{none}
+use native.Mathlib.Nat.{add-zero, zero-mul, mul-one, le-refl}
 use native.Mathlib.Numerals.{add-one}
 use native.Mathlib.Decide.{ℕ-discrete}
 use native.Mathlib.Omega.{arith}
 use lib.Dec.{ltb}
 use lib.IntN.{pos, -ℤ-+ℤ-cancel}
 use lib.ListN.{length, getD, getElem?, length-append}
-use borrow.Author.Tests.{lt-ltb, le-ltb, ltb-true, ltb-false}
+use borrow.Author.Tests.{ltb-true, ltb-false}
 use Rattle.sheets.specs.Model.{Library, Pattern, patterns, cellOf, areaOf, Tree}
 use Rattle.sheets.specs.Sound.{SoundLibrary}
 use Rattle.sheets.proofs.Patterns.{cell-below, area-of}
 use Rattle.covers.specs.Lists.{keepIf}
 use Rattle.covers.specs.Cover.{Placed, Cover}
 use Rattle.covers.specs.Promise.{RootCover, cellArea, listedArea}
-use Rattle.covers.proofs.Ascending.{Ascending, end, then, ascending-append, ascending-range}
+use Rattle.covers.proofs.Ascending.{Ascending, end, then, ascending-append}
 use Rattle.covers.proofs.Listing.{known-patterns, area-listed}
-use Rattle.bills.specs.Bill.{Entry, Bill, uses, entryOf, entriesBelow, amounts, counts, margin, bill}
+use Rattle.bills.specs.Bill.{Entry, uses, entryOf, entriesBelow, summed, amounts, counts, margin, bill}
 use Rattle.bills.specs.Demands.{BillIs}
 use Rattle.bills.proofs.Counting.{used-by, by-used, weighed, weights, weighed-all}
 
 -- ---- sums of lines
 
-amounts-append : (es fs : List Entry) → amounts (es ++ fs) ≡ amounts es + amounts fs
-unfolding amounts
-amounts-append [] fs = omega arith
-amounts-append (e ∷ es) fs = omega (arith, amounts-append es fs)
+summed-append : (figure : Entry → ℕ) (es fs : List Entry) → summed figure (es ++ fs) ≡ summed figure es + summed figure fs
+unfolding summed
+summed-append figure [] fs = omega arith
+summed-append figure (e ∷ es) fs = omega (arith, summed-append figure es fs)
 
-counts-append : (es fs : List Entry) → counts (es ++ fs) ≡ counts es + counts fs
-unfolding counts
-counts-append [] fs = omega arith
-counts-append (e ∷ es) fs = omega (arith, counts-append es fs)
+pub figure-in : (figure : Entry → ℕ) {e : Entry} (es : List Entry) → List·Memᴰ e es → figure e ≤ summed figure es
+unfolding summed
+figure-in figure (x ∷ es) (List·Memᴰ·head p) = omega (arith, ap figure p)
+figure-in figure (x ∷ es) (List·Memᴰ·tail m) = omega (arith, figure-in figure es m)
 
 module _ (l : Library) (xs : List Placed) where
   -- The line of cell n, if it is used.
@@ -65,41 +65,40 @@ module _ (l : Library) (xs : List Placed) where
   entries-ascend zero = end (le-refl 0)
   entries-ascend (suc n) = ascending-append (entries-ascend n) (line-ascends (line-of n))
 
-  line-amounts : {n : ℕ} {es : List Entry} → Line n es → amounts es ≡ uses l xs n * areaOf l n
-  unfolding amounts entryOf
-  line-amounts {n} (has h) = add-zero (uses l xs n * areaOf l n)
-  line-amounts {n} (hasn't e) = rw (e, zero-mul)
+  -- Sums over the lines are sums over all cells, for a figure that is a weight times how often a cell is used.
+  module _ (figure : Entry → ℕ) (weight : ℕ → ℕ) (is : (n : ℕ) → figure (entryOf l xs n) ≡ uses l xs n * weight n) where
+    line-summed : {n : ℕ} {es : List Entry} → Line n es → summed figure es ≡ uses l xs n * weight n
+    unfolding summed
+    line-summed {n} (has h) = add-zero (figure (entryOf l xs n)) ∙ is n
+    line-summed {n} (hasn't e) = rw (e, zero-mul)
 
-  line-counts : {n : ℕ} {es : List Entry} → Line n es → counts es ≡ uses l xs n * 1
-  unfolding counts entryOf
-  line-counts {n} (has h) = omega arith
-  line-counts {n} (hasn't e) = omega arith
+    summed-weighed : (n : ℕ) → summed figure (entriesBelow l xs n) ≡ weighed l weight xs n
+    unfolding entriesBelow weighed summed
+    summed-weighed zero = refl
+    summed-weighed (suc n) = summed-append figure (entriesBelow l xs n) (lineOf n) ∙ ap₂ _+_ (summed-weighed n) (line-summed (line-of n))
 
-  -- Sums over the lines are sums over all cells.
   amounts-weighed : (n : ℕ) → amounts (entriesBelow l xs n) ≡ weighed l (areaOf l) xs n
-  unfolding entriesBelow weighed amounts
-  amounts-weighed zero = refl
-  amounts-weighed (suc n) = amounts-append (entriesBelow l xs n) (lineOf n) ∙ ap₂ _+_ (amounts-weighed n) (line-amounts (line-of n))
+  unfolding entryOf
+  amounts-weighed = summed-weighed (λ e. e .amount) (areaOf l) (λ n. refl)
+
+  counts-weighed : (n : ℕ) → counts (entriesBelow l xs n) ≡ weighed l (λ k. 1) xs n
+  unfolding entryOf
+  counts-weighed = summed-weighed (λ e. e .count) (λ k. 1) (λ n. sym (mul-one (uses l xs n)))
 
   pub amounts-next : (n : ℕ) → amounts (entriesBelow l xs (n + 1)) ≡ amounts (entriesBelow l xs n) + uses l xs n * areaOf l n
   unfolding weighed
   amounts-next n = rw add-one (amounts-weighed (suc n) ∙ ap (λ (k : ℕ). k + uses l xs n * areaOf l n) (sym (amounts-weighed n)))
 
-  counts-weighed : (n : ℕ) → counts (entriesBelow l xs n) ≡ weighed l (λ k. 1) xs n
-  unfolding entriesBelow weighed counts
-  counts-weighed zero = refl
-  counts-weighed (suc n) = counts-append (entriesBelow l xs n) (lineOf n) ∙ ap₂ _+_ (counts-weighed n) (line-counts (line-of n))
-
   -- No more lines than the counts add up to.
   line-few : {n : ℕ} {es : List Entry} → Line n es → length es ≤ counts es
-  unfolding counts entryOf
+  unfolding summed entryOf
   line-few (has h) = omega arith
   line-few (hasn't e) = omega arith
 
   pub lines-few : (n : ℕ) → length (entriesBelow l xs n) ≤ counts (entriesBelow l xs n)
   unfolding entriesBelow
   lines-few zero = omega arith
-  lines-few (suc n) = omega (arith, length-append (entriesBelow l xs n) (lineOf n), counts-append (entriesBelow l xs n) (lineOf n), lines-few n, line-few (line-of n))
+  lines-few (suc n) = omega (arith, length-append (entriesBelow l xs n) (lineOf n), summed-append (λ (e : Entry). e .count) (entriesBelow l xs n) (lineOf n), lines-few n, line-few (line-of n))
 
   -- The line of which cell, and that a cell that is used has one.
   pub record From (n : ℕ) (e : Entry) : Type 0 where

@@ -1,21 +1,21 @@
 -- The text of a bill is short.
-use Prim.Native.Nat.{ℕ, _+_, _≤_, _<_}
+use Prim.Native.Nat.{ℕ, _+_, _≤_}
 use mathlib.Core.Path.{_≡_, ap}
-use mathlib.Core.List.{List, [], _∷_, _++_, flatMap, List·Memᴰ, List·Memᴰ·head, List·Memᴰ·tail}
+use mathlib.Core.List.{List, [], _∷_, _++_, flatMap, List·Memᴰ}
 use native.Mathlib.Omega.{arith}
 use lib.IntN.{ℤ, pos, _-ℤ_}
 use lib.ListN.{length, length-append}
 use Rattle.sheets.specs.Model.{Library, Tree}
 use Rattle.sheets.specs.Sound.{SoundLibrary, SoundTree}
-use Rattle.covers.specs.Cover.{Placed, Cover}
+use Rattle.covers.specs.Cover.{Cover}
 use Rattle.covers.specs.Promise.{RootCover}
 use Rattle.covers.proofs.Listing.{area-listed}
 use Rattle.covers.proofs.FromSheets.{root-bounds, cover-fits}
 use Rattle.lines.specs.Text.{decimal, signed, line, spaced}
 use Rattle.lines.proofs.Laws.{decimal-fits, signed-fits, length-line, length-spaced, length-last, lines-short}
-use Rattle.bills.specs.Bill.{Entry, Bill, entryOf, entriesBelow, amounts, counts, margin, bill}
+use Rattle.bills.specs.Bill.{Entry, entryOf, entriesBelow, amounts, margin, bill}
 use Rattle.bills.specs.Billed.{totalWord, marginWord, entryLine, totalLine, marginLine, billText, longestBill}
-use Rattle.bills.proofs.Entries.{lines-few, entry-from, counts-are, amounts-are}
+use Rattle.bills.proofs.Entries.{figure-in, lines-few, entry-from, counts-are, amounts-are}
 
 -- How long a line is, by what is put for it.
 pub entry-length : (e : Entry) → length (entryLine e) ≡ length (decimal (e .cell)) + length (spaced (decimal (e .count) ∷ decimal (e .amount) ∷ []))
@@ -29,17 +29,6 @@ total-length n = omega (arith, length-line totalWord (decimal n ∷ []), length-
 pub margin-length : (z : ℤ) → length (marginLine z) ≡ 8 + length (signed z)
 unfolding marginLine spaced
 margin-length z = omega (arith, length-line marginWord (signed z ∷ []), length-spaced (signed z) [])
-
--- A line's figures are no greater than their sums.
-count-in : {e : Entry} (es : List Entry) → List·Memᴰ e es → e .count ≤ counts es
-unfolding counts
-count-in (x ∷ es) (List·Memᴰ·head p) = omega (arith, ap (λ (e : Entry). e .count) p)
-count-in (x ∷ es) (List·Memᴰ·tail m) = omega (arith, count-in es m)
-
-amount-in : {e : Entry} (es : List Entry) → List·Memᴰ e es → e .amount ≤ amounts es
-unfolding amounts
-amount-in (x ∷ es) (List·Memᴰ·head p) = omega (arith, ap (λ (e : Entry). e .amount) p)
-amount-in (x ∷ es) (List·Memᴰ·tail m) = omega (arith, amount-in es m)
 
 module _ {l : Library} (t : Tree) {c : Cover} (sound : SoundLibrary l) (tree : SoundTree t) (legal : RootCover l t c) where
   abbrev es : List Entry
@@ -60,8 +49,8 @@ module _ {l : Library} (t : Tree) {c : Cover} (sound : SoundLibrary l) (tree : S
         entry-length e,
         length-last (decimal (e .count)) (decimal (e .amount)),
         decimal-fits 1 (e .cell) (omega (arith, from .below, sound .few-cells, ap (λ (e : Entry). e .cell) (from .entry-is))),
-        decimal-fits 1 (e .count) (omega (arith, count-in es m, counts-are t sound legal, few-matches)),
-        decimal-fits 6 (e .amount) (omega (arith, amount-in es m, small-total)),
+        decimal-fits 1 (e .count) (omega (arith, figure-in (λ (e : Entry). e .count) es m, counts-are t sound legal, few-matches)),
+        decimal-fits 6 (e .amount) (omega (arith, figure-in (λ (e : Entry). e .amount) es m, small-total)),
       )
 
   pub bill-short : length (billText (bill l t c)) ≤ longestBill

@@ -37,14 +37,16 @@ module _ (l : Library) (xs : List Placed) where
   entriesBelow zero = []
   entriesBelow (suc n) = entriesBelow n ++ keepIf (ltb 0 (uses n)) (entryOf n) []
 
--- The amounts added up, and the counts.
-unfoldable pub amounts : List Entry → ℕ
-amounts [] = 0
-amounts (e ∷ es) = e .amount + amounts es
+-- A figure of each line, added up: the amounts, and the counts.
+unfoldable pub summed : (Entry → ℕ) → List Entry → ℕ
+summed figure [] = 0
+summed figure (e ∷ es) = figure e + summed figure es
 
-unfoldable pub counts : List Entry → ℕ
-counts [] = 0
-counts (e ∷ es) = e .count + counts es
+abbrev pub amounts : List Entry → ℕ
+amounts es = summed (λ e. e .amount) es
+
+abbrev pub counts : List Entry → ℕ
+counts es = summed (λ e. e .count) es
 
 -- "Required time minus arrival, which is negative for a late cover."
 unfoldable pub margin : (required arrival : ℕ) → ℤ
@@ -52,7 +54,7 @@ margin required arrival = pos required -ℤ pos arrival
 
 -- The bill of a cover of a tree by a library's cells.
 unfoldable pub bill : Library → Tree → Cover → Bill
-unfolding entriesBelow amounts margin
+unfolding entriesBelow summed margin
 bill l t c =
     let entries = entriesBelow l (c .placed) (length (l .cells)) in
     record { entries = entries; total = amounts entries; margin = margin (t .required) (c .point .arrival) }

@@ -4,7 +4,6 @@ use operations::Reply;
 use results::CoverRecord;
 use sheets::Limits;
 use sheets::library::PatternRow;
-ghost use mathlib.Core.Path.{_≡_};
 ghost use Prim.Native.Nat.{_+_, _*_, _<_, _≤_, _^_};
 ghost use lib.ListN.{length};
 ghost use Rattle.io.specs.Counts.{Counts};

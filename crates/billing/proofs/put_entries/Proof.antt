@@ -1,4 +1,3 @@
-use borrow.Author.Needs.{needs}
 use native.Mathlib.Omega.{arith}
 use Prim.Native.Nat.{ℕ, _+_, _-_, _≤_, _<_}
 use mathlib.Core.Path.{_≡_, refl, ap, subst, _∙_}
@@ -8,9 +7,9 @@ use Rattle.sheets.specs.Model.{Library}
 use Rattle.covers.specs.Cover.{Placed}
 use Rattle.lines.specs.Text.{Appended}
 use Rattle.lines.proofs.Laws.{appended-none, appended-both}
-use Rattle.bills.specs.Bill.{entriesBelow, amounts}
+use Rattle.bills.specs.Bill.{entriesBelow, summed, amounts}
 use Rattle.bills.specs.Billed.{entryLine}
-use Rattle.billing.specs.Inside.{entryText, Tallied, EntriesPut}
+use Rattle.billing.specs.Inside.{entryText, Tallied}
 use Rattle.billing.proofs.Laws.{lines-more, total-more, lines-within}
 use Rattle.billing.proofs.put_entries.Statement.{statement}
 use Rattle.billing.proofs.put_entries.Tie as tie
@@ -61,7 +60,7 @@ module _ (c : tie.In-loop Inv-loop μ-loop) where
   sums = let told = listing .tally-is n below in omega (arith, so .1, within .1, listing .small, total-more l xs n (told .0) (told .1))
 
 loop-holds : tie.Need-loop-holds Inv-loop μ-loop
-loop-holds c = let a = c .before .before .before .args in (omega arith, refl, λ l xs h. unfold entriesBelow flatMap amounts in (appended-none (a .text .now) 0, refl))
+loop-holds c = let a = c .before .before .before .args in (omega arith, refl, λ l xs h. unfold entriesBelow flatMap summed in (appended-none (a .text .now) 0, refl))
 
 mul-put-entry : tie.Need-mul-put-entry Inv-loop μ-loop
 mul-put-entry c = omega (arith, below (c .before))
