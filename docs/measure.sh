@@ -4,9 +4,11 @@
 set -euo pipefail
 log=$1
 features=product
-who="product plain plain_kept merging"
-[ -z "${TREECOVER_BEFORE_DIR:-}" ] || { features=before; who="$who before"; }
+mappers="product plain plain_kept merging"
+judges="product reference wordwise"
+[ -z "${TREECOVER_BEFORE_DIR:-}" ] || { features=before; mappers="$mappers before"; judges="$judges before"; }
 rows="typical chain comb deep full crosscomb"
+sheets="longest_library longest_tree"
 scratch=$(mktemp -d)
 trap 'rm -rf "$scratch"' EXIT
 
@@ -17,10 +19,16 @@ cargo build -q --release --offline --manifest-path reference/Cargo.toml --featur
 bench=$PWD/target/reference/release/bench
 fresh=$PWD/target/reference/release/fresh
 
-instructions() { # WHO ROW: of one map, the difference of two runs
+instructions() { # WHO ROW: of one map or judgement, the difference of two runs
     for count in 1 2; do
         valgrind --tool=callgrind --callgrind-out-file="$scratch/cg" "$bench" repeat $count "$1" "$2" 2>&1 | awk '/Collected/ { print $4 }'
     done | paste -sd' ' | awk '{ print $2 - $1 }'
+}
+
+table() { # WHO ROWS: the instructions of each on each row
+    printf '| row |'; printf ' %s |' $1; echo
+    printf '|---|'; printf -- '---|%.0s' $1; echo
+    for row in $2; do printf '| %s |' "$row"; for w in $1; do printf ' %s |' "$(instructions "$w" "$row")"; done; echo; done
 }
 
 stack() { # WHO ROW: the greatest stack of a map, or of a judgement of its cover, in bytes
@@ -41,6 +49,9 @@ while it is in time, and passes over a match whose last point is not below the l
 taking turns in one run (medians of 31 rounds), each answer compared with the expected sheet$([ "$features" = product ] || echo ' (of `before` area and arrival)'). A ratio is the product's time over the other's. \`typical\` is a usual
 problem; \`chain\` and \`comb\` are the worst that were found before inputs could be exchanged; \`deep\` has nearly nothing to find and the deepest choice; \`full\` and \`crosscomb\` have many crossings.
 
+The judges are timed on the longest sound library and the longest sound tree. Beside the product stand the separate implementation, which keeps what it reads (\`reference\`), and judges
+written by hand for speed, which take each field from one word of 64 bits, check every rule and keep nothing (\`reference/src/wordwise.rs\`, \`wordwise\`).
+
 The bars that we set: on chain and comb no more instructions than before inputs could be exchanged; on full and crosscomb at most 1.25 times plain Rust with all savings
 (crossings that are ruled out together, points that are kept, matches that are passed over: \`plain_kept\`); faster than merging on every row but deep.
 
@@ -50,9 +61,11 @@ $("$bench")
 
 Instructions for one map, by callgrind. Bytes made zero by one repeated instruction count once for each byte: for the product some 250,000 in every row.
 
-| row |$(printf ' %s |' $who)
-|---|$(printf -- '---|%.0s' $who)
-$(for row in $rows; do printf '| %s |' "$row"; for w in $who; do printf ' %s |' "$(instructions "$w" "$row")"; done; echo; done)
+$(table "$mappers" "$rows")
+
+Instructions for one judgement, by callgrind.
+
+$(table "$judges" "$sheets")
 
 The greatest stack, by massif, in bytes, of which main and the benchmark have a small part. The bar that we set is 512 KB.
 
@@ -62,13 +75,13 @@ $(for row in $rows; do echo "| $row | $(stack product "$row") | $(stack judge "$
 
 ## Agreement on fresh cases
 
-Number and place or length, every byte of the output and every word of the work area, both filled with random values before.
+Number and place or length, every byte of the output and every word of the work area, both filled with random values before. Fresh sheets are judged by \`wordwise\` too.
 
 \`\`\`
 $ fresh map 200000 31
 $("$fresh" map 200000 31)
-$ fresh judge 200000 32
-$("$fresh" judge 200000 32)
+$ fresh judge 300000 32
+$("$fresh" judge 300000 32)
 $ fresh cover 200000 33
 $("$fresh" cover 200000 33)
 $ fresh bill 200000 34

@@ -25,3 +25,4 @@ pub mod sheet;
 pub mod text;
 pub mod tree;
 pub mod verdict;
+pub mod wordwise;

@@ -3,9 +3,22 @@
 use crate::generate::damage::Kind;
 use crate::operation::Operation;
 
+type Judge = unsafe extern "C" fn(*const u8, usize) -> u64;
+
+/// Declares functions of that type.
+macro_rules! judges {
+    ($($name:ident),*) => {
+        extern "C" {
+            $(fn $name(sheet: *const u8, sheet_len: usize) -> u64;)*
+        }
+    };
+}
+
+judges!(treecover_judge_library, treecover_judge_tree);
+#[cfg(feature = "before")]
+judges!(before_judge_library, before_judge_tree);
+
 extern "C" {
-    fn treecover_judge_library(library: *const u8, library_len: usize) -> u64;
-    fn treecover_judge_tree(tree: *const u8, tree_len: usize) -> u64;
     fn treecover_judge_cover(
         library: *const u8,
         library_len: usize,
@@ -18,13 +31,24 @@ extern "C" {
 
 /// The product's verdict, in the form of `Verdict::coded`.
 pub fn judge(kind: Kind, sheet: &[u8]) -> u64 {
-    // Both functions only read, and only within the slice.
-    unsafe {
-        match kind {
-            Kind::Library => treecover_judge_library(sheet.as_ptr(), sheet.len()),
-            Kind::Tree => treecover_judge_tree(sheet.as_ptr(), sheet.len()),
-        }
+    match kind {
+        Kind::Library => call_judge(treecover_judge_library, sheet),
+        Kind::Tree => call_judge(treecover_judge_tree, sheet),
     }
+}
+
+/// The verdict of an earlier product.
+#[cfg(feature = "before")]
+pub fn judge_before(kind: Kind, sheet: &[u8]) -> u64 {
+    match kind {
+        Kind::Library => call_judge(before_judge_library, sheet),
+        Kind::Tree => call_judge(before_judge_tree, sheet),
+    }
+}
+
+fn call_judge(judge: Judge, sheet: &[u8]) -> u64 {
+    // It only reads, and only within the slice.
+    unsafe { judge(sheet.as_ptr(), sheet.len()) }
 }
 
 /// The product's verdict on a cover, in the same form.
@@ -35,7 +59,7 @@ pub fn judge_cover(library: &[u8], tree: &[u8], cover: &[u8]) -> u64 {
     }
 }
 
-type Function = unsafe extern "C" fn(*const u8, usize, *const u8, usize, *mut u8, usize, *mut u64, usize) -> u64;
+type Mapper = unsafe extern "C" fn(*const u8, usize, *const u8, usize, *mut u8, usize, *mut u64, usize) -> u64;
 
 /// Declares functions of that type.
 macro_rules! mappers {
@@ -61,23 +85,23 @@ mappers!(before_map);
 
 /// The product's answer: a refusal, number × 2^32 + place, or the bytes written.
 pub fn run(operation: Operation, library: &[u8], tree: &[u8], output: &mut [u8], work: &mut [u64]) -> u64 {
-    let function: Function = match operation {
+    let mapper: Mapper = match operation {
         Operation::Map => treecover_map,
         Operation::List => treecover_list,
     };
-    call(function, library, tree, output, work)
+    call_mapper(mapper, library, tree, output, work)
 }
 
 /// The answer of an earlier product's map.
 #[cfg(feature = "before")]
 pub fn map_before(library: &[u8], tree: &[u8], output: &mut [u8], work: &mut [u64]) -> u64 {
-    call(before_map, library, tree, output, work)
+    call_mapper(before_map, library, tree, output, work)
 }
 
-fn call(function: Function, library: &[u8], tree: &[u8], output: &mut [u8], work: &mut [u64]) -> u64 {
+fn call_mapper(mapper: Mapper, library: &[u8], tree: &[u8], output: &mut [u8], work: &mut [u64]) -> u64 {
     // It reads within the first two slices and writes within the others.
     unsafe {
-        function(
+        mapper(
             library.as_ptr(),
             library.len(),
             tree.as_ptr(),

@@ -32,7 +32,8 @@ pub(crate) fn refused(refusal: Refusal) -> String {
     refusal.line() + "\n"
 }
 
-fn parts(input: &[u8]) -> Option<(&[u8], &[u8])> {
+/// The library and the tree of an input of the right length.
+pub fn parts(input: &[u8]) -> Option<(&[u8], &[u8])> {
     let (length, rest) = input.split_first_chunk()?;
     let length = u16::from_be_bytes(*length) as usize;
     (input.len() <= MOST_INPUT && length <= rest.len()).then(|| rest.split_at(length))

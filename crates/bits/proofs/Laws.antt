@@ -1,5 +1,5 @@
 -- Laws about bits and fields, for any place and any width.
-use mathlib.Core.Path.{_≡_, refl, sym, ap, _∙_}
+use mathlib.Core.Path.{_≡_, refl, sym, ap, ap₂, _∙_}
 use mathlib.Core.List.{List}
 use mathlib.Core.Logic.{⊎-elim, _⊎_, inl, inr, _≢_}
 use native.Mathlib.Decide.{decLt, ℕ-discrete}
@@ -9,14 +9,29 @@ use native.Mathlib.Omega.{arith}
 use native.Mathlib.Numerals.{add-one}
 use lib.Pow.{pow-pos, pow-mono, pow-add, shr-shr, low, field, mod-mod-pow, mod-pow-add}
 use lib.Arith.{digits-lt, digits-div, digits-mod}
+use lib.Dec.{eqb, leb}
+use borrow.Author.Tests.{eq-eqb, ne-eqb, le-leb, lt-leb}
 use lib.ListN.{length, getD, set, length-set}
 use lib.Seq.{getD-set-same, getD-set-other, set-out}
+use Rattle.bits.specs.declared.Cursor.{Cursor}
 use Rattle.bits.specs.Bits.{placeOf, cursorAt, after, bitAt, valueAt, withDigit, withBit, withField}
 
 -- The cursor at a place stands there.
 pub place-at : (i : ℕ) → placeOf (cursorAt i) ≡ i
 unfolding placeOf cursorAt
-place-at i = refl
+place-at i = omega arith
+
+-- A cursor whose byte is not all used is the one at its place.
+pub cursor-is : (b u i : ℕ) → u < 8 → 8 * b + u ≡ i → _≡_ {A = Cursor} (record { byte = b; used = u }) (cursorAt i)
+unfolding cursorAt
+cursor-is b u i h e =
+    let byte : b ≡ i / 8 = omega arith in
+    let used : u ≡ i % 8 = omega arith in
+    ap₂ (λ (x y : ℕ). record { byte = x; used = y }) byte used
+
+-- The bytes before a byte go as far as its first bit.
+pub at-end : (b u n : ℕ) → n ≡ b → eqb u 0 ≡ leb (8 * b + u) (8 * n)
+at-end b u n e = elim (ℕ-discrete u 0) [ yes z ↦ eq-eqb u 0 z ∙ sym (le-leb (8 * b + u) (8 * n) (omega arith)) | no z ↦ ne-eqb u 0 z ∙ sym (lt-leb (8 * b + u) (8 * n) (omega arith)) ]
 
 pub bit-lt : (s : List ℕ) (i : ℕ) → bitAt s i < 2
 unfolding bitAt

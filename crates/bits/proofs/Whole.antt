@@ -11,18 +11,12 @@ use lib.Pow.{shr-shr}
 use lib.ListN.{length, getD, set}
 use lib.Seq.{getD-set-same, getD-set-other, set-out, ext-getD}
 use borrow.Author.Tests.{eqb-true}
-use Rattle.bits.specs.declared.Cursor.{Cursor}
-use Rattle.bits.specs.Bits.{placeOf, cursorAt, after, bitAt, valueAt, bytesTo, restOf, endsAt, withDigit, withBit, withField}
+use Rattle.bits.specs.Bits.{after, bitAt, valueAt, bytesTo, restOf, endsAt, withDigit, withBit, withField}
 use Rattle.bits.proofs.Laws.{bit-lt, after-lt, digit-lt}
 
 -- Every entry is a byte.
 abbrev pub Bytes : List ℕ → Type 0
 Bytes s = (k : ℕ) → getD s k 0 < 256
-
--- A cursor is the one at its place.
-pub at-place : (c : Cursor) → c ≡ cursorAt (placeOf c)
-unfolding placeOf cursorAt
-at-place c = refl
 
 -- ---- from bits to bytes
 

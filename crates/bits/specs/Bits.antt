@@ -1,5 +1,5 @@
 -- Bit fields in a list of bytes, most significant bit first. A place is a bit's number, counted from 0.
-use Prim.Native.Nat.{ℕ, zero, suc, _+_, _-_, _*_, _/_, _%_, _^_, _≤_}
+use Prim.Native.Nat.{ℕ, zero, suc, _+_, _-_, _*_, _/_, _%_, _^_, _≤_, _<_}
 use mathlib.Core.Path.{_≡_}
 use mathlib.Core.List.{List}
 use mathlib.Core.Bool.{Bool, cond, _&&_}
@@ -24,10 +24,10 @@ valueAt s i (suc w) = 2 * valueAt s i w + bitAt s (i + w)
 
 -- The place at which a cursor stands, and the cursor at a place: how a cursor is kept is known here alone.
 unfoldable pub placeOf : Cursor → ℕ
-placeOf c = c .at
+placeOf c = 8 * c .byte + c .used
 
 unfoldable pub cursorAt : ℕ → Cursor
-cursorAt i = record { at = i }
+cursorAt i = record { byte = i / 8; used = i % 8 }
 
 -- The field of w bits at place i: its value and the place after it, or that the bytes end before or inside it.
 unfoldable pub fieldAt : List ℕ → ℕ → ℕ → FieldRead
@@ -43,6 +43,15 @@ restOf i = 8 * bytesTo i - i
 -- The bytes end at place i: the rest of its byte is zero bits, and no byte follows.
 unfoldable pub endsAt : List ℕ → ℕ → Bool
 endsAt s i = eqb (length s) (bytesTo i) && eqb (valueAt s i (restOf i)) 0
+
+-- There are `bytes` bytes s, and e has the first of them: as many as it is long, with zero bytes after the last.
+pub record Opens (e s : List ℕ) (bytes : ℕ) : Type 0 where
+  pub first : (k : ℕ) → k < length e → getD e k 0 ≡ getD s k 0
+  pub many : length s ≡ bytes
+
+-- The field of w bits at place i of any `bytes` bytes that open with e.
+abbrev pub FieldOf : List ℕ → ℕ → ℕ → ℕ → FieldRead → Type 0
+FieldOf e bytes i w r = (s : List ℕ) → Opens e s bytes → r ≡ fieldAt s i w
 
 -- The number x with its bit of worth 2 ^ k made b.
 unfoldable pub withDigit : ℕ → ℕ → ℕ → ℕ

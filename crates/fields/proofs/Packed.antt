@@ -12,7 +12,7 @@ use Rattle.bits.specs.Bits.{placeOf, cursorAt, bytesTo, restOf, bitAt, valueAt,
 use Rattle.bits.specs.declared.Cursor.{Cursor}
 use Rattle.bits.specs.declared.FieldRead as FieldRead
 use Rattle.bits.proofs.Laws.{value-lt, place-at}
-use Rattle.bits.proofs.Whole.{Bytes, at-place, bits-whole, value-bits, ends-says, bytes-field}
+use Rattle.bits.proofs.Whole.{Bytes, bits-whole, value-bits, ends-says, bytes-field}
 use Rattle.fields.specs.declared.Scan.{Scan}
 use Rattle.fields.specs.declared.Scan.the-variants.{At, Refused}
 use Rattle.fields.specs.declared.Fault.the-variants.{Tail}
@@ -74,20 +74,24 @@ laid-append s i (f ∷ fs) gs h g = (h .0, laid-append s (i + f .width) fs gs (h
 
 -- ---- what a reader finds
 
+-- The scan that was not refused has the cursor at its place.
+abbrev Standing : Scan → Type 0
+Standing c = c ≡ At (cursorAt (place c))
+
 -- A scan went from c to c′ over the fields fs.
 pub record Found (s : List ℕ) (fs : List Field) (c c′ : Scan) : Type 0 where
-  pub at : ℕ
-  pub before : c ≡ At (cursorAt at)
-  pub stand : Laid s at fs
-  pub after : c′ ≡ At (cursorAt (at + widths fs))
+  pub live : Live c
+  pub stand : Laid s (place c) fs
+  pub after : place c′ ≡ place c + widths fs
+  pub kept : Standing c → Standing c′
 
 pub found-live : {s : List ℕ} {fs : List Field} {c c′ : Scan} → Found s fs c c′ → Live c
-found-live h = subst Live (sym (h .before)) tt
+found-live h = h .live
 
 pub found-none : (s : List ℕ) (c : Scan) → Live c → Found s [] c c
 unfolding widths
 found-none s (Refused f p) h = absurd h
-found-none s (At c) h = record { at = placeOf c; before = ap At (at-place c); stand = tt; after = ap At (at-place c) ∙ ap (λ (j : ℕ). At (cursorAt j)) (sym (add-zero (placeOf c))) }
+found-none s (At c) h = record { live = tt; stand = tt; after = sym (add-zero (placeOf c)); kept = λ e. e }
 
 -- A field that was not refused stands there with the value that was read.
 pub found-field : (s : List ℕ) (w : ℕ) (verdict : ℕ → Verdict) (c : Scan) → Live (field s w verdict c .1) →
@@ -100,7 +104,9 @@ found-field s w verdict (At c) h = go (fieldAt s (placeOf c) w) (read s (placeOf
     Out x = Live (x .1) → Found s (record { value = x .0; width = w } ∷ []) (At c) (x .1)
 
     judged : (v : Verdict) → Out (settled (placeOf c) v (valueAt s (placeOf c) w) (At (cursorAt (placeOf c + w))))
-    judged Sound h = record { at = placeOf c; before = ap At (at-place c); stand = (refl, tt); after = ap (λ (j : ℕ). At (cursorAt (placeOf c + j))) (sym (add-zero w)) }
+    judged Sound h =
+        let there = place-at (placeOf c + w) in
+        record { live = tt; stand = (refl, tt); after = there ∙ ap (λ (j : ℕ). placeOf c + j) (sym (add-zero w)); kept = λ e. ap (λ (j : ℕ). At (cursorAt j)) (sym there) }
     judged (Faulty f) h = absurd h
 
     go : (f : FieldRead.FieldRead) → Read s (placeOf c) w f → Out (taken (placeOf c) verdict f)
@@ -109,14 +115,12 @@ found-field s w verdict (At c) h = go (fieldAt s (placeOf c) w) (read s (placeOf
 
 -- One run of fields, and then another.
 pub found-then : {s : List ℕ} {fs gs : List Field} {a b c : Scan} → Found s fs a b → Found s gs b c → Found s (fs ++ gs) a c
-found-then {s} {fs} {gs} h g =
-    let next : g .at ≡ h .at + widths fs = sym (place-at (g .at)) ∙ ap place (sym (g .before) ∙ h .after) ∙ place-at (h .at + widths fs) in
-    record {
-      at = h .at;
-      before = h .before;
-      stand = laid-append s (h .at) fs gs (h .stand) (subst (λ (i : ℕ). Laid s i gs) next (g .stand));
-      after = g .after ∙ ap (λ (i : ℕ). At (cursorAt i)) (omega (arith, next, widths-append fs gs));
-    }
+found-then {s} {fs} {gs} {a} h g = record {
+  live = h .live;
+  stand = laid-append s (place a) fs gs (h .stand) (subst (λ (i : ℕ). Laid s i gs) (h .after) (g .stand));
+  after = omega (arith, g .after, h .after, widths-append fs gs);
+  kept = λ e. g .kept (h .kept e);
+}
 
 -- The entries that were read, as often as there are.
 module _ {A : Type 0} (s : List ℕ) (entry : A → List Field) (laid : List A → List Field) (none : laid [] ≡ []) (one : (x : A) (xs : List A) → laid (x ∷ xs) ≡ entry x ++ laid xs)
@@ -154,7 +158,7 @@ ended-there s c h = go (endsAt s (placeOf c)) refl h
 pub found-all : {s : List ℕ} {fs : List Field} {c : Scan} → Found s fs start c → Live (ended s c) →
     Laid s 0 fs × (endsAt s (widths fs) ≡ true) × (ended s c ≡ At (cursorAt (widths fs)))
 found-all {s} {fs} {c} h l =
-    let first : h .at ≡ 0 = sym (place-at (h .at)) ∙ ap place (sym (h .before)) ∙ place-at 0 in
-    let stop : c ≡ At (cursorAt (widths fs)) = h .after ∙ ap (λ (i : ℕ). At (cursorAt i)) (omega arith) in
+    let first : place start ≡ 0 = place-at 0 in
+    let stop : c ≡ At (cursorAt (widths fs)) = h .kept (ap (λ (i : ℕ). At (cursorAt i)) (sym first)) ∙ ap (λ (i : ℕ). At (cursorAt i)) (omega (arith, first, h .after)) in
     let end = ended-there s (cursorAt (widths fs)) (subst (λ (q : Scan). Live (ended s q)) stop l) in
     (subst (λ (i : ℕ). Laid s i fs) first (h .stand), rw place-at at (end .0), ap (ended s) stop ∙ end .1)

@@ -43,6 +43,7 @@ pub fn begin() -> Scan
 
 // Where a scan stands, or was refused.
 pub fn place_of(scan: Scan) -> usize
+    requires { ⌜ place scan < 2 ^ 32 ⌝ }
     ensures { λ r. ⌜ r ≡ place scan ⌝ }
 {
     match scan {
@@ -67,13 +68,14 @@ pub fn raw(scan: Scan, s: &[u8], width: usize) -> Got
         };
     };
     Got {
-        value,
+        value: value as u32,
         scan: Scan::At(next),
     }
 }
 
 // The field `got`, read at `before`, with a verdict on its value.
 pub fn settle(before: Scan, got: Got, verdict: Verdict) -> Got
+    requires { ⌜ place before < 2 ^ 32 ⌝ }
     ensures { λ r. ⌜ r ≡ settling before got verdict ⌝ }
 {
     let after = got.scan;

@@ -11,7 +11,6 @@ use lib.Dec.{leb}
 use borrow.Author.Tests.{leb-true}
 use Rattle.fields.specs.declared.Got.{Got}
 use Rattle.shapes.specs.declared.Rules.{Rules}
-use Rattle.shapes.specs.declared.Branch.{Branch}
 use Rattle.fields.specs.declared.Scan.{Scan}
 use Rattle.fields.specs.declared.Scan.the-variants.{At, Refused}
 use Rattle.fields.specs.declared.Fault.the-variants.{Range, Drawing}
@@ -19,9 +18,9 @@ use Rattle.fields.specs.declared.Verdict.the-variants.{Sound, Faulty}
 use Rattle.fields.specs.Reading.{Reader, place, field}
 use Rattle.shapes.specs.Shape.{Shape, leaf, inv, nand, size, leaves, nands, symbols, sizes, leafSymbol}
 use Rattle.shapes.specs.Drawing.{elem, leafVerdict, leafNode, pair, branch, node}
-use Rattle.fields.proofs.Lists.{sets-append, set-sets, take-sets}
+use Rattle.fields.proofs.Lists.{sets-append, take-sets}
 use Rattle.fields.specs.Promises.{Reads, Live}
-use Rattle.shapes.specs.Promises.{Coded, Room, Laid, Went, LeafRead, NodeRead, PairRead}
+use Rattle.shapes.specs.Promises.{Reached, Coded, Laid, Went, LeafRead, NodeRead, PairRead}
 
 -- ---- a leaf
 
@@ -37,39 +36,23 @@ leaf-passes rules seen x e = go (leb x (rules .most)) (rules .pattern) (elem (le
     go true false k ea e = (leb-true x (rules .most) ea, λ p. cc)
     go false b k ea e = let z : _≡_ {A = ℕ} 0 1 = cc in absurd (omega arith)
 
-module _ (s : List ℕ) (rules : Rules) where
-  pub leaf-dead : (scan : Scan) (n : ℕ) (l m : List ℕ) → (Live scan → ⊥) → LeafRead s rules scan n l m l m (record { scan = scan; next = n })
-  unfolding leafNode
-  leaf-dead (At c) n l m h = absurd (h tt)
-  leaf-dead (Refused f p) n l m h = record {
-    laid = record { scan = refl; symbols = λ x. absurd x; sizes = λ x. absurd x; next = λ x. absurd x };
-    went = λ x. absurd x;
-    near = omega arith;
-    stays = λ x. (refl, refl);
-  }
-
-  pub leaf-live : (scan : Scan) (n : ℕ) (l m : List ℕ) (r : Got) → Live scan → rules .width ≤ 24 →
-      Reads r (field s (rules .width) (leafVerdict rules (take n l)) scan) (place scan + rules .width) (rules .most) →
-      LeafRead s rules scan n l m (set l n (2 + r .value)) (set m n 1) (record { scan = r .scan; next = n + 1 })
-  unfolding leafNode symbols sizes
-  leaf-live scan n l m r h w e = record {
-    laid = record { scan = e .scan; symbols = λ x. ap (λ (v : ℕ). set l n (2 + v)) (e .value); sizes = λ x. refl; next = λ x. refl };
-    went = λ x. omega arith;
-    near = omega (arith, e .near);
-    stays = λ d. absurd (d h);
-  }
-
--- ---- room for more nodes
-
-pub room-more : {rules : Rules} {n : ℕ} {l m : List ℕ} (k : ℕ) (l′ m′ : List ℕ) → Room rules n l m → length l′ ≡ length l → length m′ ≡ length m → k ≤ rules .nodes → Room rules k l′ m′
-room-more k l′ m′ room el em h = record {
-  width = room .width;
-  most = room .most;
-  nodes = room .nodes;
-  symbols = el ∙ room .symbols;
-  sizes = em ∙ room .sizes;
-  read = h;
+-- A leaf whose number was read as the value v.
+pub leaf-laid : (s : List ℕ) (rules : Rules) (scan : Scan) (n v : ℕ) (l : List ℕ) (r : Reached) → r .next ≡ suc n →
+    (v, r .scan) ≡ field s (rules .width) (leafVerdict rules (take n l)) scan →
+    let x = leafNode s rules (take n l) scan in Laid n l (set l n (2 + v)) r (x .1) (symbols (x .0))
+unfolding leafNode symbols
+leaf-laid s rules scan n v l r h e = record {
+  scan = ap (λ (x : ℕ × Scan). x .1) e;
+  symbols = λ x. ap (λ (x : ℕ × Scan). set l n (2 + x .0)) e;
+  next = λ x. omega arith;
 }
+
+-- A leaf that was refused.
+pub leaf-refused : (s : List ℕ) (rules : Rules) (scan : Scan) (n : ℕ) (l : List ℕ) (r : Reached) → (Live (r .scan) → ⊥) →
+    (0, r .scan) ≡ field s (rules .width) (leafVerdict rules (take n l)) scan →
+    let x = leafNode s rules (take n l) scan in Laid n l l r (x .1) (symbols (x .0))
+unfolding leafNode symbols
+leaf-refused s rules scan n l r h e = record { scan = ap (λ (x : ℕ × Scan). x .1) e; symbols = λ x. absurd (h x); next = λ x. absurd (h x) }
 
 -- ---- a node, by its code
 
@@ -97,21 +80,12 @@ leaves-nands (inv a) = leaves-nands a
 leaves-nands (nand a b) = omega (arith, length-append (leaves a) (leaves b), leaves-nands a, leaves-nands b)
 
 -- A gate before what is below it.
-gate-laid : (n : ℕ) (l m l′ m₁ m′ : List ℕ) (v w : ℕ) (below r : Branch) (after : Scan) (ss zs : List ℕ) →
-    Laid (n + 1) (set l n v) m l′ m₁ below after ss zs → r ≡ below → m′ ≡ set m₁ n (below .next - n) → w ≡ suc (length ss) →
-    Laid n l m l′ m′ r after (v ∷ ss) (w ∷ zs)
-gate-laid n l m l′ m₁ m′ v w below r after ss zs h er em ew = record {
-  scan = ap (λ (b : Branch). b .scan) er ∙ h .scan;
-  symbols = λ x. h .symbols (was x) ∙ ap (λ (k : ℕ). sets (set l n v) k ss) (add-one n);
-  sizes = λ x.
-      let grown : below .next - n ≡ w = omega (arith, h .next (was x)) in
-      em ∙ ap (λ (k : ℕ). set m₁ n k) grown ∙ ap (λ (k : List ℕ). set k n w) (h .sizes (was x))
-      ∙ set-sets m (n + 1) n w zs (omega arith) ∙ ap (λ (k : ℕ). sets (set m n w) k zs) (add-one n);
-  next = λ x. ap (λ (b : Branch). b .next) er ∙ omega (arith, h .next (was x));
+gate-laid : (n : ℕ) (l l′ : List ℕ) (v : ℕ) (r : Reached) (after : Scan) (ss : List ℕ) → Laid (n + 1) (set l n v) l′ r after ss → Laid n l l′ r after (v ∷ ss)
+gate-laid n l l′ v r after ss h = record {
+  scan = h .scan;
+  symbols = λ x. h .symbols x ∙ ap (λ (k : ℕ). sets (set l n v) k ss) (add-one n);
+  next = λ x. omega (arith, h .next x);
 }
-  where
-    was : Live (r .scan) → Live (below .scan)
-    was x = subst (λ (b : Branch). Live (b .scan)) er x
 
 -- What follows each code.
 module _ (s : List ℕ) (rules : Rules) (f : List ℕ → Reader Shape) (seen : List ℕ) (c : Scan) where
@@ -127,82 +101,103 @@ module _ (s : List ℕ) (rules : Rules) (f : List ℕ → Reader Shape) (seen : 
   unfolding branch
   nand-branch = refl
 
-module _ (s : List ℕ) (rules : Rules) (scan : Scan) (n : ℕ) (l m : List ℕ) (room : Room rules n l m) (got : Got) (code : Coded s rules scan n got) where
+module _ (s : List ℕ) (rules : Rules) (scan : Scan) (n : ℕ) (l : List ℕ) (few : n ≤ rules .nodes) (long : rules .nodes ≤ length l) (got : Got) (code : Coded s rules scan n got) where
   -- A node is its code and what follows it.
   node-code : (d k : ℕ) → got .value ≡ k → node s rules (suc d) (take n l) scan ≡ branch s rules (node s rules d) (take n l) k (got .scan)
   unfolding node
   node-code d k e =
-      rw (length-take-le n l (omega (arith, room .read, room .symbols)))
+      rw (length-take-le n l (omega arith))
       (ap₂ (λ (v : ℕ) (c : Scan). branch s rules (node s rules d) (take n l) v c) (sym (code .reads .value) ∙ e) (sym (code .reads .scan)))
 
-  pub node-leaf : (l′ m′ : List ℕ) (r : Branch) → got .value ≡ 0 → LeafRead s rules (got .scan) n l m l′ m′ r → NodeRead s rules scan n l m l′ m′ r
-  node-leaf l′ m′ r e h = record { laid = laid; went = went (live? (got .scan)) }
+  -- A code that was refused.
+  pub node-refused : (Live (got .scan) → ⊥) → NodeRead s rules scan n l l (record { scan = got .scan; next = n })
+  unfolding branch leafNode
+  node-refused h = record {
+    laid = λ depth k. laid depth k;
+    went = record { from = omega arith; upto = few; far = omega (arith, code .stays h); near = λ x. absurd (h x) };
+  }
     where
-      laid : (depth : ℕ) → rules .nodes - n < depth → let x = node s rules depth (take n l) scan in Laid n l m l′ m′ r (x .1) (symbols (x .0)) (sizes (x .0))
-      laid zero k = absurd (omega arith)
-      laid (suc d) k = subst (λ (x : Shape × Scan). Laid n l m l′ m′ r (x .1) (symbols (x .0)) (sizes (x .0))) (sym (node-code d 0 e ∙ leaf-branch s rules (node s rules d) (take n l) (got .scan))) (h .laid)
+      refused : (d : ℕ) (c : Scan) → (Live c → ⊥) → branch s rules (node s rules d) (take n l) 0 c .1 ≡ c
+      refused d (At c) z = absurd (z tt)
+      refused d (Refused f p) z = refl
 
-      went : Dec (Live (got .scan)) → Went rules scan n r
-      went (yes a) = record { from = omega (arith, h .went a); upto = omega (arith, h .went a, code .room a); near = omega (arith, h .went a, code .room a, h .near, code .reads .near) }
-      went (no a) =
-          let stay : place (r .scan) ≡ place (got .scan) = ap place (h .stays a .0) in
-          record { from = omega (arith, h .stays a .1); upto = omega (arith, h .stays a .1, room .read); near = omega (arith, h .stays a .1, stay, code .stays a) }
+      -- a code that is not 0 was not refused
+      none : (k : ℕ) → got .value ≡ k → k ≡ 0
+      none zero e = refl
+      none (suc k) e = absurd (h (code .gate (omega arith)))
+
+      laid : (depth : ℕ) → rules .nodes - n < depth → let x = node s rules depth (take n l) scan in Laid n l l (record { scan = got .scan; next = n }) (x .1) (symbols (x .0))
+      laid zero k = absurd (omega arith)
+      laid (suc d) k = record {
+        scan = sym (refused d (got .scan) h) ∙ sym (ap (λ (x : Shape × Scan). x .1) (node-code d 0 (none (got .value) refl)));
+        symbols = λ x. absurd (h x);
+        next = λ x. absurd (h x);
+      }
+
+  pub node-leaf : (l′ : List ℕ) (r : Reached) → got .value ≡ 0 → Live (got .scan) → LeafRead s rules (got .scan) n l l′ r → NodeRead s rules scan n l l′ r
+  node-leaf l′ r e a h = record { laid = laid; went = went (live? (r .scan)) }
+    where
+      laid : (depth : ℕ) → rules .nodes - n < depth → let x = node s rules depth (take n l) scan in Laid n l l′ r (x .1) (symbols (x .0))
+      laid zero k = absurd (omega arith)
+      laid (suc d) k = subst (λ (x : Shape × Scan). Laid n l l′ r (x .1) (symbols (x .0))) (sym (node-code d 0 e ∙ leaf-branch s rules (node s rules d) (take n l) (got .scan))) (h .laid)
+
+      went : Dec (Live (r .scan)) → Went rules scan n r
+      went (yes z) = record {
+        from = omega (arith, h .went z);
+        upto = omega (arith, h .went z, code .room a);
+        far = omega (arith, h .near, code .room a, code .reads .near);
+        near = λ x. omega (arith, h .went z, code .room a, h .near, code .reads .near);
+      }
+      went (no z) = record { from = omega (arith, h .stays z .1); upto = omega (arith, h .stays z .1); far = omega (arith, h .stays z, code .room a, code .reads .near); near = λ x. absurd (z x) }
 
   -- A gate and what is below it, which was read from the scan after the code.
-  gate-went : (below r : Branch) → 0 < got .value → r ≡ below → Went rules (got .scan) (n + 1) below → Went rules scan n r
-  gate-went below r g er h =
+  gate-went : (r : Reached) → 0 < got .value → Went rules (got .scan) (n + 1) r → Went rules scan n r
+  gate-went r g h =
       let in-room : n < rules .nodes = code .room (code .gate g) in
-      subst (Went rules scan n) (sym er) (record { from = omega (arith, h .from); upto = h .upto; near = omega (arith, h .near, h .from, h .upto, code .reads .near) })
+      record {
+        from = omega (arith, h .from);
+        upto = h .upto;
+        far = omega (arith, h .far, code .reads .near);
+        near = λ x. omega (arith, h .near x, h .from, h .upto, code .reads .near);
+      }
 
   -- The symbols before what is below a gate.
   gate-seen : (v : ℕ) → 0 < got .value → take (n + 1) (set l n v) ≡ take n l ++ (v ∷ [])
-  gate-seen v g = rw add-one (take-suc-set l n v (omega (arith, room .symbols, code .room (code .gate g))))
+  gate-seen v g = rw add-one (take-suc-set l n v (omega (arith, code .room (code .gate g))))
 
   -- The node that stands above what was read: its symbol v, and its shape x, below which are the symbols ss.
-  gate-whole : (d v k : ℕ) (x : Shape) (after : Scan) (ss zs l′ m₁ m′ : List ℕ) (below r : Branch) → got .value ≡ k →
-      branch s rules (node s rules d) (take n l) k (got .scan) ≡ (x, after) → symbols x ≡ v ∷ ss → sizes x ≡ size x ∷ zs →
-      Laid (n + 1) (set l n v) m l′ m₁ below after ss zs → r ≡ below → m′ ≡ set m₁ n (below .next - n) →
-      let y = node s rules (suc d) (take n l) scan in Laid n l m l′ m′ r (y .1) (symbols (y .0)) (sizes (y .0))
-  gate-whole d v k x after ss zs l′ m₁ m′ below r e eb es ez h er em =
-      let grown : size x ≡ suc (length ss) = sym (length-symbols x) ∙ ap length es in
-      subst (λ (y : Shape × Scan). Laid n l m l′ m′ r (y .1) (symbols (y .0)) (sizes (y .0))) (sym (node-code d k e ∙ eb))
-      (subst₂ (λ (a b : List ℕ). Laid n l m l′ m′ r after a b) (sym es) (sym ez) (gate-laid n l m l′ m₁ m′ v (size x) below r after ss zs h er em grown))
+  gate-whole : (d v k : ℕ) (x : Shape) (after : Scan) (ss l′ : List ℕ) (r : Reached) → got .value ≡ k →
+      branch s rules (node s rules d) (take n l) k (got .scan) ≡ (x, after) → symbols x ≡ v ∷ ss →
+      Laid (n + 1) (set l n v) l′ r after ss →
+      let y = node s rules (suc d) (take n l) scan in Laid n l l′ r (y .1) (symbols (y .0))
+  gate-whole d v k x after ss l′ r e eb es h =
+      subst (λ (y : Shape × Scan). Laid n l l′ r (y .1) (symbols (y .0))) (sym (node-code d k e ∙ eb))
+      (subst (λ (a : List ℕ). Laid n l l′ r after a) (sym es) (gate-laid n l l′ v r after ss h))
 
-  module _ (l′ m₁ m′ : List ℕ) (below r : Branch) (er : r ≡ below) (em : m′ ≡ set m₁ n (below .next - n)) where
-    pub node-inv : got .value ≡ 1 → NodeRead s rules (got .scan) (n + 1) (set l n (got .value - 1)) m l′ m₁ below → NodeRead s rules scan n l m l′ m′ r
-    unfolding symbols sizes
-    node-inv e h₀ = record { laid = laid; went = gate-went below r (omega arith) er (h₀ .went) }
+  module _ (l′ : List ℕ) (r : Reached) where
+    pub node-inv : got .value ≡ 1 → NodeRead s rules (got .scan) (n + 1) (set l n 0) l′ r → NodeRead s rules scan n l l′ r
+    unfolding symbols
+    node-inv e h = record { laid = laid; went = gate-went r (omega arith) (h .went) }
       where
-        h : NodeRead s rules (got .scan) (n + 1) (set l n 0) m l′ m₁ below
-        h = subst (λ (v : ℕ). NodeRead s rules (got .scan) (n + 1) (set l n (v - 1)) m l′ m₁ below) e h₀
-
-        laid : (depth : ℕ) → rules .nodes - n < depth → let x = node s rules depth (take n l) scan in Laid n l m l′ m′ r (x .1) (symbols (x .0)) (sizes (x .0))
+        laid : (depth : ℕ) → rules .nodes - n < depth → let x = node s rules depth (take n l) scan in Laid n l l′ r (x .1) (symbols (x .0))
         laid zero k = absurd (omega arith)
         laid (suc d) k =
             let y = node s rules d (take n l ++ (0 ∷ [])) (got .scan) in
-            gate-whole d 0 1 (inv (y .0)) (y .1) (symbols (y .0)) (sizes (y .0)) l′ m₁ m′ below r e
-            (inv-branch s rules (node s rules d) (take n l) (got .scan)) refl refl
-            (subst (λ (seen : List ℕ). let z = node s rules d seen (got .scan) in Laid (n + 1) (set l n 0) m l′ m₁ below (z .1) (symbols (z .0)) (sizes (z .0)))
+            gate-whole d 0 1 (inv (y .0)) (y .1) (symbols (y .0)) l′ r e (inv-branch s rules (node s rules d) (take n l) (got .scan)) refl
+            (subst (λ (seen : List ℕ). let z = node s rules d seen (got .scan) in Laid (n + 1) (set l n 0) l′ r (z .1) (symbols (z .0)))
             (gate-seen 0 (omega arith)) (h .laid d (omega (arith, code .room (code .gate (omega arith))))))
-            er em
 
-    pub node-nand : got .value ≡ 2 → PairRead s rules (got .scan) (n + 1) (set l n (got .value - 1)) m l′ m₁ below → NodeRead s rules scan n l m l′ m′ r
-    unfolding symbols sizes
-    node-nand e h₀ = record { laid = laid; went = gate-went below r (omega arith) er (h₀ .went) }
+    pub node-nand : got .value ≡ 2 → PairRead s rules (got .scan) (n + 1) (set l n 1) l′ r → NodeRead s rules scan n l l′ r
+    unfolding symbols
+    node-nand e h = record { laid = laid; went = gate-went r (omega arith) (h .went) }
       where
-        h : PairRead s rules (got .scan) (n + 1) (set l n 1) m l′ m₁ below
-        h = subst (λ (v : ℕ). PairRead s rules (got .scan) (n + 1) (set l n (v - 1)) m l′ m₁ below) e h₀
-
-        laid : (depth : ℕ) → rules .nodes - n < depth → let x = node s rules depth (take n l) scan in Laid n l m l′ m′ r (x .1) (symbols (x .0)) (sizes (x .0))
+        laid : (depth : ℕ) → rules .nodes - n < depth → let x = node s rules depth (take n l) scan in Laid n l l′ r (x .1) (symbols (x .0))
         laid zero k = absurd (omega arith)
         laid (suc d) k =
             let y = pair s rules (node s rules d) (take n l ++ (1 ∷ [])) (got .scan) in
-            gate-whole d 1 2 (nand (y .0 .0) (y .0 .1)) (y .1) (symbols (y .0 .0) ++ symbols (y .0 .1)) (sizes (y .0 .0) ++ sizes (y .0 .1)) l′ m₁ m′ below r e
-            (nand-branch s rules (node s rules d) (take n l) (got .scan)) refl refl
-            (subst (λ (seen : List ℕ). let z = pair s rules (node s rules d) seen (got .scan) in
-            Laid (n + 1) (set l n 1) m l′ m₁ below (z .1) (symbols (z .0 .0) ++ symbols (z .0 .1)) (sizes (z .0 .0) ++ sizes (z .0 .1)))
+            gate-whole d 1 2 (nand (y .0 .0) (y .0 .1)) (y .1) (symbols (y .0 .0) ++ symbols (y .0 .1)) l′ r e (nand-branch s rules (node s rules d) (take n l) (got .scan)) refl
+            (subst (λ (seen : List ℕ). let z = pair s rules (node s rules d) seen (got .scan) in Laid (n + 1) (set l n 1) l′ r (z .1) (symbols (z .0 .0) ++ symbols (z .0 .1)))
             (gate-seen 1 (omega arith)) (h .laid d (omega (arith, code .room (code .gate (omega arith))))))
-            er em
 
 -- ---- a NAND's two branches
 
@@ -217,46 +212,74 @@ pub node-live : (s : List ℕ) (rules : Rules) (d : ℕ) (seen : List ℕ) (c : 
 node-live s rules d seen (At c) h = tt
 node-live s rules d seen (Refused f p) h = subst Live (node-dead s rules d seen (Refused f p) (λ q. q)) h
 
+-- Nothing is read after a refusal.
+pub dead-read : (s : List ℕ) (rules : Rules) (r : Reached) (l : List ℕ) → (Live (r .scan) → ⊥) → r .next ≤ rules .nodes → NodeRead s rules (r .scan) (r .next) l l r
+dead-read s rules r l z h = record {
+  laid = λ d k. record { scan = sym (node-dead s rules d (take (r .next) l) (r .scan) z); symbols = λ x. absurd (z x); next = λ x. absurd (z x) };
+  went = record { from = omega arith; upto = h; far = omega arith; near = λ x. omega arith };
+}
+
 -- One run of nodes after another is one run.
-run-laid : (n : ℕ) (l m l₁ m₁ l₂ m₂ : List ℕ) (first r : Branch) (after₁ after₂ : Scan) (ss₁ zs₁ ss₂ zs₂ : List ℕ) → Live (first .scan) → length zs₁ ≡ length ss₁ →
-    Laid n l m l₁ m₁ first after₁ ss₁ zs₁ → Laid (first .next) l₁ m₁ l₂ m₂ r after₂ ss₂ zs₂ → Laid n l m l₂ m₂ r after₂ (ss₁ ++ ss₂) (zs₁ ++ zs₂)
-run-laid n l m l₁ m₁ l₂ m₂ first r after₁ after₂ ss₁ zs₁ ss₂ zs₂ z e a b = record {
+run-laid : (n : ℕ) (l l₁ l₂ : List ℕ) (first r : Reached) (after₁ after₂ : Scan) (ss₁ ss₂ : List ℕ) → Live (first .scan) →
+    Laid n l l₁ first after₁ ss₁ → Laid (first .next) l₁ l₂ r after₂ ss₂ → Laid n l l₂ r after₂ (ss₁ ++ ss₂)
+run-laid n l l₁ l₂ first r after₁ after₂ ss₁ ss₂ z a b = record {
   scan = b .scan;
   symbols = λ x. b .symbols x ∙ ap₂ (λ (k : List ℕ) (i : ℕ). sets k i ss₂) (a .symbols z) (a .next z) ∙ sym (sets-append l n ss₁ ss₂);
-  sizes = λ x. b .sizes x ∙ ap₂ (λ (k : List ℕ) (i : ℕ). sets k i zs₂) (a .sizes z) (a .next z ∙ ap (λ (i : ℕ). n + i) (sym e)) ∙ sym (sets-append m n zs₁ zs₂);
   next = λ x. omega (arith, a .next z, b .next x, length-append ss₁ ss₂);
 }
 
-pub pair-read : (s : List ℕ) (rules : Rules) (scan : Scan) (n : ℕ) (l m l₁ m₁ l₂ m₂ : List ℕ) (first r : Branch) → Room rules n l m →
-    NodeRead s rules scan n l m l₁ m₁ first → NodeRead s rules (first .scan) (first .next) l₁ m₁ l₂ m₂ r → PairRead s rules scan n l m l₂ m₂ r
+-- The symbols seen after a run of nodes.
+pub run-seen : (n : ℕ) (l l₁ : List ℕ) (first : Reached) (after : Scan) (ss : List ℕ) → Live (first .scan) → first .next ≤ length l → Laid n l l₁ first after ss →
+    take (first .next) l₁ ≡ take n l ++ ss
+run-seen n l l₁ first after ss z h a =
+    ap₂ (λ (i : ℕ) (q : List ℕ). take i q) (a .next z) (a .symbols z) ∙ take-sets l n ss (omega (arith, a .next z))
+
+pub pair-read : (s : List ℕ) (rules : Rules) (scan : Scan) (n : ℕ) (l l₁ l₂ : List ℕ) (first r : Reached) → rules .nodes ≤ length l →
+    NodeRead s rules scan n l l₁ first → NodeRead s rules (first .scan) (first .next) l₁ l₂ r → PairRead s rules scan n l l₂ r
 unfolding pair
-pair-read s rules scan n l m l₁ m₁ l₂ m₂ first r room a b = record {
+pair-read s rules scan n l l₁ l₂ first r long a b = record {
   laid = λ d k. laid d k (live? (first .scan));
-  went = record { from = omega (arith, a .went .from, b .went .from); upto = b .went .upto; near = omega (arith, a .went .near, b .went .near) };
+  went = went (live? (first .scan));
 }
   where
+    -- what follows a refusal is the refusal
+    stays : (d : ℕ) → rules .nodes - n < d → (Live (first .scan) → ⊥) → r .scan ≡ first .scan
+    stays d k z = b .laid d (omega (arith, a .went .from)) .scan ∙ node-dead s rules d (take (first .next) l₁) (first .scan) z
+
+    went : Dec (Live (first .scan)) → Went rules scan n r
+    went (yes z) = record {
+      from = omega (arith, a .went .from, b .went .from);
+      upto = b .went .upto;
+      far = omega (arith, a .went .near z, b .went .far);
+      near = λ x. omega (arith, a .went .near z, b .went .near x);
+    }
+    went (no z) =
+        let e = stays (suc (rules .nodes - n)) (omega arith) z in
+        record {
+          from = omega (arith, a .went .from, b .went .from);
+          upto = b .went .upto;
+          far = omega (arith, a .went .far, ap place e);
+          near = λ x. absurd (z (subst Live e x));
+        }
+
     laid : (d : ℕ) → rules .nodes - n < d → Dec (Live (first .scan)) →
         let x = node s rules d (take n l) scan in let y = node s rules d (take n l ++ symbols (x .0)) (x .1) in
-        Laid n l m l₂ m₂ r (y .1) (symbols (x .0) ++ symbols (y .0)) (sizes (x .0) ++ sizes (y .0))
+        Laid n l l₂ r (y .1) (symbols (x .0) ++ symbols (y .0))
     laid d k (no z) =
         let x = node s rules d (take n l) scan in
         let first-is : first .scan ≡ x .1 = a .laid d k .scan in
-        let r-is : r .scan ≡ first .scan = b .laid d (omega (arith, a .went .from)) .scan ∙ node-dead s rules d (take (first .next) l₁) (first .scan) z in
+        let r-is = stays d k z in
         let dead : Live (r .scan) → ⊥ = λ q. z (subst Live r-is q) in
         record {
           scan = r-is ∙ first-is ∙ sym (node-dead s rules d (take n l ++ symbols (x .0)) (x .1) (λ q. z (subst Live (sym first-is) q)));
           symbols = λ q. absurd (dead q);
-          sizes = λ q. absurd (dead q);
           next = λ q. absurd (dead q);
         }
     laid d k (yes z) =
         let x = node s rules d (take n l) scan in
         let x-laid = a .laid d k in
-        let seen : take (first .next) l₁ ≡ take n l ++ symbols (x .0) =
-        ap₂ (λ (i : ℕ) (q : List ℕ). take i q) (x-laid .next z) (x-laid .symbols z)
-        ∙ take-sets l n (symbols (x .0)) (omega (arith, x-laid .next z, a .went .upto, room .symbols)) in
+        let seen = run-seen n l l₁ first (x .1) (symbols (x .0)) z (omega (arith, a .went .upto)) x-laid in
         let y = node s rules d (take n l ++ symbols (x .0)) (x .1) in
-        run-laid n l m l₁ m₁ l₂ m₂ first r (x .1) (y .1) (symbols (x .0)) (sizes (x .0)) (symbols (y .0)) (sizes (y .0)) z
-        (length-sizes (x .0) ∙ sym (length-symbols (x .0))) x-laid
-        (subst₂ (λ (q : List ℕ) (c : Scan). let w = node s rules d q c in Laid (first .next) l₁ m₁ l₂ m₂ r (w .1) (symbols (w .0)) (sizes (w .0)))
+        run-laid n l l₁ l₂ first r (x .1) (y .1) (symbols (x .0)) (symbols (y .0)) z x-laid
+        (subst₂ (λ (q : List ℕ) (c : Scan). let w = node s rules d q c in Laid (first .next) l₁ l₂ r (w .1) (symbols (w .0)))
         seen (x-laid .scan) (b .laid d (omega (arith, a .went .from))))

@@ -1,24 +1,31 @@
 -- Laws about a node's code and a leaf's number.
-use mathlib.Core.Path.{_≡_, refl, sym, subst}
-use mathlib.Core.List.{List}
+use mathlib.Core.Path.{_≡_, refl, sym, ap, ap₂, subst, _∙_}
+use mathlib.Core.List.{List, [], _∷_}
 use mathlib.Core.Bool.{Bool, true, false, cond, _&&_}
-use Prim.Native.Nat.{ℕ, _+_, _≤_, _<_}
+use Prim.Native.Nat.{ℕ, zero, suc, _+_, _≤_, _<_}
+use lib.ListN.{length, set}
 use native.Mathlib.Omega.{arith}
-use lib.ListN.{length, getD}
-use lib.Seq.{slice, slice-cons}
-use native.Mathlib.Numerals.{add-one}
 use lib.Dec.{leb, eqb}
-use borrow.Author.Tests.{leb-false, eq-eqb, ne-eqb}
+use borrow.Author.Tests.{leb-false}
 use Rattle.fields.specs.declared.Got.{Got}
 use Rattle.fields.specs.declared.Scan.{Scan}
+use Rattle.fields.specs.declared.Scan.the-variants.{At, Refused}
+use Rattle.fields.specs.declared.Fault.{Fault}
+use Rattle.fields.specs.declared.Verdict.{Verdict}
+use Rattle.bits.specs.declared.Cursor.{Cursor}
+use Rattle.bits.specs.declared.FieldRead.{FieldRead}
+use Rattle.bits.specs.declared.FieldRead.the-variants.{Value, Truncated as TruncatedField}
+use Rattle.bits.specs.Bits.{placeOf, cursorAt, fieldAt}
+use Rattle.bits.proofs.Laws.{place-at}
+use Rattle.bits.proofs.Words.{stands}
 use Rattle.fields.specs.declared.Fault.the-variants.{Range, Drawing, Size}
 use Rattle.fields.specs.declared.Verdict.the-variants.{Sound, Faulty}
-use Rattle.fields.proofs.Laws.{live-sound, positive-live, dead-stays}
-use Rattle.fields.specs.Reading.{place, field}
+use Rattle.fields.proofs.Laws.{Read, ends, reads, read, cursorIn, live-sound, positive-live, dead-stays}
+use Rattle.fields.specs.Reading.{place, field, taken, settled}
 use Rattle.fields.specs.Promises.{Reads, Live}
-use Rattle.shapes.specs.Promises.{Coded}
+use Rattle.shapes.specs.Promises.{Coded, faultOf, verdictOf, outcome, cursorOf, nextOf, pinsOf}
 use Rattle.shapes.specs.declared.Rules.{Rules}
-use Rattle.shapes.specs.Drawing.{elem, codeVerdict}
+use Rattle.shapes.specs.Drawing.{codeVerdict}
 
 pub code-room : (rules : Rules) (n code : ℕ) → codeVerdict rules n code ≡ Sound → (n < rules .nodes) × (code ≤ 2)
 unfolding codeVerdict
@@ -40,11 +47,94 @@ coded s rules scan n r h =
       stays = λ d. rw (h .scan) (dead-stays s 2 v scan (λ l. d (subst Live (sym (h .scan)) l)));
     }
 
--- What is looked for among the symbols from k up to n.
-pub elem-here : (x n : ℕ) (l : List ℕ) (k : ℕ) → k < n → n ≤ length l → getD l k 0 ≡ x → elem x (slice k n l) ≡ true
-unfolding elem
-elem-here x n l k h g e = rw (slice-cons k n l 0 h g) (simp (eq-eqb x (getD l k 0) (sym e)))
+-- ---- how a reader ends
 
-pub elem-later : (x n : ℕ) (l : List ℕ) (k : ℕ) → k < n → n ≤ length l → (getD l k 0 ≡ x → ⊥) → elem x (slice k n l) ≡ elem x (slice (k + 1) n l)
-unfolding elem
-elem-later x n l k h g e = rw (slice-cons k n l 0 h g, add-one k) (simp (ne-eqb x (getD l k 0) (λ q. e (sym q))))
+pub other-fault : (k : ℕ) → (k ≡ 1 → ⊥) → (k ≡ 2 → ⊥) → (k ≡ 3 → ⊥) → Size ≡ faultOf k
+other-fault zero a b c = refl
+other-fault (suc zero) a b c = absurd (a refl)
+other-fault (suc (suc zero)) a b c = absurd (b refl)
+other-fault (suc (suc (suc zero))) a b c = absurd (c refl)
+other-fault (suc (suc (suc (suc k)))) a b c = refl
+
+pub ends-sound : (k : ℕ) (c : Cursor) → k ≡ 0 → At c ≡ outcome k c
+ends-sound zero c e = refl
+ends-sound (suc k) c e = absurd (omega arith)
+
+pub ends-refused : (k p : ℕ) (f : Fault) (c : Cursor) → (k ≡ 0 → ⊥) → f ≡ faultOf k → p ≡ placeOf c → Refused f p ≡ outcome k c
+ends-refused zero p f c h e q = absurd (h refl)
+ends-refused (suc k) p f c h e q = ap₂ Refused e q
+
+pub outcome-dead : (k : ℕ) (c : Cursor) → 0 < k → Live (outcome k c) → ⊥
+outcome-dead zero c h l = omega arith
+outcome-dead (suc k) c h l = l
+
+pub outcome-place : (k : ℕ) (c : Cursor) → place (outcome k c) ≡ placeOf c
+outcome-place zero c = refl
+outcome-place (suc k) c = refl
+
+pub outcome-live : (k : ℕ) (c : Cursor) → Live (outcome k c) → k ≡ 0
+outcome-live zero c l = refl
+outcome-live (suc k) c l = absurd l
+
+-- ---- a field in an opening, by what was found there
+
+module _ (s : List ℕ) (c : Cursor) (w : ℕ) (v : ℕ → Verdict) (f : FieldRead) (here : f ≡ fieldAt s (placeOf c) w) where
+  pub field-torn : f ≡ TruncatedField → (0, outcome 1 c) ≡ field s w v (At c)
+  field-torn e = ap (taken (placeOf c) v) (sym e ∙ here)
+
+  pub field-faulty : (k x : ℕ) (n : Cursor) → f ≡ Value x n → 0 < k → verdictOf k ≡ v x → (0, outcome k c) ≡ field s w v (At c)
+  field-faulty zero x n e h q = absurd (omega arith)
+  field-faulty (suc k) x n e h q = ap (λ (d : Verdict). settled (placeOf c) d x (At n)) q ∙ ap (taken (placeOf c) v) (sym e ∙ here)
+
+  pub field-sound : (k x : ℕ) (n : Cursor) → f ≡ Value x n → k ≡ 0 → verdictOf k ≡ v x → (x, At n) ≡ field s w v (At c)
+  field-sound zero x n e h q = ap (λ (d : Verdict). settled (placeOf c) d x (At n)) q ∙ ap (taken (placeOf c) v) (sym e ∙ here)
+  field-sound (suc k) x n e h q = absurd (omega arith)
+
+-- A cursor after a field that was found has not used up its byte.
+pub found-used : (s : List ℕ) (i w x : ℕ) (n : Cursor) (f : FieldRead) → f ≡ fieldAt s i w → f ≡ Value x n → (n .used < 8) × (placeOf n ≡ i + w)
+found-used s i w x n f e q = go (fieldAt s i w) (read s i w) (sym e ∙ q)
+  where
+    go : (g : FieldRead) → Read s i w g → g ≡ Value x n → (n .used < 8) × (placeOf n ≡ i + w)
+    go g ends z = let k : _≡_ {A = ℕ} 0 1 = cc in absurd (omega arith)
+    go g (reads l) z =
+        let at : n ≡ cursorAt (i + w) = ap (λ (h : FieldRead). cursorIn h) (sym z) in
+        (stands at .0, ap placeOf at ∙ place-at (i + w))
+
+-- ---- the words of the readers
+
+-- The cursor moved, and the rest is as it was.
+module _ (b u : ℕ) where
+  pub moved-cursor : (words : List ℕ) → length words ≡ 16 → cursorOf (set (set words 0 b) 1 u) ≡ record { byte = b; used = u }
+  moved-cursor [] h = absurd (omega arith)
+  moved-cursor (x ∷ []) h = absurd (omega arith)
+  moved-cursor (x ∷ (y ∷ r)) h = refl
+
+  pub moved-next : (words : List ℕ) → nextOf (set (set words 0 b) 1 u) ≡ nextOf words
+  moved-next [] = refl
+  moved-next (x ∷ []) = refl
+  moved-next (x ∷ (y ∷ r)) = refl
+
+  pub moved-pins : (words : List ℕ) → pinsOf (set (set words 0 b) 1 u) ≡ pinsOf words
+  moved-pins [] = refl
+  moved-pins (x ∷ []) = refl
+  moved-pins (x ∷ (y ∷ r)) = refl
+
+-- A node was counted.
+module _ (n : ℕ) where
+  pub counted-cursor : (words : List ℕ) → cursorOf (set words 2 n) ≡ cursorOf words
+  counted-cursor [] = refl
+  counted-cursor (x ∷ []) = refl
+  counted-cursor (x ∷ (y ∷ [])) = refl
+  counted-cursor (x ∷ (y ∷ (z ∷ r))) = refl
+
+  pub counted-next : (words : List ℕ) → length words ≡ 16 → nextOf (set words 2 n) ≡ n
+  counted-next [] h = absurd (omega arith)
+  counted-next (x ∷ []) h = absurd (omega arith)
+  counted-next (x ∷ (y ∷ [])) h = absurd (omega arith)
+  counted-next (x ∷ (y ∷ (z ∷ r))) h = refl
+
+  pub counted-pins : (words : List ℕ) → pinsOf (set words 2 n) ≡ pinsOf words
+  counted-pins [] = refl
+  counted-pins (x ∷ []) = refl
+  counted-pins (x ∷ (y ∷ [])) = refl
+  counted-pins (x ∷ (y ∷ (z ∷ r))) = refl

@@ -11,7 +11,7 @@ use borrow.Author.Tests.{eq-eqb}
 use Rattle.shapes.specs.Shape.{leafSymbol}
 use Rattle.shapes.specs.Drawing.{elem}
 
-elem-append : (x : ℕ) (a b : List ℕ) → elem x (a ++ b) ≡ (elem x a || elem x b)
+pub elem-append : (x : ℕ) (a b : List ℕ) → elem x (a ++ b) ≡ (elem x a || elem x b)
 unfolding elem
 elem-append x [] b = refl
 elem-append x (y ∷ a) b = rw (elem-append x a b) (sym (or-assoc (eqb x y) (elem x a) (elem x b)))

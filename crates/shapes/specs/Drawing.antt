@@ -2,7 +2,7 @@
 -- 2 is NAND, followed by its two branches, each again a node. Code 3 is out of range."
 use Prim.Native.Nat.{ℕ, zero, suc}
 use mathlib.Core.List.{List, [], _∷_, _++_}
-use mathlib.Core.Bool.{Bool, false, cond, _&&_, _||_}
+use mathlib.Core.Bool.{Bool, true, false, cond, _&&_, _||_}
 use lib.ListN.{length}
 use lib.Dec.{leb, eqb}
 use Rattle.fields.specs.declared.Fault.the-variants.{Range, Drawing, Size}
@@ -16,6 +16,11 @@ use Rattle.shapes.specs.Shape.{Shape, leaf, inv, nand, symbols, invSymbo
 unfoldable pub elem : ℕ → List ℕ → Bool
 elem x [] = false
 elem x (y ∷ ys) = eqb x y || elem x ys
+
+-- Each of the first n pins stands at a leaf of a shape with these symbols.
+unfoldable pub hasAll : ℕ → List ℕ → Bool
+hasAll zero nodes = true
+hasAll (suc n) nodes = hasAll n nodes && elem (leafSymbol n) nodes
 
 -- A node's code, after n nodes: one node too many (document 01's "overgrown"), then a code out of range, then a pattern that opens with a leaf.
 unfoldable pub codeVerdict : Rules → ℕ → ℕ → Verdict

@@ -1,15 +1,16 @@
 // The one reader of shapes, which serves patterns and trees.
+use bits::Cursor;
+use bits::FieldRead;
 use fields::Fault;
-use fields::Got;
 use fields::Scan;
-use fields::Verdict;
 ghost use mathlib.Core.Path.{_≡_};
-ghost use Prim.Native.Nat.{_+_, _-_, _<_, _≤_, _^_};
-ghost use lib.ListN.{length, take, set};
+ghost use mathlib.Core.Bool.{true, false};
+ghost use Prim.Native.Nat.{_+_, _*_, _<_, _≤_, _^_};
+ghost use Rattle.bits.specs.Bits.{placeOf};
+ghost use lib.ListN.{length};
 ghost use Rattle.fields.specs.Reading.{place};
-ghost use Rattle.fields.specs.Promises.{Live};
-ghost use Rattle.shapes.specs.Drawing.{elem, codeVerdict, leafVerdict};
-ghost use Rattle.shapes.specs.Promises.{Coded, Room, Near, LeafRead, NodeRead, PairRead};
+ghost use Rattle.shapes.specs.Drawing.{codeVerdict};
+ghost use Rattle.shapes.specs.Promises.{ruled, verdictOf, faultOf, outcome, cursorOf, stoodAt, pinsOf, Marked, AllMarked, nodeBits, reach, Followed, Inside, LeafFault, LeafRoom, Room, CodeDone, LeafDone, NodeDone, PairDone, ShapeIs, Preorder, SizesSet};
 
 // What differs between patterns and trees: the width of a leaf's number and the greatest that is sound, the most nodes, and whether
 // it is a pattern, which opens with a gate and has no pin twice.
@@ -20,151 +21,347 @@ pub struct Rules {
     pub pattern: bool,
 }
 
-// The scan after a node and all below it, and the number of the node that follows.
-pub struct Branch {
-    pub scan: Scan,
-    pub next: usize,
+impl Rules {
+    // The most nodes that a shape can have.
+    pub const NODES: usize = 64;
 }
 
-// The verdict on a node's code, after `n` nodes.
-fn code_verdict(rules: Rules, n: usize, code: u32) -> Verdict
-    ensures { λ r. ⌜ r ≡ codeVerdict rules n code ⌝ }
+// A shape that was read: the scan after it, how many nodes it has, and, of a pattern, whether each pin up to the greatest stands at a leaf.
+pub struct ShapeRead {
+    pub scan: Scan,
+    pub size: usize,
+    pub whole: bool,
+}
+
+// Where the words stand that the readers share: their cursor, how many nodes are read, and for each pin 1 if a leaf has it.
+struct Words {}
+
+impl Words {
+    const BYTE: usize = 0;
+
+    const USED: usize = 1;
+
+    const NEXT: usize = 2;
+
+    const PINS: usize = 3;
+
+    const COUNT: usize = 16;
+}
+
+// How a reader ends: sound, or with a fault at the field where it stands. As a number it goes back in a register.
+struct Outcome {}
+
+impl Outcome {
+    const SOUND: u32 = 0;
+
+    const TRUNCATED: u32 = 1;
+
+    const RANGE: u32 = 2;
+
+    const DRAWING: u32 = 3;
+
+    const SIZE: u32 = 4;
+}
+
+// A node's code, or the fault in it.
+enum NodeCode {
+    Code(u64),
+    Faulty(u32),
+}
+
+// Where the readers stand in the opening.
+fn stood(words: &[usize; Words::COUNT]) -> Cursor
+    ensures { λ r. ⌜ r ≡ cursorOf (now (words .entry)) ⌝ }
+{
+    Cursor {
+        byte: words[Words::BYTE],
+        used: words[Words::USED],
+    }
+}
+
+fn stand(words: &mut [usize; Words::COUNT], at: Cursor)
+    ensures { λ _. ⌜ now (words .exit) ≡ stoodAt (now (words .entry)) at ⌝ }
+{
+    words[Words::BYTE] = at.byte;
+    words[Words::USED] = at.used;
+}
+
+// What is wrong with a node's code, after `n` nodes.
+fn code_fault(rules: Rules, n: usize, code: u64) -> u32
+    ensures { λ r. ⌜ verdictOf r ≡ codeVerdict rules n code ⌝ }
 {
     if rules.nodes <= n {
-        return Verdict::Faulty(Fault::Size);
+        return Outcome::SIZE;
     }
     if 3 <= code {
-        return Verdict::Faulty(Fault::Range);
+        return Outcome::RANGE;
     }
     if rules.pattern {
         if n == 0 {
             if code == 0 {
-                return Verdict::Faulty(Fault::Drawing);
+                return Outcome::DRAWING;
             }
         }
     }
-    Verdict::Sound
+    Outcome::SOUND
 }
 
-// A node's code, after `n` nodes.
-fn read_code(scan: Scan, s: &[u8], rules: Rules, n: usize) -> Got
-    requires { ⌜ place scan < 2 ^ 32 ⌝ }
-    ensures { λ r. ⌜ Coded (now (s .entry)) rules scan n r ⌝ }
+// The code of the next node.
+fn read_code(
+    opening: &[u8; Cursor::OPENING],
+    bytes: usize,
+    rules: Rules,
+    words: &mut [usize; Words::COUNT],
+) -> NodeCode
+    requires { ⌜ Inside (now words) ⌝ }
+    ensures { λ r. ⌜ CodeDone (now (opening .entry)) bytes rules (now (words .entry)) (now (words .exit)) r ⌝ }
 {
-    let got = fields::raw(scan, s, 2);
-    fields::settle(scan, got, code_verdict(rules, n, got.value))
+    let at = stood(words);
+    let FieldRead::Value(code, next) = at.field_of(opening, bytes, 2) else {
+        return NodeCode::Faulty(Outcome::TRUNCATED);
+    };
+    let fault = code_fault(rules, words[Words::NEXT], code);
+    if fault != Outcome::SOUND {
+        return NodeCode::Faulty(fault);
+    }
+    stand(words, next);
+    NodeCode::Code(code)
 }
 
-// Whether `x` stands among the first `n` symbols.
-pub fn contains(symbols: &[u32], n: usize, x: u32) -> bool
-    requires { ⌜ n ≤ length (now symbols) ⌝ }
-    ensures { λ r. ⌜ r ≡ elem x (take n (now (symbols .entry))) ⌝ }
+// What is wrong with a leaf's number, after the leaves whose pins are marked.
+fn leaf_fault(rules: Rules, words: &[usize; Words::COUNT], number: u64) -> u32
+    requires { ⌜ (rules .pattern ≡ true → rules .most ≤ 12) ⌝ }
+    ensures { λ r. ⌜ LeafFault rules (pinsOf (now (words .entry))) number r ⌝ }
 {
-    let mut k = 0;
-    while k < n {
-        if symbols[k] == x {
-            return true;
+    if (rules.most as u64) < number {
+        return Outcome::RANGE;
+    }
+    if rules.pattern {
+        if words[Words::PINS + number as usize] != 0 {
+            return Outcome::DRAWING;
         }
-        k += 1;
+    }
+    Outcome::SOUND
+}
+
+// Marks the pin of a pattern's leaf.
+fn mark(rules: Rules, words: &mut [usize; Words::COUNT], pin: usize)
+    requires { ⌜ (rules .pattern ≡ true → pin ≤ 12) ⌝ }
+    ensures { λ _. ⌜ Marked rules (now (words .entry)) pin (now (words .exit)) ⌝ }
+{
+    if rules.pattern {
+        words[Words::PINS + pin] = 1;
+    }
+}
+
+// A leaf after its code.
+fn read_leaf(
+    opening: &[u8; Cursor::OPENING],
+    bytes: usize,
+    rules: Rules,
+    words: &mut [usize; Words::COUNT],
+    symbols: &mut [u32; Rules::NODES],
+) -> u32
+    requires { ⌜ LeafRoom (now opening) bytes rules (now words) (now symbols) ⌝ }
+    ensures { λ r. ⌜ LeafDone (now (opening .entry)) bytes rules (now (words .entry)) (now (symbols .entry)) (now (words .exit)) (now (symbols .exit)) r ⌝ }
+{
+    let at = stood(words);
+    let FieldRead::Value(number, next) = at.field_of(opening, bytes, rules.width) else {
+        return Outcome::TRUNCATED;
+    };
+    let fault = leaf_fault(rules, words, number);
+    if fault != Outcome::SOUND {
+        return fault;
+    }
+    let n = words[Words::NEXT];
+    symbols[n] = 2 + number as u32;
+    stand(words, next);
+    words[Words::NEXT] = n + 1;
+    mark(rules, words, number as usize);
+    Outcome::SOUND
+}
+
+// The next node and all below it.
+fn read_node(
+    opening: &[u8; Cursor::OPENING],
+    bytes: usize,
+    width: usize,
+    most: u32,
+    nodes: usize,
+    pattern: bool,
+    words: &mut [usize; Words::COUNT],
+    symbols: &mut [u32; Rules::NODES],
+) -> u32
+    requires { ⌜ Room (now opening) bytes (ruled width most nodes pattern) (now words) (now symbols) ⌝ }
+    ensures { λ r. ⌜ NodeDone (now (opening .entry)) bytes (ruled width most nodes pattern) (now (words .entry)) (now (symbols .entry)) (now (words .exit)) (now (symbols .exit)) r ⌝ }
+{
+    let rules = Rules {
+        width,
+        most,
+        nodes,
+        pattern,
+    };
+    let read = read_code(opening, bytes, rules, words);
+    let code = match read {
+        NodeCode::Code(code) => code,
+        NodeCode::Faulty(fault) => return fault,
+    };
+    if code == 0 {
+        return read_leaf(opening, bytes, rules, words, symbols);
+    }
+    let n = words[Words::NEXT];
+    symbols[n] = code as u32 - 1;
+    words[Words::NEXT] = n + 1;
+    if code == 1 {
+        return read_node(opening, bytes, width, most, nodes, pattern, words, symbols);
+    }
+    read_pair(opening, bytes, width, most, nodes, pattern, words, symbols)
+}
+
+// A NAND's two branches, from the next node on.
+fn read_pair(
+    opening: &[u8; Cursor::OPENING],
+    bytes: usize,
+    width: usize,
+    most: u32,
+    nodes: usize,
+    pattern: bool,
+    words: &mut [usize; Words::COUNT],
+    symbols: &mut [u32; Rules::NODES],
+) -> u32
+    requires { ⌜ Room (now opening) bytes (ruled width most nodes pattern) (now words) (now symbols) ⌝ }
+    ensures { λ r. ⌜ PairDone (now (opening .entry)) bytes (ruled width most nodes pattern) (now (words .entry)) (now (symbols .entry)) (now (words .exit)) (now (symbols .exit)) r ⌝ }
+{
+    let first = read_node(opening, bytes, width, most, nodes, pattern, words, symbols);
+    if first != Outcome::SOUND {
+        return first;
+    }
+    read_node(opening, bytes, width, most, nodes, pattern, words, symbols)
+}
+
+// The scan with which a reader ended at a cursor.
+fn scan_of(end: u32, at: Cursor) -> Scan
+    requires { ⌜ placeOf at < 2 ^ 32 ⌝ }
+    ensures { λ r. ⌜ r ≡ outcome end at ⌝ }
+{
+    if end == Outcome::SOUND {
+        return Scan::At(at);
+    }
+    Scan::Refused(fault_of(end), at.place())
+}
+
+fn fault_of(end: u32) -> Fault
+    ensures { λ r. ⌜ r ≡ faultOf end ⌝ }
+{
+    if end == Outcome::TRUNCATED {
+        return Fault::Truncated;
+    }
+    if end == Outcome::RANGE {
+        return Fault::Range;
+    }
+    if end == Outcome::DRAWING {
+        return Fault::Drawing;
+    }
+    Fault::Size
+}
+
+// Whether each pin up to the greatest is marked.
+fn all_marked(most: usize, words: &[usize; Words::COUNT]) -> bool
+    requires { ⌜ most ≤ 12 ⌝ }
+    ensures { λ r. ⌜ AllMarked most (pinsOf (now (words .entry))) r ⌝ }
+{
+    let mut p = 0;
+    while p <= most {
+        if words[Words::PINS + p] == 0 {
+            return false;
+        }
+        p += 1;
+    }
+    true
+}
+
+// Whether a pattern has all its pins.
+fn has_pins(rules: Rules, words: &[usize; Words::COUNT]) -> bool
+    requires { ⌜ (rules .pattern ≡ true → rules .most ≤ 12) ⌝ }
+    ensures { λ r. ⌜ (rules .pattern ≡ true → AllMarked (rules .most) (pinsOf (now (words .entry))) r) ⌝ }
+{
+    if rules.pattern {
+        return all_marked(rules.most as usize, words);
     }
     false
 }
 
-// The verdict on a leaf's number, after `n` nodes with these symbols.
-fn leaf_verdict(rules: Rules, symbols: &[u32], n: usize, number: u32) -> Verdict
-    requires { ⌜ (n ≤ length (now symbols)) × (number ≤ 16777215) ⌝ }
-    ensures { λ r. ⌜ r ≡ leafVerdict rules (take n (now (symbols .entry))) number ⌝ }
+// A shape of which nothing was read.
+fn nothing(scan: Scan) -> ShapeRead
+    ensures { λ r. ⌜ r ≡ record { scan = scan; size = 0; whole = false } ⌝ }
 {
-    if rules.most < number {
-        return Verdict::Faulty(Fault::Range);
+    ShapeRead {
+        scan,
+        size: 0,
+        whole: false,
     }
-    if rules.pattern {
-        if contains(symbols, n, 2 + number) {
-            return Verdict::Faulty(Fault::Drawing);
-        }
-    }
-    Verdict::Sound
 }
 
-// A leaf after its code: node `n`.
-fn read_leaf(
+// A whole shape.
+pub fn read_shape(
     scan: Scan,
     s: &[u8],
     rules: Rules,
-    n: usize,
-    symbols: &mut [u32],
-    sizes: &mut [u8],
-) -> Branch
-    requires { ⌜ Room rules n (now symbols) (now sizes) ⌝ }
-    requires { ⌜ (Live scan → n < rules .nodes) ⌝ }
-    requires { ⌜ place scan < 2 ^ 32 ⌝ }
-    ensures { λ r. ⌜ LeafRead (now (s .entry)) rules scan n (now (symbols .entry)) (now (sizes .entry)) (now (symbols .exit)) (now (sizes .exit)) r ⌝ }
+    symbols: &mut [u32; Rules::NODES],
+) -> ShapeRead
+    requires { ⌜ Followed rules × (length (now symbols) ≡ 64) × (place scan + nodeBits * rules .nodes ≤ reach) ⌝ }
+    ensures { λ r. ⌜ ShapeIs (now (s .entry)) rules scan (now (symbols .entry)) (now (symbols .exit)) r ⌝ }
 {
-    let Scan::At(_) = scan else {
-        return Branch { scan, next: n };
+    let Scan::At(c) = scan else {
+        return nothing(scan);
     };
-    let got = fields::raw(scan, s, rules.width);
-    let leaf = fields::settle(scan, got, leaf_verdict(rules, symbols, n, got.value));
-    symbols[n] = 2 + leaf.value;
-    sizes[n] = 1;
-    let after = leaf.scan;
-    Branch {
-        scan: after,
-        next: n + 1,
+    let at = c.on(0);
+    let byte = at.byte;
+    if s.len() < byte {
+        return nothing(Scan::Refused(Fault::Truncated, at.place()));
+    }
+    let opening = bits::opening(s, byte);
+    let mut words = [0usize; Words::COUNT];
+    words[Words::USED] = at.used;
+    let end = read_node(
+        &opening,
+        s.len() - byte,
+        rules.width,
+        rules.most,
+        rules.nodes,
+        rules.pattern,
+        &mut words,
+        symbols,
+    );
+    let next = Cursor {
+        byte: byte + words[Words::BYTE],
+        used: words[Words::USED],
+    };
+    ShapeRead {
+        scan: scan_of(end, next),
+        size: words[Words::NEXT],
+        whole: has_pins(rules, &words),
     }
 }
 
-// The gate `n` is whole: its size is set.
-fn closed(below: Branch, n: usize, sizes: &mut [u8]) -> Branch
-    requires { ⌜ (n < length (now sizes)) × (n ≤ below .next) × (below .next ≤ n + 64) ⌝ }
-    ensures { λ r. ⌜ (r ≡ below) × (now (sizes .exit) ≡ set (now (sizes .entry)) n (below .next - n)) ⌝ }
+// How many nodes stand under each of the first `n` nodes, from their symbols: the last node first, since a gate's size is made of those
+// of the nodes after it.
+pub fn set_sizes(symbols: &[u32], n: usize, sizes: &mut [u8])
+    requires { ⌜ Preorder n (now symbols) × (n ≤ 64) × (n ≤ length (now sizes)) ⌝ }
+    ensures { λ _. ⌜ SizesSet n (now (symbols .entry)) (now (sizes .entry)) (now (sizes .exit)) ⌝ }
 {
-    sizes[n] = (below.next - n) as u8;
-    below
-}
-
-// Node `n` and all below it.
-pub fn read_node(
-    scan: Scan,
-    s: &[u8],
-    rules: Rules,
-    n: usize,
-    symbols: &mut [u32],
-    sizes: &mut [u8],
-) -> Branch
-    requires { ⌜ Room rules n (now symbols) (now sizes) ⌝ }
-    requires { ⌜ Near rules scan n ⌝ }
-    ensures { λ r. ⌜ NodeRead (now (s .entry)) rules scan n (now (symbols .entry)) (now (sizes .entry)) (now (symbols .exit)) (now (sizes .exit)) r ⌝ }
-{
-    let got = read_code(scan, s, rules, n);
-    let code = got.value;
-    let after = got.scan;
-    if code == 0 {
-        return read_leaf(after, s, rules, n, symbols, sizes);
+    let mut k = n;
+    while 0 < k {
+        k -= 1;
+        let symbol = symbols[k];
+        let mut size = 1;
+        if symbol < 2 {
+            let first = sizes[k + 1];
+            size += first;
+            if symbol == 1 {
+                size += sizes[k + 1 + first as usize];
+            }
+        }
+        sizes[k] = size;
     }
-    symbols[n] = code - 1;
-    if code == 1 {
-        let below = read_node(after, s, rules, n + 1, symbols, sizes);
-        return closed(below, n, sizes);
-    }
-    let below = read_pair(after, s, rules, n + 1, symbols, sizes);
-    closed(below, n, sizes)
-}
-
-// A NAND's two branches, from node `n` on.
-fn read_pair(
-    scan: Scan,
-    s: &[u8],
-    rules: Rules,
-    n: usize,
-    symbols: &mut [u32],
-    sizes: &mut [u8],
-) -> Branch
-    requires { ⌜ Room rules n (now symbols) (now sizes) ⌝ }
-    requires { ⌜ Near rules scan n ⌝ }
-    ensures { λ r. ⌜ PairRead (now (s .entry)) rules scan n (now (symbols .entry)) (now (sizes .entry)) (now (symbols .exit)) (now (sizes .exit)) r ⌝ }
-{
-    let first = read_node(scan, s, rules, n, symbols, sizes);
-    let after = first.scan;
-    read_node(after, s, rules, first.next, symbols, sizes)
 }

@@ -2,30 +2,30 @@
 use mathlib.Core.Path.{_≡_, refl, sym, ap, ap₂, subst, _∙_}
 use mathlib.Core.List.{List, [], _∷_, _++_, map, map-append}
 use Prim.Native.Nat.{ℕ, zero, suc, _+_, _-_, _*_, _≤_, _<_}
-use mathlib.Core.Bool.{Bool, true, false, cond, _&&_}
+use mathlib.Core.Bool.{Bool, true, false, cond, _||_}
 use mathlib.Core.Logic.{_⊎_, inl, inr}
 use native.Mathlib.Nat.{zero-add, add-zero, add-suc, suc-add, eq-or-lt-of-le, le-of-suc-le-suc}
 use native.Mathlib.Numerals.{add-one}
 use native.Mathlib.Omega.{arith}
 use lib.ListN.{length, getD, take, drop, set, replicate, length-map, length-replicate}
-use lib.Seq.{sets, length-sets, sets-eq, getD-drop}
+use lib.Seq.{sets, length-sets, sets-eq, getD-drop, length-take-le, take-suc}
 use Rattle.fields.specs.declared.Scan.{Scan}
 use Rattle.fields.specs.Reading.{Reader, place, times, within, field}
 use Rattle.fields.specs.declared.Verdict.the-variants.{Sound, Faulty}
 use Rattle.fields.specs.declared.Fault.the-variants.{Size}
-use borrow.Author.Tests.{leb-true}
-use lib.Dec.{leb}
+use borrow.Author.Tests.{leb-true, ne-eqb}
+use lib.Dec.{leb, eqb}
 use Rattle.fields.proofs.Laws.{length-times, times-value, times-scan, positive-live, live-sound, range-passes}
 use Rattle.fields.proofs.Lists.{sets-append, set-sets, take-sets, mid-sets, front-sets, zeros-at}
 use Rattle.shapes.proofs.Drawn.{live?, length-symbols, node-live}
 use borrow.Rule.Slice.PartMut.{putMid}
 use Rattle.fields.specs.declared.Scan.the-variants.{At, Refused}
-use Rattle.shapes.specs.declared.Branch.{Branch}
-use Rattle.shapes.specs.Shape.{Shape, symbols, sizes, size}
-use Rattle.shapes.specs.Drawing.{elem, shape}
+use Rattle.shapes.specs.declared.ShapeRead.{ShapeRead}
+use Rattle.shapes.specs.Shape.{Shape, symbols, size}
+use Rattle.shapes.specs.Drawing.{hasAll, shape}
 use Rattle.fields.specs.Promises.{Live}
-use Rattle.shapes.specs.Promises.{Laid, NodeRead}
-use Rattle.sheets.specs.LibrarySheet.{last, binLoad, complete, hasAll, pattern, patternRules, countVerdict}
+use Rattle.shapes.specs.Promises.{ShapeIs}
+use Rattle.sheets.specs.LibrarySheet.{last, binLoad, complete, pattern, patternRules, countVerdict}
 use Rattle.sheets.specs.Layout.{padded, sizeAt, symbolsAt, rowWords, cellWords, tableFrom}
 use Rattle.sheets.specs.Inside.{PatternIs, rowUnder, patternOf, RowIs}
 use Rattle.sheets.specs.declared.library.NumberedCell.{NumberedCell}
@@ -38,6 +38,12 @@ use Rattle.sheets.proofs.Rows.{row-written, length-row}
 -- One element more.
 pub padded-more : {A : Type 0} (n : ℕ) (blank v : A) (xs : List A) (k : ℕ) → k ≡ length xs → set (padded n blank xs) k v ≡ padded n blank (xs ++ (v ∷ []))
 padded-more n blank v xs k e = ap (λ (i : ℕ). set (padded n blank xs) i v) (e ∙ sym (zero-add (length xs))) ∙ sym (sets-append _ 0 xs (v ∷ []))
+
+-- One word more of what is copied.
+pub copy-more : (l d : List ℕ) (k : ℕ) → k < length d → set (sets l 0 (take k d)) k (getD d k 0) ≡ sets l 0 (take (k + 1) d)
+copy-more l d k h =
+    let there : 0 + length (take k d) ≡ k = zero-add (length (take k d)) ∙ length-take-le k d (omega arith) in
+    sym (rw add-one (ap (sets l 0) (take-suc d k 0 h)) ∙ sets-append l 0 (take k d) (getD d k 0 ∷ []) ∙ ap (λ (i : ℕ). set (sets l 0 (take k d)) i (getD d k 0)) there)
 
 -- What a padded array holds.
 pub in-padded : {A : Type 0} (n : ℕ) (blank d : A) (xs : List A) (k : ℕ) → length xs ≤ n → k < length xs → getD (padded n blank xs) k d ≡ getD xs k d
@@ -91,69 +97,56 @@ unfolding complete
 complete-whole first (At c) = refl
 complete-whole first (Refused f p) = refl
 
--- A pattern that has the first n pins and not the next lacks a pin.
-pub lacks : (pins n : ℕ) (l : List ℕ) → n < pins → elem (2 + n) l ≡ false → hasAll pins l ≡ false
-unfolding hasAll
-lacks zero n l h e = absurd (omega arith)
-lacks (suc k) n l h e = go (λ q. lacks k n l q e) (eq-or-lt-of-le (le-of-suc-le-suc h))
-  where
-    and-false : (b : Bool) → (b && false) ≡ false
-    and-false true = refl
-    and-false false = refl
-
-    go : (n < k → hasAll k l ≡ false) → (n ≡ k) ⊎ (n < k) → (hasAll k l && elem (2 + k) l) ≡ false
-    go rec (inl q) = ap (λ (b : Bool). hasAll k l && b) (ap (λ (i : ℕ). elem (2 + i) l) (sym q) ∙ e) ∙ and-false (hasAll k l)
-    go rec (inr q) = ap (λ (b : Bool). b && elem (2 + k) l) (rec q)
-
--- One pin more.
-pub has-more : (n : ℕ) (l : List ℕ) → hasAll n l ≡ true → elem (2 + n) l ≡ true → hasAll (n + 1) l ≡ true
-unfolding hasAll
-has-more n l h e = rw (add-one, hasAll, h) e
-
 complete-near : (whole : Bool) (first : ℕ) (c : Scan) (b : ℕ) → first ≤ b → place c ≤ b → place (complete whole first c) ≤ b
 unfolding complete
 complete-near true first (At c) b h g = g
 complete-near false first (At c) b h g = h
 complete-near whole first (Refused f p) b h g = g
 
-pub pattern-is : (s : List ℕ) (pins most : ℕ) (scan : Scan) (l m l′ m′ : List ℕ) (read : Branch) (whole : Bool) (first : ℕ) (res : Scan) →
-    most ≡ pins - 1 → length l ≡ 16 → NodeRead s (record { width = 3; most = most; nodes = 16; pattern = true }) scan 0 l m l′ m′ read →
-    whole ≡ hasAll pins (take (read .next) l′) → first ≡ place scan → res ≡ complete whole first (read .scan) →
-    PatternIs s pins scan l l′ (record { scan = res; size = read .next })
-unfolding pattern shape
-pattern-is s pins most scan l m l′ m′ read whole first res em el h ew ef er = go (live? (read .scan))
+-- All pins, where there may be none.
+has-pins : (pins : ℕ) (l : List ℕ) → (eqb pins 0 || hasAll (suc (pins - 1)) l) ≡ hasAll pins l
+unfolding hasAll
+has-pins zero l = refl
+has-pins (suc n) l =
+    let one : suc (suc n - 1) ≡ suc n = omega arith in
+    rw (ne-eqb (suc n) 0 (λ e. omega arith)) (ap (λ (k : ℕ). hasAll k l) one)
+
+pub pattern-is : (s : List ℕ) (pins most : ℕ) (scan : Scan) (l l′ d : List ℕ) (read : ShapeRead) (whole : Bool) (first : ℕ) (res : Scan) →
+    most ≡ pins - 1 → length l ≡ 16 → ShapeIs s (record { width = 3; most = most; nodes = 16; pattern = true }) scan (replicate 64 0) d read →
+    whole ≡ (eqb pins 0 || read .whole) → l′ ≡ sets l 0 (take (read .size) d) → first ≡ place scan → res ≡ complete whole first (read .scan) →
+    PatternIs s pins scan l l′ (record { scan = res; size = read .size })
+unfolding pattern
+pattern-is s pins most scan l l′ d read whole first res em el h ew ed ef er = go (live? (read .scan))
   where
-    here : NodeRead s (patternRules pins) scan 0 l m l′ m′ read
-    here = subst (λ (k : ℕ). NodeRead s (record { width = 3; most = k; nodes = 16; pattern = true }) scan 0 l m l′ m′ read) em h
+    here : ShapeIs s (patternRules pins) scan (replicate 64 0) d read
+    here = subst (λ (k : ℕ). ShapeIs s (record { width = 3; most = k; nodes = 16; pattern = true }) scan (replicate 64 0) d read) em h
 
     x : Shape × Scan
     x = shape s (patternRules pins) scan
 
-    laid : Laid 0 l m l′ m′ read (x .1) (symbols (x .0)) (sizes (x .0))
-    laid = here .laid 17 (omega arith)
-
     near : place res ≤ place scan + patternBits
-    near = rw er (complete-near whole first (read .scan) (place scan + patternBits) (omega arith) (omega (arith, here .went .near)))
+    near = rw er (complete-near whole first (read .scan) (place scan + patternBits) (omega arith) (here .near))
 
-    go : Dec (Live (read .scan)) → PatternIs s pins scan l l′ (record { scan = res; size = read .next })
+    go : Dec (Live (read .scan)) → PatternIs s pins scan l l′ (record { scan = res; size = read .size })
     go (yes z) =
-        let seen : take (read .next) l′ ≡ symbols (x .0) =
-        ap₂ (λ (i : ℕ) (k : List ℕ). take i k) (laid .next z) (laid .symbols z)
-        ∙ take-sets l 0 (symbols (x .0)) (omega (arith, laid .next z, here .went .upto)) in
+        let drawn : take (read .size) d ≡ symbols (x .0) =
+        ap₂ (λ (i : ℕ) (k : List ℕ). take i k) (here .size-is z ∙ sym (zero-add (length (symbols (x .0))))) (here .symbols-are z)
+        ∙ take-sets (replicate 64 0) 0 (symbols (x .0)) (omega (arith, here .size-is z, here .few, length-replicate {A = ℕ} 64 0)) in
+        let all : whole ≡ hasAll pins (symbols (x .0)) = ew ∙ ap (λ (w : Bool). eqb pins 0 || w) (here .whole-is z refl) ∙ has-pins pins (symbols (x .0)) in
         record {
-          scan-is = er ∙ ap₂ (λ (w : Bool) (c : Scan). complete w first c) (ew ∙ ap (hasAll pins) seen) (laid .scan) ∙ ap (λ (k : ℕ). complete (hasAll pins (symbols (x .0))) k (x .1)) ef;
-          size-is = λ q. laid .next z ∙ zero-add (length (symbols (x .0))) ∙ length-symbols (x .0);
-          small = here .went .upto;
-          laid = λ q. laid .symbols z;
+          scan-is = er ∙ ap₂ (λ (w : Bool) (c : Scan). complete w first c) all (here .scan-is) ∙ ap (λ (k : ℕ). complete (hasAll pins (symbols (x .0))) k (x .1)) ef;
+          size-is = λ q. here .size-is z ∙ length-symbols (x .0);
+          small = here .few;
+          laid = λ q. ed ∙ ap (sets l 0) drawn;
           near = near;
         }
     go (no z) =
         let res-is : res ≡ read .scan = er ∙ complete-dead whole first (read .scan) z in
         let dead : Live res → ⊥ = λ q. z (subst Live res-is q) in
         record {
-          scan-is = res-is ∙ laid .scan ∙ sym (complete-dead (hasAll pins (symbols (x .0))) (place scan) (x .1) (λ q. z (subst Live (sym (laid .scan)) q)));
+          scan-is = res-is ∙ here .scan-is ∙ sym (complete-dead (hasAll pins (symbols (x .0))) (place scan) (x .1) (λ q. z (subst Live (sym (here .scan-is)) q)));
           size-is = λ q. absurd (dead q);
-          small = here .went .upto;
+          small = here .few;
           laid = λ q. absurd (dead q);
           near = near;
         }

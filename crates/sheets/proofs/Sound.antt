@@ -11,14 +11,14 @@ use Rattle.fields.specs.declared.Scan.{Scan}
 use Rattle.fields.specs.declared.Verdict.the-variants.{Sound}
 use Rattle.fields.specs.Reading.{Reader, place, times, within, field, start}
 use Rattle.shapes.specs.Shape.{symbols}
-use Rattle.shapes.specs.Drawing.{codeVerdict, leafVerdict, leafNode, pair, branch, node, shape}
+use Rattle.shapes.specs.Drawing.{hasAll, codeVerdict, leafVerdict, leafNode, pair, branch, node, shape}
 use Rattle.fields.specs.Promises.{Live}
 use Rattle.fields.proofs.Laws.{live-sound, range-least, range-passes, length-times}
 use Rattle.shapes.proofs.Laws.{code-room}
 use Rattle.shapes.proofs.Pins.{fresh, fresh-few, fresh-append, fresh-leaf}
 use Rattle.shapes.proofs.Drawn.{leaf-passes, length-symbols, leaves-nands, node-live}
 use Rattle.sheets.specs.Model.{Shape, size, leaves, Pin, Cell, patternsFrom, patterns}
-use Rattle.sheets.specs.LibrarySheet.{Head, last, binLoad, head, pin, patternRules, hasAll, pattern, countVerdict, drawings, cell, bins, cells, library}
+use Rattle.sheets.specs.LibrarySheet.{Head, last, binLoad, head, pin, patternRules, pattern, countVerdict, drawings, cell, bins, cells, library}
 use Rattle.sheets.specs.TreeSheet.{tree, treeRules}
 use Rattle.sheets.specs.Inside.{cellAfter}
 use Rattle.sheets.specs.Sound.{IsGate, SoundDrawing, SoundPin, SoundCell, SoundLibrary, SoundTree}

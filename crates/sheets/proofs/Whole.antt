@@ -5,21 +5,22 @@ use mathlib.Core.Bool.{Bool, true, false, cond}
 use Prim.Native.Nat.{ℕ, _+_, _≤_}
 use native.Mathlib.Nat.{zero-add}
 use native.Mathlib.Omega.{arith}
-use lib.ListN.{length, replicate}
+use lib.ListN.{length, replicate, take, length-replicate}
+use Rattle.fields.proofs.Lists.{take-sets}
 use Rattle.bits.specs.Bits.{placeOf, endsAt}
 use Rattle.bits.specs.declared.Cursor.{Cursor}
-use Rattle.shapes.specs.declared.Branch.{Branch}
+use Rattle.shapes.specs.declared.ShapeRead.{ShapeRead}
 use Rattle.fields.specs.declared.Fault.{Fault}
 use Rattle.fields.specs.declared.Fault.the-variants.{Truncated, Tail, Range, Drawing, Size}
 use Rattle.fields.specs.Answer.{refused, success, Bounded}
 use Rattle.fields.specs.declared.Got.{Got}
 use Rattle.fields.specs.declared.Scan.{Scan}
 use Rattle.fields.specs.declared.Scan.the-variants.{At, Refused}
-use Rattle.shapes.specs.Shape.{symbols, sizes}
+use Rattle.shapes.specs.Shape.{symbols}
 use Rattle.fields.specs.Reading.{start, place, times, field, within, ended}
-use Rattle.shapes.specs.Drawing.{shape, node}
+use Rattle.shapes.specs.Drawing.{shape}
 use Rattle.fields.specs.Promises.{Live, Reads}
-use Rattle.shapes.specs.Promises.{Laid, NodeRead}
+use Rattle.shapes.specs.Promises.{ShapeIs, Preorder, SizesSet}
 use Rattle.fields.proofs.Laws.{start-place, value-at, scan-at, length-times}
 use Rattle.shapes.proofs.Drawn.{length-symbols}
 use Rattle.sheets.specs.declared.library.Bins.{Bins}
@@ -51,34 +52,45 @@ ended-place s (At c) = go (endsAt s (placeOf c))
     go false = refl
 ended-place s (Refused f p) = refl
 
-pub tree-is : (s : List ℕ) (c : Scan) (load req : Got) (read : Branch) (l′ m′ : List ℕ) (res : Scan) → c ≡ start →
+-- A tree's symbols, as many as its nodes.
+pub drawn-is : (s : List ℕ) (c : Scan) (l′ : List ℕ) (read : ShapeRead) → ShapeIs s treeRules c (replicate 64 0) l′ read → Live (read .scan) →
+    take (read .size) l′ ≡ symbols (shape s treeRules c .0)
+drawn-is s c l′ read h z =
+    let X = shape s treeRules c in
+    ap₂ (λ (i : ℕ) (k : List ℕ). take i k) (h .size-is z ∙ sym (zero-add (length (symbols (X .0))))) (h .symbols-are z)
+    ∙ take-sets (replicate 64 0) 0 (symbols (X .0)) (omega (arith, h .size-is z, h .few, length-replicate {A = ℕ} 64 0))
+
+-- So they are the symbols of a shape.
+pub tree-preorder : (s : List ℕ) (c : Scan) (l′ : List ℕ) (read : ShapeRead) → ShapeIs s treeRules c (replicate 64 0) l′ read → Live (read .scan) → Preorder (read .size) l′
+tree-preorder s c l′ read h z = record { many = omega (arith, h .few, h .wide); shape = shape s treeRules c .0; laid = drawn-is s c l′ read h z }
+
+pub tree-is : (s : List ℕ) (c : Scan) (load req : Got) (read : ShapeRead) (l′ m′ : List ℕ) (res : Scan) → c ≡ start →
     Reads load (field s 8 (within 0 255) c) (place c + 8) 255 → Reads req (field s 24 (within 0 16777215) (load .scan)) (place (load .scan) + 24) 16777215 →
-    NodeRead s treeRules (req .scan) 0 (replicate 64 0) (replicate 64 0) l′ m′ read → res ≡ ended s (read .scan) →
-    TreeIs s (record { scan = res; tree = record { load = load .value; required = req .value; count = read .next; symbols = l′; sizes = m′ } })
-unfolding tree shape treeLaid
-tree-is s c load req read l′ m′ res ec hl hr hn er =
+    ShapeIs s treeRules (req .scan) (replicate 64 0) l′ read → (Live (read .scan) → SizesSet (read .size) l′ (replicate 64 0) m′) → res ≡ ended s (read .scan) →
+    TreeIs s (record { scan = res; tree = record { load = load .value; required = req .value; count = read .size; symbols = l′; sizes = m′ } })
+unfolding tree treeLaid
+tree-is s c load req read l′ m′ res ec hl hr h₀ hs er =
     let L = field s 8 (within 0 255) start in
     let R = field s 24 (within 0 16777215) (L .1) in
-    let X = node s treeRules 65 [] (R .1) in
+    let X = shape s treeRules (R .1) in
     let at-load = scan-at s 8 (within 0 255) c hl ec in
     let at-shape = scan-at s 24 (within 0 16777215) (load .scan) hr at-load in
-    let laid : Laid 0 (replicate 64 0) (replicate 64 0) l′ m′ read (X .1) (symbols (X .0)) (sizes (X .0)) =
-    subst (λ (q : Scan). let x = node s treeRules 65 [] q in Laid 0 (replicate 64 0) (replicate 64 0) l′ m′ read (x .1) (symbols (x .0)) (sizes (x .0))) at-shape
-    (hn .laid 65 (omega arith)) in
+    let h : ShapeIs s treeRules (R .1) (replicate 64 0) l′ read = subst (λ (q : Scan). ShapeIs s treeRules q (replicate 64 0) l′ read) at-shape h₀ in
     record {
-      scan-is = er ∙ ap (ended s) (laid .scan);
+      scan-is = er ∙ ap (ended s) (h .scan-is);
       laid = λ q.
           let z : Live (read .scan) = ended-live s (read .scan) (subst Live er q) in
-          let counted = laid .next z ∙ zero-add (length (symbols (X .0))) ∙ length-symbols (X .0) in
+          let counted = h .size-is z ∙ length-symbols (X .0) in
+          let sized = hs z (X .0) (drawn-is s (R .1) l′ read h z) in
           λ i. record {
             load = value-at s 8 (within 0 255) c hl ec i;
             required = value-at s 24 (within 0 16777215) (load .scan) hr at-load i;
             count = counted i;
-            symbols = laid .symbols z i;
-            sizes = laid .sizes z i;
+            symbols = h .symbols-are z i;
+            sizes = sized i;
           };
-      nodes-few = hn .went .upto;
-      near = omega (arith, ap place er, ended-place s (read .scan), hn .went .near, hl .near, hr .near, ap place ec, start-place);
+      nodes-few = h .few;
+      near = omega (arith, ap place er, ended-place s (read .scan), h₀ .near, hl .near, hr .near, ap place ec, start-place);
     }
 
 -- The bin loads in their array, and in the rows of patterns.

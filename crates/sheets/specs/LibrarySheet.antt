@@ -11,8 +11,8 @@ use Rattle.fields.specs.declared.Scan.the-variants.{At, Refused}
 use Rattle.fields.specs.declared.Verdict.{Verdict}
 use Rattle.fields.specs.declared.Verdict.the-variants.{Faulty}
 use Rattle.fields.specs.Reading.{Reader, done, _>>=_, times, within, field, ended, place}
-use Rattle.shapes.specs.Shape.{symbols, leafSymbol}
-use Rattle.shapes.specs.Drawing.{elem, shape}
+use Rattle.shapes.specs.Shape.{symbols}
+use Rattle.shapes.specs.Drawing.{hasAll, shape}
 use Rattle.sheets.specs.Model.{Shape, Pin, Cell, Library, patternsFrom}
 
 -- The load of the last bin before, or 0.
@@ -35,11 +35,6 @@ countVerdict total x = cond (leb (total + x) 128) (within 1 7 x) (Faulty Size)
 -- A pattern of a cell with so many pins: at most 16 nodes, its leaves numbered in 3 bits.
 abbrev pub patternRules : ℕ → Rules
 patternRules pins = record { width = 3; most = pins - 1; nodes = 16; pattern = true }
-
--- Each of the first n pins stands at a leaf of a shape with these symbols.
-unfoldable pub hasAll : ℕ → List ℕ → Bool
-hasAll zero nodes = true
-hasAll (suc n) nodes = hasAll n nodes && elem (leafSymbol n) nodes
 
 -- A pattern that lacks a pin is refused at its first bit, after its last node.
 unfoldable pub complete : Bool → ℕ → Scan → Scan

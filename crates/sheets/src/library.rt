@@ -5,13 +5,14 @@ use fields::Scan;
 use fields::Verdict;
 use shapes::Rules;
 ghost use mathlib.Core.Path.{_≡_};
-ghost use mathlib.Core.Bool.{cond};
+ghost use mathlib.Core.Bool.{cond, _||_};
+ghost use lib.Dec.{eqb};
 ghost use mathlib.Core.List.{[], _∷_};
 ghost use Prim.Native.Nat.{_+_, _-_, _*_, _≤_};
 ghost use lib.ListN.{length, take};
 ghost use lib.Seq.{sets};
 ghost use Rattle.fields.specs.Answer.{onSuccess, Bounded};
-ghost use Rattle.sheets.specs.LibrarySheet.{hasAll, complete, countVerdict};
+ghost use Rattle.sheets.specs.LibrarySheet.{complete, countVerdict};
 ghost use Rattle.sheets.specs.Layout.{rowWords, tableWords, figuresAt, pinsMost, figures, cellWords};
 ghost use Rattle.sheets.specs.Reach.{InReach, binBits, headBits, pinBits, patternBits, countBits, drawingsBits, cellBits};
 ghost use Rattle.sheets.specs.Inside.{BinsAre, HeadIs, PinIs, PinsAre, PatternIs, RowIs, RowsAre, DrawingsAre, CountIs, CellIs, CellsAre};
@@ -246,19 +247,14 @@ pub struct CellsRead {
     pub total: usize,
 }
 
-// Whether each of the first `pins` pins stands at a leaf among the first `n` symbols.
-fn has_pins(symbols: &[u32], n: usize, pins: u32) -> bool
-    requires { ⌜ (n ≤ length (now symbols)) × (pins ≤ 6) ⌝ }
-    ensures { λ r. ⌜ r ≡ hasAll pins (take n (now (symbols .entry))) ⌝ }
+// Whether a pattern has so many pins: `whole` says it of one pin or more.
+fn has_pins(pins: u32, whole: bool) -> bool
+    ensures { λ r. ⌜ r ≡ (eqb pins 0 || whole) ⌝ }
 {
-    let mut p = 0;
-    while p < pins {
-        if !shapes::contains(symbols, n, 2 + p) {
-            return false;
-        }
-        p += 1;
+    if pins == 0 {
+        return true;
     }
-    true
+    whole
 }
 
 // The scan after a pattern that starts at `first`, which may lack a pin.
@@ -274,6 +270,18 @@ fn completed(whole: bool, first: usize, after: Scan) -> Scan
     Scan::Refused(Fault::Drawing, first)
 }
 
+// Copies the first `n` symbols of a shape.
+fn copy(drawn: &[u32], n: usize, symbols: &mut [u32])
+    requires { ⌜ (n ≤ length (now drawn)) × (n ≤ length (now symbols)) ⌝ }
+    ensures { λ _. ⌜ now (symbols .exit) ≡ sets (now (symbols .entry)) 0 (take n (now (drawn .entry))) ⌝ }
+{
+    let mut k = 0;
+    while k < n {
+        symbols[k] = drawn[k];
+        k += 1;
+    }
+}
+
 // A pattern of a cell with so many pins.
 fn read_pattern(scan: Scan, s: &[u8], pins: u32, symbols: &mut [u32]) -> PatternRead
     requires { ⌜ (pins ≤ 6) × (length (now symbols) ≡ 16) × InReach scan patternBits ⌝ }
@@ -285,13 +293,13 @@ fn read_pattern(scan: Scan, s: &[u8], pins: u32, symbols: &mut [u32]) -> Pattern
         nodes: Limits::PATTERN_NODES,
         pattern: true,
     };
-    let mut sizes = [0u8; Limits::PATTERN_NODES];
-    let read = shapes::read_node(scan, s, rules, 0, symbols, &mut sizes);
+    let mut drawn = [0u32; Rules::NODES];
+    let read = shapes::read_shape(scan, s, rules, &mut drawn);
     let after = read.scan;
-    let size = read.next;
-    let whole = has_pins(symbols, size, pins);
+    let size = read.size;
+    copy(&drawn, size, symbols);
     PatternRead {
-        scan: completed(whole, fields::place_of(scan), after),
+        scan: completed(has_pins(pins, read.whole), fields::place_of(scan), after),
         size: size as u32,
     }
 }

@@ -5,7 +5,10 @@ use fields::Scan;
 use shapes::Rules;
 ghost use mathlib.Core.Path.{_≡_};
 ghost use Prim.Native.Nat.{_≤_};
+ghost use lib.ListN.{replicate};
 ghost use Rattle.fields.specs.Answer.{Bounded};
+ghost use Rattle.fields.specs.Promises.{Live};
+ghost use Rattle.shapes.specs.Promises.{Preorder, SizesSet};
 ghost use Rattle.sheets.specs.Public.{TreeIs};
 ghost use Rattle.sheets.specs.Report.{ofTreeJudged, TreeLimits, treeReport, treeNumber};
 
@@ -30,6 +33,20 @@ pub struct TreeRead {
     pub tree: TreeRecord,
 }
 
+// The sizes of the nodes of a tree that was read.
+fn sizes_of(read: Scan, symbols: &[u32], n: usize) -> [u8; Limits::TREE_NODES]
+    requires { ⌜ (Live read → Preorder n (now symbols)) ⌝ }
+    requires { ⌜ n ≤ 64 ⌝ }
+    ensures { λ r. ⌜ (Live read → SizesSet n (now (symbols .entry)) (replicate 64 0) r) ⌝ }
+{
+    let mut sizes = [0u8; Limits::TREE_NODES];
+    let Scan::At(_) = read else {
+        return sizes;
+    };
+    shapes::set_sizes(symbols, n, &mut sizes);
+    sizes
+}
+
 // The tree sheet.
 pub fn read_tree(s: &[u8]) -> TreeRead
     ensures { λ r. ⌜ TreeIs (now (s .entry)) r ⌝ }
@@ -46,15 +63,16 @@ pub fn read_tree(s: &[u8]) -> TreeRead
         pattern: false,
     };
     let mut symbols = [0u32; Limits::TREE_NODES];
-    let mut sizes = [0u8; Limits::TREE_NODES];
-    let read = shapes::read_node(at, s, rules, 0, &mut symbols, &mut sizes);
+    let read = shapes::read_shape(at, s, rules, &mut symbols);
     let at = read.scan;
+    let size = read.size;
+    let sizes = sizes_of(at, &symbols, size);
     TreeRead {
         scan: fields::end(at, s),
         tree: TreeRecord {
             load: load.value as u8,
             required: required.value,
-            count: read.next,
+            count: size,
             symbols,
             sizes,
         },

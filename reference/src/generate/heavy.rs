@@ -120,7 +120,7 @@ pub fn full() -> Problem {
 }
 
 /// A NAND tree of this depth, every branch alike.
-fn balanced(depth: usize, arrivals: &mut impl Iterator<Item = u32>, steps: &mut Vec<Step>) {
+pub(super) fn balanced(depth: usize, arrivals: &mut impl Iterator<Item = u32>, steps: &mut Vec<Step>) {
     if depth == 0 {
         steps.push(Leaf(arrivals.next().expect("an arrival for each leaf")));
         return;

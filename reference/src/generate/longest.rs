@@ -1,11 +1,14 @@
-//! The longest sound library: 4 bins, 64 cells of 6 pins, 128 patterns of 16 nodes.
+//! The longest sound sheets.
 
-use super::parts::pin;
+use super::heavy::balanced;
+use super::parts::{self, pin};
 use super::sound;
 use crate::library::{Cell, Library};
 use crate::rng::Rng;
-use crate::shape::Shape;
+use crate::shape::{Shape, Step};
+use crate::tree::{Tree, LATEST_LEAF, LATEST_REQUIRED};
 
+/// 4 bins, 64 cells of 6 pins, 128 patterns of 16 nodes.
 pub fn library() -> Library {
     let mut rng = Rng::new(64);
     let cells = (1..=64).map(|number| cell(&mut rng, number)).collect();
@@ -27,4 +30,14 @@ fn pattern(rng: &mut Rng) -> Shape {
     let mut pins = [0, 1, 2, 3, 4, 5];
     rng.shuffle(&mut pins);
     sound::shape(rng, &pins, 5)
+}
+
+/// An inverter over a full tree of 31 NANDs: of 64 nodes as many are leaves as can be, 32. The last arrives latest.
+pub fn tree() -> Tree {
+    let mut rng = Rng::new(32);
+    let mut arrivals: Vec<u32> = (0..31).map(|_| rng.value(0, LATEST_LEAF)).collect();
+    arrivals.push(LATEST_LEAF);
+    let mut steps = vec![Step::Inv];
+    balanced(5, &mut arrivals.into_iter(), &mut steps);
+    parts::tree(5, LATEST_REQUIRED, &steps)
 }

@@ -21,7 +21,7 @@ returns : tie.Need-returns
 returns c = search needs
 
 place-requires : tie.Need-place-requires
-place-requires c κs = search needs
+place-requires c κs = omega (arith, ap place (c .before .scan .given .1))
 
 ends-requires : tie.Need-ends-requires
 ends-requires c κs = omega (arith, ap place (c .before .before .scan .given .1))

@@ -1,4 +1,5 @@
 use borrow.Author.Needs.{needs}
+use native.Mathlib.Omega.{arith}
 use mathlib.Core.Path.{sym, ap, _∙_}
 use Rattle.fields.specs.Reading.{place}
 use Rattle.fields.proofs.place_of.Statement.{statement}
@@ -8,7 +9,7 @@ enum-known-scan : tie.Need-enum-known-scan
 enum-known-scan c = search needs
 
 place-requires : tie.Need-place-requires
-place-requires c κs = search needs
+place-requires c κs = omega (arith, ap place (c .before .scan .given .1))
 
 enum-known-scan-2 : tie.Need-enum-known-scan-2
 enum-known-scan-2 c = search needs

@@ -1,12 +1,13 @@
 use borrow.Author.Needs.{needs}
 use native.Mathlib.Omega.{arith}
-use Prim.Native.Nat.{ℕ}
+use Prim.Native.Nat.{ℕ, _^_, _≤_}
 use mathlib.Core.Path.{ap, sym, _∙_}
+use lib.Pow.{pow-mono}
 use Rattle.fields.specs.declared.Fault.the-variants.{Truncated}
 use Rattle.fields.specs.declared.Scan.the-variants.{Refused}
 use Rattle.bits.specs.Bits.{placeOf}
 use Rattle.fields.specs.Reading.{place, taken, free}
-use Rattle.fields.proofs.Laws.{reads-taken}
+use Rattle.fields.proofs.Laws.{found-fits, reads-taken}
 use Rattle.fields.proofs.raw.Statement.{statement}
 use Rattle.fields.proofs.raw.Tie as tie
 
@@ -20,7 +21,7 @@ returns : tie.Need-returns
 returns c = search needs
 
 place-requires : tie.Need-place-requires
-place-requires c κs = search needs
+place-requires c κs = omega (arith, ap place (c .before .scan .given .1))
 
 field-requires : tie.Need-field-requires
 field-requires c κs = omega (arith, ap place (c .before .before .scan .given .1))
@@ -37,6 +38,14 @@ returns-2 c =
     let k = c .before .before .before .before .before .scan .given in
     reads-taken (a .s .now) (a .width) (a .scan) (k .0 .0) (c .before .before .field .result) _ (k .1) (c .before .before .field .ensures)
     (ap (λ (p : ℕ). (0, Refused Truncated p)) (c .before .before .before .place .ensures) ∙ ap (taken (placeOf (k .0 .0)) free) (sym (c .enum-told2 .given .1)))
+
+cast-t11 : tie.Need-cast-t11
+cast-t11 c =
+    let a = c .before .before .before .before .before .before .before .before .before .args in
+    let field = c .before .before .before .field in
+    let few : a .width ≤ 24 = omega arith in
+    let top : 2 ^ a .width ≤ 16777216 = pow-mono few in
+    omega (arith, top, found-fits (a .s .now) _ (a .width) _ _ (field .result) (field .ensures) (c .before .value .given .1))
 
 returns-3 : tie.Need-returns-3
 returns-3 c =
@@ -57,4 +66,5 @@ raw-spec =
     enum-known-value
     enum-told-2
     returns-2
+    cast-t11
     returns-3)

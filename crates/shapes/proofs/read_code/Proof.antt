@@ -1,26 +1,66 @@
+use native.Mathlib.Omega.{arith}
+use Prim.Native.Nat.{ℕ}
+use mathlib.Core.Path.{sym, ap, subst, _∙_}
+use mathlib.Core.List.{List}
+use Rattle.bits.specs.declared.Cursor.{Cursor}
+use Rattle.bits.specs.Bits.{placeOf, fieldAt}
+use Rattle.shapes.specs.declared.NodeCode.the-variants.{Code}
+use Rattle.shapes.specs.Promises.{CodeRead}
+use Rattle.shapes.proofs.Steps.{code-torn, code-faulty, code-sound}
 use borrow.Author.Needs.{needs}
-use Rattle.shapes.specs.Drawing.{codeVerdict}
-use Rattle.fields.proofs.Laws.{settled-field, both}
-use Rattle.shapes.proofs.Laws.{coded, code-room}
 use Rattle.shapes.proofs.read_code.Statement.{statement}
 use Rattle.shapes.proofs.read_code.Tie as tie
 
-raw-requires : tie.Need-raw-requires
-raw-requires c κs = search needs
+stood-requires : tie.Need-stood-requires
+stood-requires c κs = search needs
 
-code-verdict-requires : tie.Need-code-verdict-requires
-code-verdict-requires c κs = search needs
+field-of-requires : tie.Need-field-of-requires
+field-of-requires c κs =
+    let at = c .stood .ensures in
+    omega (arith, ap (λ (k : Cursor). k .used) at, ap (λ (k : Cursor). k .byte) at)
 
-settle-requires : tie.Need-settle-requires
-settle-requires c κs = search needs
+enum-known-code : tie.Need-enum-known-code
+enum-known-code c = search needs
+
+enum-told : tie.Need-enum-told
+enum-told c = search needs
 
 returns : tie.Need-returns
-returns c =
-    let a = c .before .before .before .before .args in
-    let got = c .before .before .raw in
-    coded (a .s .now) (a .rules) (a .scan) (a .n) (c .settle .result)
-    (settled-field (a .s .now) 2 (codeVerdict (a .rules) (a .n)) (a .scan) (got .result) (c .settle .result) (c .before .code-verdict .result) 2
-    (both (got .ensures)) (c .before .code-verdict .ensures) (c .settle .ensures) (λ x l e. code-room (a .rules) (a .n) x e .1))
+returns c s opens =
+    let a = c .before .before .before .before .before .args in
+    code-torn s (a .rules) (a .words .now) (c .before .before .field-of .result) (c .before .before .before .before .before .pre .0) (c .before .before .before .before .before .pre .1) (c .before .before .field-of .ensures s opens ∙ ap (λ (k : Cursor). fieldAt s (placeOf k) 2) (c .before .before .before .stood .ensures)) (c .enum-told .given .1)
+
+element-copy-out-code-fault : tie.Need-element-copy-out-code-fault
+element-copy-out-code-fault c = search needs
+
+code-fault-requires : tie.Need-code-fault-requires
+code-fault-requires c κs = search needs
+
+returns-2 : tie.Need-returns-2
+returns-2 c s opens =
+    let a = c .before .before .before .before .before .before .before .before .before .args in
+    code-faulty s (a .rules) (a .words .now) (c .before .before .before .before .before .before .field-of .result) (c .before .before .before .before .before .before .before .before .before .pre .0) (c .before .before .before .before .before .before .before .before .before .pre .1) (c .before .before .before .before .before .before .field-of .ensures s opens ∙ ap (λ (k : Cursor). fieldAt s (placeOf k) 2) (c .before .before .before .before .before .before .before .stood .ensures)) (c .before .code-fault .result) _ _ (c .before .before .before .before .code .given .1) (c .if1 .taken) (c .before .code-fault .ensures)
+
+stand-requires : tie.Need-stand-requires
+stand-requires c κs = search needs
+
+returns-3 : tie.Need-returns-3
+returns-3 c s opens =
+    let a = c .before .before .before .before .before .before .before .before .before .before .before .args in
+    subst (λ (w : List ℕ). CodeRead s (a .rules) (a .words .now) w (Code (c .before .before .before .before .before .before .code .given .0 .0))) (sym (c .stand .ensures))
+    (code-sound s (a .rules) (a .words .now) (c .before .before .before .before .before .before .before .before .field-of .result) (c .before .before .before .before .before .before .before .before .before .before .before .pre .0) (c .before .before .before .before .before .before .before .before .before .before .before .pre .1) (c .before .before .before .before .before .before .before .before .field-of .ensures s opens ∙ ap (λ (k : Cursor). fieldAt s (placeOf k) 2) (c .before .before .before .before .before .before .before .before .before .stood .ensures)) (c .before .before .before .code-fault .result) _ _ (c .before .before .before .before .before .before .code .given .1) (c .before .before .if1 .left) (c .before .before .before .code-fault .ensures))
 
 pub read-code-spec : {M : Type 1} → statement M
-read-code-spec = tie.close (tie.spec raw-requires code-verdict-requires settle-requires returns)
+read-code-spec =
+    tie.close
+    (tie.spec
+    stood-requires
+    field-of-requires
+    enum-known-code
+    enum-told
+    returns
+    element-copy-out-code-fault
+    code-fault-requires
+    returns-2
+    stand-requires
+    returns-3)

@@ -1,94 +1,103 @@
-use borrow.Author.Needs.{needs}
 use native.Mathlib.Omega.{arith}
-use Prim.Native.Nat.{_+_, _^_, _≤_}
-use mathlib.Core.Path.{subst, sym}
-use lib.ListN.{take}
-use lib.Pow.{pow-mono}
-use Rattle.fields.specs.Reading.{place, field}
-use Rattle.shapes.specs.Drawing.{leafVerdict}
-use Rattle.fields.specs.Promises.{Reads, Live}
-use Rattle.fields.proofs.Laws.{settled-field, both}
-use Rattle.shapes.proofs.Drawn.{leaf-passes, leaf-dead, leaf-live}
+use Prim.Native.Nat.{ℕ, _+_, _≤_}
+use mathlib.Core.Path.{ap, subst, _∙_}
+use mathlib.Core.List.{List}
+use lib.ListN.{set}
+use Rattle.bits.specs.declared.Cursor.{Cursor}
+use Rattle.bits.specs.Bits.{placeOf, fieldAt}
+use Rattle.shapes.specs.Promises.{nextOf, Marked}
+use Rattle.shapes.proofs.Steps.{leaf-most, leaf-torn, leaf-faulty, leaf-sound}
+use borrow.Author.Needs.{needs}
 use Rattle.shapes.proofs.read_leaf.Statement.{statement}
 use Rattle.shapes.proofs.read_leaf.Tie as tie
+
+stood-requires : tie.Need-stood-requires
+stood-requires c κs = search needs
+
+field-of-requires : tie.Need-field-of-requires
+field-of-requires c κs =
+    let at = c .stood .ensures in
+    omega (arith, ap (λ (k : Cursor). k .used) at, ap (λ (k : Cursor). k .byte) at, c .before .before .pre .inside, c .before .before .pre .rules-are .width)
+
+enum-known-number : tie.Need-enum-known-number
+enum-known-number c = search needs
 
 enum-told : tie.Need-enum-told
 enum-told c = search needs
 
--- the leaf that was read, and the scan before it
-read : (c : tie.After-struct-known) →
-    let a = c .before .before .before .before .before .before .before .before .before .before .args in
-    Reads (c .before .settle .result) (field (a .s .now) (a .rules .width) (leafVerdict (a .rules) (take (a .n) (a .symbols .now))) (a .scan)) (place (a .scan) + a .rules .width) (a .rules .most)
-read c =
-    let a = c .before .before .before .before .before .before .before .before .before .before .args in
-    let v = leafVerdict (a .rules) (take (a .n) (a .symbols .now)) in
-    let got = c .before .before .before .before .raw in
-    settled-field (a .s .now) (a .rules .width) v (a .scan) (got .result) (c .before .settle .result) (c .before .before .leaf-verdict .result) (a .rules .most)
-    (both (got .ensures)) (c .before .before .leaf-verdict .ensures) (c .before .settle .ensures) (λ x l e. leaf-passes (a .rules) (take (a .n) (a .symbols .now)) x e .0)
-
-live : (c : tie.After-struct-known) → Live (c .before .before .before .before .before .before .before .before .before .before .args .scan)
-live c = subst Live (sym (c .before .before .before .before .before .enum-told .given .1)) tt
-
-enum-told-2 : tie.Need-enum-told-2
-enum-told-2 c = search needs
-
 returns : tie.Need-returns
-returns c =
+returns c s opens =
     let a = c .before .before .before .before .before .args in
-    leaf-dead (a .s .now) (a .rules) (a .scan) (a .n) (a .symbols .now) (a .sizes .now) (λ l. subst Live (c .enum-told2 .given .1) l)
+    let pre = c .before .before .before .before .before .pre in
+    leaf-torn s (a .rules) (a .words .now) (a .symbols .now) (c .before .before .field-of .result) (pre .inside .0) (pre .wide) (c .before .before .field-of .ensures s opens ∙ ap (λ (k : Cursor). fieldAt s (placeOf k) (a .rules .width)) (c .before .before .before .stood .ensures)) (c .enum-told .given .1)
 
-raw-requires : tie.Need-raw-requires
-raw-requires c κs = search needs
+leaf-fault-requires : tie.Need-leaf-fault-requires
+leaf-fault-requires c κs = search needs
 
-leaf-verdict-requires : tie.Need-leaf-verdict-requires
-leaf-verdict-requires c κs =
-    let top : 2 ^ c .before .before .before .before .before .before .before .args .rules .width ≤ 16777216 = pow-mono (c .before .before .before .before .before .before .before .pre .0 .width) in
-    search needs
+returns-2 : tie.Need-returns-2
+returns-2 c s opens =
+    let a = c .before .before .before .before .before .before .before .before .before .args in
+    let pre = c .before .before .before .before .before .before .before .before .before .pre in
+    leaf-faulty s (a .rules) (a .words .now) (a .symbols .now) (c .before .before .before .before .before .before .field-of .result) (pre .inside .0) (pre .wide) (c .before .before .before .before .before .before .field-of .ensures s opens ∙ ap (λ (k : Cursor). fieldAt s (placeOf k) (a .rules .width)) (c .before .before .before .before .before .before .before .stood .ensures)) (c .before .leaf-fault .result) _ _ (c .before .before .before .before .number .given .1) (c .if1 .taken)
+    (c .before .leaf-fault .ensures _ (pre .met))
 
-settle-requires : tie.Need-settle-requires
-settle-requires c κs = search needs
+element-copy-out-n : tie.Need-element-copy-out-n
+element-copy-out-n c = search needs
+
+-- the number is in range
+small : (c : tie.After-n) → c .before .before .before .before .before .number .given .0 .0 ≤ c .before .before .before .before .before .before .before .before .before .before .args .rules .most
+small c = leaf-most (c .before .before .before .before .before .before .before .before .before .before .args .rules) _ (c .before .before .leaf-fault .result) _ (c .before .if1 .left) (c .before .before .leaf-fault .ensures _ (c .before .before .before .before .before .before .before .before .before .before .pre .met))
+
+cast-symbols : tie.Need-cast-symbols
+cast-symbols c = omega (arith, small c, c .before .before .before .before .before .before .before .before .before .before .pre .rules-are .most)
 
 add-symbols : tie.Need-add-symbols
-add-symbols c = omega (arith, read c .small)
+add-symbols c = omega (arith, small c, c .before .before .before .before .before .before .before .before .before .before .pre .rules-are .most)
 
 mul-symbols : tie.Need-mul-symbols
 mul-symbols c = search needs
 
-slice-write-symbols : tie.Need-slice-write-symbols
-slice-write-symbols c = omega (arith, c .before .before .before .before .before .before .before .before .before .before .pre .1 .0 (live c))
+element-write-symbols : tie.Need-element-write-symbols
+element-write-symbols c = search needs
 
-slice-write-sizes : tie.Need-slice-write-sizes
-slice-write-sizes c = omega (arith, c .before .before .before .before .before .before .before .before .before .before .pre .1 .0 (live c))
+stand-requires : tie.Need-stand-requires
+stand-requires c κs = search needs
 
-add-t14 : tie.Need-add-t14
-add-t14 c = search needs
+add-words : tie.Need-add-words
+add-words c = search needs
 
-same-length : tie.Need-same-length
-same-length c = search needs
+element-write-words : tie.Need-element-write-words
+element-write-words c = search needs
 
-same-length-2 : tie.Need-same-length-2
-same-length-2 c = search needs
+mark-requires : tie.Need-mark-requires
+mark-requires c κs p = omega (arith, small (c .before .before .before), c .before .before .before .before .before .before .before .before .before .before .before .before .before .pre .rules-are .pins p)
 
-returns-2 : tie.Need-returns-2
-returns-2 c =
-    let a = c .before .before .before .before .before .before .before .before .before .before .args in
-    leaf-live (a .s .now) (a .rules) (a .scan) (a .n) (a .symbols .now) (a .sizes .now) (c .before .settle .result) (live c) (omega arith) (read c)
+returns-3 : tie.Need-returns-3
+returns-3 c s opens =
+    let a = c .before .before .before .before .before .before .before .before .before .before .before .before .before .before .args in
+    let pre = c .before .before .before .before .before .before .before .before .before .before .before .before .before .before .pre in
+    leaf-sound s (a .rules) (a .words .now) (a .symbols .now) (c .before .before .before .before .before .before .before .before .before .before .before .field-of .result) (pre .inside .0) (pre .wide) (c .before .before .before .before .before .before .before .before .before .before .before .field-of .ensures s opens ∙ ap (λ (k : Cursor). fieldAt s (placeOf k) (a .rules .width)) (c .before .before .before .before .before .before .before .before .before .before .before .before .stood .ensures)) (c .before .before .before .before .before .before .leaf-fault .result) _ _ _ (c .before .before .before .before .before .before .before .before .before .number .given .1)
+    (c .before .before .before .before .before .if1 .left) (c .before .before .before .before .before .before .leaf-fault .ensures _ (pre .met)) (pre .rules-are .width) (λ p. omega (arith, small (c .before .before .before .before), pre .rules-are .pins p)) (omega (arith, pre .room, pre .rules-are .nodes)) (pre .met)
+    (subst (λ (w : List ℕ). Marked (a .rules) (set w 2 (nextOf (a .words .now) + 1)) (c .before .before .before .before .before .before .before .before .before .number .given .0 .0) (c .mark .last .1 .0)) (c .before .before .stand .ensures) (c .mark .ensures))
 
 pub read-leaf-spec : {M : Type 1} → statement M
 read-leaf-spec =
     tie.close
     (tie.spec
+    stood-requires
+    field-of-requires
+    enum-known-number
     enum-told
-    enum-told-2
     returns
-    raw-requires
-    leaf-verdict-requires
-    settle-requires
+    leaf-fault-requires
+    returns-2
+    element-copy-out-n
+    cast-symbols
     add-symbols
     mul-symbols
-    slice-write-symbols
-    slice-write-sizes
-    add-t14
-    same-length
-    same-length-2
-    returns-2)
+    element-write-symbols
+    stand-requires
+    add-words
+    element-write-words
+    mark-requires
+    returns-3)

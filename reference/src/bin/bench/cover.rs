@@ -1,11 +1,14 @@
 //! Judging the covers that map hands over.
 
-use crate::clock::{medians, Contestant};
+use crate::clock::{medians, print_times, Contestant};
 use reference::generate::heavy;
 use reference::operation::{Lent, Operation};
 use reference::verdict::Verdict;
 use reference::{judging, product};
 use std::hint::black_box;
+
+/// How often each judges a cover in a round.
+const CALLS: usize = 150;
 
 /// The three sheets of one row.
 struct Row {
@@ -17,9 +20,8 @@ struct Row {
 pub fn run() {
     for name in heavy::all().iter().map(|(name, _)| name) {
         let row = Row::named(name).expect("a row");
-        let times = medians(101, 50, vec![row.product(), row.reference()]);
         println!("judge the cover of {name}, {} bytes:", row.cover.len());
-        println!("  product {:.0} ns, reference {:.0} ns, ratio {:.2}", times[0], times[1], times[0] / times[1]);
+        print_times(&["product", "reference"], &medians(CALLS, vec![row.product(), row.reference()]));
     }
 }
 

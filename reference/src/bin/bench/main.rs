@@ -3,8 +3,9 @@
 //! `bench`: a table of times and ratios.
 //! `bench repeat COUNT WHO ROW`: so many maps of a row (`typical`, `chain`, `comb`, `deep`, `full`,
 //! `crosscomb`) by `product`, `plain`, `plain_kept`, `merging` or, if it is linked, `before`, or
-//! judgements of its cover by `judge`, for a profiler that counts instructions: two counts, and the
-//! difference is free of what comes before the first one.
+//! judgements of its cover by `judge`; or so many judgements of a sheet (`longest_library`,
+//! `longest_tree`) by `product`, `reference`, `wordwise` or `before`. It is for a profiler that counts
+//! instructions: two counts, and the difference is free of what comes before the first one.
 
 mod clock;
 mod cover;
@@ -13,7 +14,7 @@ mod map;
 
 fn main() {
     let arguments: Vec<String> = std::env::args().skip(1).collect();
-    if cover::repeat(&arguments) || map::repeat(&arguments) {
+    if judge::repeat(&arguments) || cover::repeat(&arguments) || map::repeat(&arguments) {
         return;
     }
     judge::run();

@@ -1,6 +1,6 @@
 //! Map by the product, by its own method in plain Rust, and by merging curves.
 
-use crate::clock::{medians, Contestant};
+use crate::clock::{medians, print_times, Contestant};
 use reference::deadline::Variant;
 use reference::generate::heavy;
 use reference::generate::problem::Problem;
@@ -31,13 +31,8 @@ pub fn run() {
         let row = Row::of(problem);
         let calls = if name == "typical" { 200 } else { 2 };
         let contestants = who().iter().map(|who| row.contestant(who)).collect();
-        let times = medians(31, calls, contestants);
         println!("map, {name} ({}):", row.size());
-        print!("  product {:.0} ns", times[0]);
-        for (who, time) in who().iter().zip(&times).skip(1) {
-            print!("; {who} {time:.0} ns, ratio {:.3}", times[0] / time);
-        }
-        println!();
+        print_times(&who(), &medians(calls, contestants));
     }
 }
 
@@ -104,7 +99,7 @@ impl Row {
         })
     }
 
-    /// The earlier product's cover sheet has no crossings: of it only area and arrival are compared, with those of
+    /// An earlier product's cover sheet may have no crossings: of it only area and arrival are compared, with those of
     /// the best cover and of the best as drawn.
     #[cfg(feature = "before")]
     fn before(&self) -> Contestant<'_> {

@@ -10,6 +10,7 @@ use std::path::Path;
 pub fn write(directory: &Path) -> io::Result<()> {
     let put = |name: &str, bytes: &[u8]| std::fs::write(directory.join(name), bytes);
     put("longest.library", &Form::of_library(&longest::library()).bytes())?;
+    put("longest.tree", &Form::of_tree(&longest::tree()).bytes())?;
     let specimen = input(&Problem { library: specimen::library(), tree: specimen::tree_b() });
     put("specimen.input", &specimen)?;
     put("specimen.expected", text::printed(&specimen).as_bytes())?;

@@ -1,11 +1,11 @@
-//! Fresh sheets for the two judges.
+//! Fresh sheets for the two judges: the product, the reference and `wordwise` must agree.
 
 use crate::tally::{key, words, Tally};
 use reference::generate::damage::{any_sheet, Kind};
 use reference::hex::hex;
-use reference::product;
 use reference::rng::Rng;
 use reference::verdict::Verdict;
+use reference::{product, wordwise};
 
 pub fn run(count: u64, seed: u64) -> Tally {
     let mut rng = Rng::new(seed);
@@ -20,14 +20,16 @@ pub fn run(count: u64, seed: u64) -> Tally {
 fn compare(tally: &mut Tally, kind: Kind, sheet: &[u8]) {
     let expected = Verdict::of(kind, sheet).coded();
     let actual = product::judge(kind, sheet);
-    if actual == expected {
+    let wordwise = wordwise::judge(kind, sheet);
+    if actual == expected && wordwise == expected {
         tally.agree(key(&format!("{kind:?}").to_lowercase(), actual));
     } else {
-        tally.disagree(|| story(kind, sheet, expected, actual));
+        tally.disagree(|| story(kind, sheet, [expected, actual, wordwise]));
     }
 }
 
-fn story(kind: Kind, sheet: &[u8], expected: u64, actual: u64) -> String {
-    let (expected, actual) = (words(expected), words(actual));
-    format!("  {kind:?} of {} bytes: {}\n  reference: {expected}\n  product: {actual}", sheet.len(), hex(sheet))
+fn story(kind: Kind, sheet: &[u8], verdicts: [u64; 3]) -> String {
+    let [expected, actual, wordwise] = verdicts.map(words);
+    let verdicts = format!("  reference: {expected}\n  product: {actual}\n  wordwise: {wordwise}");
+    format!("  {kind:?} of {} bytes: {}\n{verdicts}", sheet.len(), hex(sheet))
 }

@@ -1,5 +1,5 @@
+use Rattle.sheets.proofs.Whole.{tree-is, tree-preorder}
 use borrow.Author.Needs.{needs}
-use Rattle.sheets.proofs.Whole.{tree-is}
 use Rattle.sheets.proofs.tree.read_tree.Statement.{statement}
 use Rattle.sheets.proofs.tree.read_tree.Tie as tie
 
@@ -12,14 +12,16 @@ ranged-requires c κs = search needs
 ranged-requires-2 : tie.Need-ranged-requires-2
 ranged-requires-2 c κs = search needs
 
-slice-aggregate-read-node : tie.Need-slice-aggregate-read-node
-slice-aggregate-read-node c = search needs
+read-shape-requires : tie.Need-read-shape-requires
+read-shape-requires c κs = search needs
 
-slice-aggregate-read-node-2 : tie.Need-slice-aggregate-read-node-2
-slice-aggregate-read-node-2 c = search needs
+slice-aggregate-sizes-of : tie.Need-slice-aggregate-sizes-of
+slice-aggregate-sizes-of c = search needs
 
-read-node-requires : tie.Need-read-node-requires
-read-node-requires c κs = search needs
+sizes-of-requires : tie.Need-sizes-of-requires
+sizes-of-requires c κs =
+    let read = c .before .read-shape in
+    (tree-preorder _ _ _ (read .result) (read .ensures), read .ensures .few)
 
 end-requires : tie.Need-end-requires
 end-requires c κs = search needs
@@ -29,9 +31,9 @@ cast-t17 c = search needs
 
 returns : tie.Need-returns
 returns c =
-    let read = c .before .before .before .before .read-node in
-    tree-is (c .before .before .before .before .before .before .before .before .before .before .before .args .s .now) (c .before .before .before .before .before .before .before .before .before .begin .result) (c .before .before .before .before .before .before .before .before .ranged .result) (c .before .before .before .before .before .before .before .ranged2 .result) (read .result) (read .last .1 .1 .1 .1 .0) (read .last .1 .1 .1 .1 .1 .0) (c .before .end .result)
-    (c .before .before .before .before .before .before .before .before .before .begin .ensures .0) (c .before .before .before .before .before .before .before .before .ranged .ensures) (c .before .before .before .before .before .before .before .ranged2 .ensures) (read .ensures) (c .before .end .ensures)
+    let read = c .before .before .before .before .read-shape in
+    tree-is (c .before .before .before .before .before .before .before .before .before .before .args .s .now) (c .before .before .before .before .before .before .before .before .begin .result) (c .before .before .before .before .before .before .before .ranged .result) (c .before .before .before .before .before .before .ranged2 .result) (read .result) (read .last .1 .1 .1 .0) (c .before .before .sizes-of .result) (c .before .end .result)
+    (c .before .before .before .before .before .before .before .before .begin .ensures .0) (c .before .before .before .before .before .before .before .ranged .ensures) (c .before .before .before .before .before .before .ranged2 .ensures) (read .ensures) (c .before .before .sizes-of .ensures) (c .before .end .ensures)
 
 pub read-tree-spec : {M : Type 1} → statement M
 read-tree-spec =
@@ -40,9 +42,9 @@ read-tree-spec =
     begin-requires
     ranged-requires
     ranged-requires-2
-    slice-aggregate-read-node
-    slice-aggregate-read-node-2
-    read-node-requires
+    read-shape-requires
+    slice-aggregate-sizes-of
+    sizes-of-requires
     end-requires
     cast-t17
     returns)

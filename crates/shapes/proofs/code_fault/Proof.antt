@@ -1,7 +1,7 @@
 use borrow.Author.Tests.{le-leb, lt-leb, eq-eqb, ne-eqb}
 use Rattle.shapes.specs.Drawing.{codeVerdict}
-use Rattle.shapes.proofs.code_verdict.Statement.{statement}
-use Rattle.shapes.proofs.code_verdict.Tie as tie
+use Rattle.shapes.proofs.code_fault.Statement.{statement}
+use Rattle.shapes.proofs.code_fault.Tie as tie
 
 returns : tie.Need-returns
 unfolding codeVerdict
@@ -39,5 +39,5 @@ returns-6 c =
     let a = c .before .before .before .before .args in
     simp (lt-leb (a .rules .nodes) (a .n) (c .before .before .if1 .left), lt-leb 3 (a .code) (c .before .if2 .left), c .if3 .left)
 
-pub code-verdict-spec : {M : Type 1} → statement M
-code-verdict-spec = tie.close (tie.spec returns returns-2 returns-3 returns-4 returns-5 returns-6)
+pub code-fault-spec : {M : Type 1} → statement M
+code-fault-spec = tie.close (tie.spec returns returns-2 returns-3 returns-4 returns-5 returns-6)

@@ -1,0 +1,126 @@
+-- Laws about a whole shape: one for each way out of its reader.
+use mathlib.Core.Path.{_≡_, refl, sym, ap, subst, _∙_}
+use mathlib.Core.List.{List, [], _∷_}
+use mathlib.Core.Bool.{Bool, true, false}
+use Prim.Native.Nat.{ℕ, zero, suc, _+_, _-_, _*_, _≤_, _<_}
+use native.Mathlib.Nat.{zero-add}
+use native.Mathlib.Omega.{arith}
+use lib.ListN.{length, take, drop, getD, replicate}
+use lib.Seq.{sets}
+use Rattle.fields.proofs.Lists.{zeros-at}
+use Rattle.bits.specs.declared.Cursor.{Cursor}
+use Rattle.bits.specs.Bits.{placeOf, cursorAt, Opens}
+use Rattle.bits.proofs.Laws.{cursor-is}
+use Rattle.fields.specs.declared.Fault.the-variants.{Truncated}
+use Rattle.fields.specs.declared.Scan.{Scan}
+use Rattle.fields.specs.declared.Scan.the-variants.{At, Refused}
+use Rattle.fields.specs.Reading.{place}
+use Rattle.fields.specs.Promises.{Live}
+use Rattle.shapes.specs.declared.Rules.{Rules}
+use Rattle.shapes.specs.declared.ShapeRead.{ShapeRead}
+use Rattle.shapes.specs.Shape.{Shape, symbols}
+use Rattle.shapes.specs.Drawing.{elem, hasAll, node, shape}
+use Rattle.shapes.specs.Promises.{AllMarked, faultOf, outcome, cursorOf, nextOf, pinsOf, reached, Followed, Room, Laid, NodeRead, Kept, ShapeIs}
+use Rattle.shapes.proofs.Laws.{outcome-place}
+use Rattle.shapes.proofs.Drawn.{node-dead, run-seen}
+use Rattle.shapes.proofs.Shifted.{shift, shape-shift, shape-torn}
+
+-- ---- nothing was read
+
+module _ (s : List ℕ) (rules : Rules) (l : List ℕ) (wide : length l ≡ 64) where
+  none : (scan r : Scan) → (Live r → ⊥) → r ≡ shape s rules scan .1 → place r ≡ place scan → ShapeIs s rules scan l l (record { scan = r; size = 0; whole = false })
+  none scan r z e h = record {
+    scan-is = e;
+    symbols-are = λ x. absurd (z x);
+    size-is = λ x. absurd (z x);
+    whole-is = λ x. absurd (z x);
+    few = omega arith;
+    wide = wide;
+    near = omega arith;
+  }
+
+  pub shape-refused : (scan : Scan) → (Live scan → ⊥) → ShapeIs s rules scan l l (record { scan = scan; size = 0; whole = false })
+  unfolding shape
+  shape-refused scan z = none scan scan z (sym (node-dead s rules (suc (rules .nodes)) [] scan z)) refl
+
+  pub shape-ended : (scan : Scan) (c : Cursor) (p : ℕ) → scan ≡ At c → p ≡ placeOf c → 8 * length s < placeOf c + 2 →
+      ShapeIs s rules scan l l (record { scan = Refused Truncated p; size = 0; whole = false })
+  shape-ended scan c p e q h =
+      none scan (Refused Truncated p) (λ x. x) (ap (Refused Truncated) q ∙ sym (shape-torn s rules c h) ∙ sym (ap (λ (k : Scan). shape s rules k .1) e)) (q ∙ sym (ap place e))
+
+-- ---- the words at the start
+
+pub start-room : (e s : List ℕ) (bytes u : ℕ) (rules : Rules) (l : List ℕ) → Opens e s bytes → Followed rules → length l ≡ 64 → u < 8 → Room e bytes rules (0 ∷ (u ∷ replicate 14 0)) l
+unfolding placeOf elem
+start-room e s bytes u rules l opens followed wide h = record {
+  rules-are = followed;
+  sheet = s;
+  opens = opens;
+  long = refl;
+  wide = wide;
+  read = omega arith;
+  used = h;
+  near = omega (arith, followed .nodes);
+  met = λ p x q. zeros-at 13 x;
+}
+
+-- ---- a shape was read in the bytes from number b on
+
+module _ (s : List ℕ) (rules : Rules) (scan : Scan) (c : Cursor) (b u : ℕ) (stands : scan ≡ At c) (few : b ≤ length s) (at : 8 * b + u ≡ placeOf c) (followed : Followed rules)
+    (l l′ words′ : List ℕ) (end : ℕ) (long : length l ≡ 64)
+    (read : NodeRead (drop b s) rules (At (record { byte = 0; used = u })) 0 l l′ (reached end words′)) (kept : Kept rules end words′ l′) where
+  abbrev next : Cursor
+  next = record { byte = b + getD words′ 0 0; used = getD words′ 1 0 }
+
+  abbrev x : Shape × Scan
+  x = shape (drop b s) rules (At (record { byte = 0; used = u }))
+
+  laid : Laid 0 l l′ (reached end words′) (x .1) (symbols (x .0))
+  unfolding shape
+  laid = read .laid (suc (rules .nodes)) (omega arith)
+
+  whole-is : shape s rules scan ≡ (x .0, shift b (x .1))
+  unfolding placeOf
+  whole-is = ap (shape s rules) stands ∙ shape-shift s b few rules (record { byte = 0; used = u }) c (omega arith)
+
+  -- The scan with which the reader ended, farther on.
+  farther : (k : ℕ) → (Live (outcome k (cursorOf words′)) → getD words′ 1 0 < 8) → outcome k next ≡ shift b (outcome k (cursorOf words′))
+  unfolding placeOf
+  farther zero h = ap At (cursor-is (b + getD words′ 0 0) (getD words′ 1 0) (8 * b + (8 * getD words′ 0 0 + getD words′ 1 0)) (h tt) (omega arith))
+  farther (suc k) h =
+      let there : 8 * (b + getD words′ 0 0) + getD words′ 1 0 ≡ 8 * b + (8 * getD words′ 0 0 + getD words′ 1 0) = omega arith in
+      ap (Refused (faultOf (suc k))) there
+
+  ends : outcome end next ≡ shape s rules scan .1
+  ends = farther end (kept .used) ∙ ap (shift b) (laid .scan) ∙ sym (ap (λ (y : Shape × Scan). y .1) whole-is)
+
+  -- The place at which it ended.
+  pub end-place : placeOf next ≤ placeOf c + 26 * rules .nodes
+  unfolding placeOf
+  end-place = omega (arith, outcome-place end (cursorOf words′), read .went .far)
+
+  live : Live (outcome end next) → Live (outcome end (cursorOf words′))
+  live = go end
+    where
+      go : (k : ℕ) → Live (outcome k next) → Live (outcome k (cursorOf words′))
+      go zero z = tt
+      go (suc k) z = absurd z
+
+  -- The shape's symbols as they were seen.
+  seen : Live (outcome end next) → take (nextOf words′) l′ ≡ symbols (x .0)
+  seen z = run-seen 0 l l′ (reached end words′) (x .1) (symbols (x .0)) (live z) (omega (arith, read .went .upto, followed .nodes)) laid
+
+  pub shape-done : (r : Scan) (w : Bool) → r ≡ outcome end next → (rules .pattern ≡ true → AllMarked (rules .most) (pinsOf words′) w) →
+      ShapeIs s rules scan l l′ (record { scan = r; size = nextOf words′; whole = w })
+  shape-done r w e marked =
+      let shape-is : shape s rules scan .0 ≡ x .0 = ap (λ (y : Shape × Scan). y .0) whole-is in
+      let back : Live r → Live (outcome end next) = λ z. subst Live e z in
+      record {
+        scan-is = e ∙ ends;
+        symbols-are = λ z. laid .symbols (live (back z)) ∙ ap (λ (d : Shape). sets l 0 (symbols d)) (sym shape-is);
+        size-is = λ z. laid .next (live (back z)) ∙ zero-add (length (symbols (x .0))) ∙ ap (λ (d : Shape). length (symbols d)) (sym shape-is);
+        whole-is = λ z p. marked p _ (kept .met (live (back z)) p) ∙ ap (hasAll (suc (rules .most))) (seen (back z) ∙ ap symbols (sym shape-is));
+        few = read .went .upto;
+        wide = kept .wide;
+        near = omega (arith, end-place, ap place e, outcome-place end next, ap place stands);
+      }

@@ -1,0 +1,151 @@
+//! The judges written for speed against the others.
+
+use reference::form::Form;
+use reference::generate::damage::{any_sheet, edge_values, Kind};
+use reference::generate::{limits, longest};
+use reference::hex::hex;
+use reference::rng::Rng;
+use reference::verdict::Verdict;
+use reference::wordwise::judge;
+use reference::{bill, text};
+use std::path::Path;
+
+fn compare(kind: Kind, sheet: &[u8]) {
+    let expected = Verdict::of(kind, sheet);
+    assert_eq!(judge(kind, sheet), expected.coded(), "{kind:?} {}: {expected:?}", hex(sheet));
+}
+
+/// A file of the stored cases.
+fn stored(name: &str) -> Vec<u8> {
+    let path = Path::new(env!("CARGO_MANIFEST_DIR")).join("../cases").join(name);
+    std::fs::read(path).expect("a stored case")
+}
+
+fn longest_sheets() -> [(Kind, Vec<u8>); 2] {
+    [(Kind::Library, stored("longest.library")), (Kind::Tree, stored("longest.tree"))]
+}
+
+#[test]
+fn the_longest_sheets_are_stored() {
+    let [(_, library), (_, tree)] = longest_sheets();
+    assert_eq!((library.len(), tree.len()), (2_302, 100));
+    assert_eq!(library, Form::of_library(&longest::library()).bytes());
+    assert_eq!(tree, Form::of_tree(&longest::tree()).bytes());
+    assert_eq!(judge(Kind::Library, &library), 64 * 256 + 128);
+    assert_eq!(judge(Kind::Tree, &tree), 64);
+}
+
+#[test]
+fn limits_are_judged_as_stated() {
+    for row in limits::rows() {
+        assert_eq!(judge(row.kind, &row.bytes), row.verdict.coded(), "{}: {}", row.name, hex(&row.bytes));
+    }
+}
+
+#[test]
+fn longest_sheets_with_any_bit_changed() {
+    for (kind, mut sheet) in longest_sheets() {
+        for bit in 0..sheet.len() * 8 {
+            let mask = 128 >> (bit % 8);
+            sheet[bit / 8] ^= mask;
+            compare(kind, &sheet);
+            sheet[bit / 8] ^= mask;
+        }
+    }
+}
+
+#[test]
+fn longest_sheets_cut_anywhere_or_followed_by_bytes() {
+    for (kind, sheet) in longest_sheets() {
+        (0..=sheet.len()).for_each(|length| compare(kind, &sheet[..length]));
+        for more in [&[0][..], &[1], &[0; 7], &[0; 8], &[255; 9]] {
+            compare(kind, &[&sheet, more].concat());
+        }
+    }
+}
+
+/// Of the tree every field, of the library every seventh.
+#[test]
+fn longest_sheets_with_fields_at_their_edges() {
+    let library = Form::of_library(&longest::library());
+    let tree = Form::of_tree(&longest::tree());
+    for (kind, form, step) in [(Kind::Library, library, 7), (Kind::Tree, tree, 1)] {
+        for field in (0..form.fields.len()).step_by(step) {
+            for value in edge_values(form.fields[field].role) {
+                compare(kind, &form.with(field, value).bytes());
+            }
+        }
+    }
+}
+
+#[test]
+fn fresh_sheets() {
+    let mut rng = Rng::new(64);
+    for _ in 0..20_000 {
+        compare(Kind::Library, &any_sheet(&mut rng, Kind::Library));
+        compare(Kind::Tree, &any_sheet(&mut rng, Kind::Tree));
+    }
+}
+
+#[test]
+fn every_stored_sheet() {
+    let mut count = 0;
+    for name in ["stored.bin", "covers.bin", "bills.bin"] {
+        let file = stored(name);
+        let mut records = Records { rest: &file };
+        while !records.rest.is_empty() {
+            for (kind, sheet) in records.next_sheets() {
+                compare(kind, sheet);
+                count += 1;
+            }
+        }
+    }
+    assert!(count > 10_000, "{count} sheets");
+}
+
+/// Records as `reference/README.md` has them, from the front.
+struct Records<'a> {
+    rest: &'a [u8],
+}
+
+impl<'a> Records<'a> {
+    /// The libraries and trees of the next record.
+    fn next_sheets(&mut self) -> Vec<(Kind, &'a [u8])> {
+        match self.bytes(1)[0] {
+            0 => vec![(Kind::Library, self.sheets::<1, 1>()[0])],
+            1 => vec![(Kind::Tree, self.sheets::<1, 1>()[0])],
+            2 | 3 => problem(self.sheets::<2, 4>()),
+            4 => text::parts(self.sheets::<1, 1>()[0]).map_or(vec![], |(library, tree)| problem([library, tree])),
+            5 => {
+                let [library, tree, _] = self.sheets::<3, 3>();
+                problem([library, tree])
+            }
+            6 => {
+                let sheets = bill::sheets(self.sheets::<1, 1>()[0]);
+                sheets.map_or(vec![], |[library, tree, _]| problem([library, tree]))
+            }
+            kind => panic!("kind {kind}"),
+        }
+    }
+
+    /// The next so many sheets; their lengths are the first among so many numbers.
+    fn sheets<const SHEETS: usize, const NUMBERS: usize>(&mut self) -> [&'a [u8]; SHEETS] {
+        let numbers: [usize; NUMBERS] = std::array::from_fn(|_| self.number());
+        std::array::from_fn(|sheet| self.bytes(numbers[sheet]))
+    }
+
+    fn number(&mut self) -> usize {
+        let two = self.bytes(2);
+        two[0] as usize * 256 + two[1] as usize
+    }
+
+    fn bytes(&mut self, count: usize) -> &'a [u8] {
+        let (bytes, rest) = self.rest.split_at(count);
+        self.rest = rest;
+        bytes
+    }
+}
+
+fn problem([library, tree]: [&[u8]; 2]) -> Vec<(Kind, &[u8])> {
+    vec![(Kind::Library, library), (Kind::Tree, tree)]
+}
