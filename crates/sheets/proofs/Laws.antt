@@ -26,8 +26,8 @@ use Rattle.shapes.specs.Drawing.{hasAll, shape}
 use Rattle.fields.specs.Promises.{Live}
 use Rattle.shapes.specs.Promises.{ShapeIs}
 use Rattle.sheets.specs.LibrarySheet.{last, binLoad, complete, pattern, patternRules, countVerdict}
-use Rattle.sheets.specs.Layout.{padded, sizeAt, symbolsAt, rowWords, cellWords, tableFrom}
-use Rattle.sheets.specs.Inside.{PatternIs, rowUnder, patternOf, RowIs}
+use Rattle.sheets.specs.Layout.{padded, sizeAt, symbolsAt, rowWords, tableWords, cellWords, tableFrom}
+use Rattle.sheets.specs.Inside.{Tabled, PatternIs, rowUnder, patternOf, RowIs, RowKept}
 use Rattle.sheets.specs.declared.library.NumberedCell.{NumberedCell}
 use Rattle.sheets.specs.declared.library.PatternRead.{PatternRead}
 use Rattle.sheets.specs.Reach.{patternBits}
@@ -188,26 +188,51 @@ table-append stride l i [] qs = ap (λ (k : ℕ). tableFrom stride l k qs) (sym 
 table-append stride l i (x ∷ rs) qs =
     table-append stride (sets l (stride * i) x) (suc i) rs qs ∙ ap (λ (k : ℕ). tableFrom stride (tableFrom stride (sets l (stride * i) x) (suc i) rs) k qs) (suc-add i (length rs) ∙ sym (add-suc i (length rs)))
 
+-- With no table nothing is laid out.
+no-table : (l : List ℕ) (i : ℕ) (vs : List ℕ) → length l ≡ 0 → sets l i vs ≡ l
+no-table [] i [] h = refl
+no-table [] i (v ∷ vs) h = no-table [] (suc i) vs h
+no-table (x ∷ l) i vs h = absurd (omega arith)
+
+-- A table that is there is whole.
+pub table-whole : (l : List ℕ) → Tabled l → (length l ≡ 0 → ⊥) → length l ≡ tableWords
+table-whole l (inl e) h = e
+table-whole l (inr e) h = absurd (h e)
+
+pub table-same : (l l₁ : List ℕ) → length l₁ ≡ length l → Tabled l → Tabled l₁
+table-same l l₁ e (inl h) = inl (e ∙ h)
+table-same l l₁ e (inr h) = inr (e ∙ h)
+
+-- A pattern whose row is not kept, and one whose row is.
+module _ (s : List ℕ) (numbered : NumberedCell) (number : ℕ) (scan : Scan) (l : List ℕ) where
+  pub row-unkept : (k k′ : List ℕ) (r : PatternRead) → length l ≡ 0 → PatternIs s (numbered .cell .pins) scan k k′ r → RowKept s numbered number scan l l (r .scan)
+  row-unkept k k′ r e h = record { scan-is = h .scan-is; laid = λ q. sym (no-table l (rowWords * number) (rowUnder numbered (patternOf s numbered [] scan .0)) e); near = h .near }
+
+  pub row-kept : (ys : List ℕ) (r : Scan) (m : ℕ) → m ≡ rowWords → rowWords * number + rowWords ≤ length l →
+      RowIs s numbered scan (take m (drop (rowWords * number) l)) ys r → RowKept s numbered number scan l (putMid (rowWords * number) m l ys) r
+  row-kept ys r m em h w = record {
+    scan-is = w .scan-is;
+    laid = λ q. ap (putMid (rowWords * number) m l) (w .laid q) ∙ mid-sets l (rowWords * number) m (rowUnder numbered (patternOf s numbered [] scan .0)) (omega arith) (omega (arith, w .few q));
+    near = w .near;
+  }
+
 -- What a loop has read so far, and one pattern more.
 module _ (s : List ℕ) (numbered : NumberedCell) (total : ℕ) (scan : Scan) (l : List ℕ) where
-  pub rows-turn : (k : ℕ) (l₁ ys : List ℕ) (at r : Scan) → (m : ℕ) → m ≡ rowWords → rowWords * (total + k) + rowWords ≤ length l₁ →
-      at ≡ times k (patternOf s numbered) scan .1 →
+  pub rows-turn : (k : ℕ) (l₁ l₂ : List ℕ) (at r : Scan) → at ≡ times k (patternOf s numbered) scan .1 →
       (Live at → l₁ ≡ tableFrom rowWords l total (map (rowUnder numbered) (times k (patternOf s numbered) scan .0))) →
-      RowIs s numbered at (take m (drop (rowWords * (total + k)) l₁)) ys r →
+      RowKept s numbered (total + k) at l₁ l₂ r →
       (r ≡ times (k + 1) (patternOf s numbered) scan .1)
-      × (Live r → putMid (rowWords * (total + k)) m l₁ ys ≡ tableFrom rowWords l total (map (rowUnder numbered) (times (k + 1) (patternOf s numbered) scan .0)))
+      × (Live r → l₂ ≡ tableFrom rowWords l total (map (rowUnder numbered) (times (k + 1) (patternOf s numbered) scan .0)))
   unfolding pattern tableFrom
-  rows-turn k l₁ ys at r m em h ea el w =
+  rows-turn k l₁ l₂ at r ea el w =
       let p = patternOf s numbered in
       let x = times k p scan in
       let first = rowWords * (total + k) in
-      let made : r ≡ p (x .0) (x .1) .1 = w .scan-is ∙ ap (λ (c : Scan). p [] c .1) ea in
-      let y = p [] at .0 in (
+      let made : r ≡ p (x .0) (x .1) .1 = w .scan-is ∙ ap (λ (c : Scan). p [] c .1) ea in (
         made ∙ sym (times-scan k p scan),
         λ q.
             let was : Live at = pattern-live s (numbered .cell .pins) [] at (subst Live (w .scan-is) q) in
-            ap (putMid first m l₁) (w .laid q)
-            ∙ mid-sets l₁ first m (rowUnder numbered y) (omega arith) (omega (arith, w .few q))
+            w .laid q
             ∙ ap₂ (λ (l′ : List ℕ) (z : Shape). sets l′ first (rowUnder numbered z)) (el was) (ap (λ (c : Scan). p [] c .0) ea)
             ∙ ap (λ (i : ℕ). sets (tableFrom rowWords l total (map (rowUnder numbered) (x .0))) (rowWords * (total + i)) (rowUnder numbered (p [] (x .1) .0))) (sym (length-map (x .0) (rowUnder numbered) ∙ length-times k p scan))
             ∙ sym (table-append rowWords l total (map (rowUnder numbered) (x .0)) (rowUnder numbered (p [] (x .1) .0) ∷ []))

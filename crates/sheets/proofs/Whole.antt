@@ -30,13 +30,13 @@ use Rattle.sheets.specs.Model.{Pin, binLoadOf, Cell, Pattern, patterns, 
 use Rattle.sheets.specs.LibrarySheet.{binLoad, bins, cells, library}
 use Rattle.sheets.specs.TreeSheet.{tree, treeRules}
 use Rattle.sheets.specs.Report.{LibraryLimits, TreeLimits, libraryNumber, treeNumber, LibraryCounts, libraryWord, libraryRead, treeRead, libraryReport, treeReport}
-use Rattle.sheets.specs.declared.library.LibraryRead.{LibraryRead}
+use Rattle.sheets.specs.declared.library.SheetRead.{SheetRead}
 use Rattle.sheets.specs.declared.library.LibraryRecord.{LibraryRecord}
 use Rattle.sheets.specs.declared.tree.TreeRead.{TreeRead}
 use Rattle.sheets.specs.declared.tree.TreeRecord.{TreeRecord}
 use Rattle.sheets.specs.Layout.{padded, pinsMost, cellLaid, rowWords, tableWords, row, tableFrom, patternRow, patternRows, libraryLaid, treeLaid}
 use Rattle.sheets.specs.Public.{LibraryIs, TreeIs}
-use Rattle.sheets.specs.Inside.{BinsAre, CellsAre, cellAfter}
+use Rattle.sheets.specs.Inside.{BinsAre, CellsAre, cellAfter, SheetIs}
 use Rattle.sheets.proofs.Laws.{padded-at}
 
 -- A scan that was not refused at the end was not refused before.
@@ -110,14 +110,14 @@ rows-padded xs h ps = ap (λ (f : Pin → ℕ). map (λ (p : Pattern). row (p .c
   drives = padded pinsMost 0 (map (λ (q : Pin). q .drive) (p .cell .pins));
 }) (p .drawing)) ps) (bins-padded xs h)
 
-pub library-is : (s : List ℕ) (c : Scan) (nb : Got) (lb : BinsRead) (nc : Got) (rc : CellsRead) (l′ : List ℕ) (res : Scan) → c ≡ start →
+pub sheet-is : (s : List ℕ) (c : Scan) (nb : Got) (lb : BinsRead) (nc : Got) (rc : CellsRead) (l l′ : List ℕ) (res : Scan) → c ≡ start →
     Reads nb (field s 3 (within 1 4) c) (place c + 3) 4 → BinsAre s (nb .value) (nb .scan) lb →
     Reads nc (field s 7 (within 1 64) (lb .scan)) (place (lb .scan) + 7) 64 →
     let bins : Bins = record { count = nb .value; loads = lb .loads } in
-    CellsAre s bins (nc .value) (nc .scan) (replicate tableWords 0) l′ rc → res ≡ ended s (rc .scan) →
-    LibraryIs s (record { scan = res; library = record { bins = bins; count = nc .value; total = rc .total; rows = l′ } })
+    CellsAre s bins (nc .value) (nc .scan) l l′ rc → res ≡ ended s (rc .scan) →
+    SheetIs s l l′ (record { scan = res; bins = bins; count = nc .value; total = rc .total })
 unfolding library bins cells libraryLaid patterns
-library-is s c nb lb nc rc l′ res ec hnb hlb hnc hrc er =
+sheet-is s c nb lb nc rc l l′ res ec hnb hlb hnc hrc er =
     let N = field s 3 (within 1 4) start in
     let B = times (N .0) (binLoad s) (N .1) in
     let C = field s 7 (within 1 64) (B .1) in
@@ -136,17 +136,31 @@ library-is s c nb lb nc rc l′ res ec hnb hlb hnc hrc er =
     let total = hrc .total-is ∙ ap (λ (x : List Cell × Scan). length (patternsFrom 0 (x .0))) same in
     record {
       scan-is = er ∙ ap (ended s) (hrc .scan-is ∙ ap (λ (x : List Cell × Scan). x .1) same);
+      bins-are = λ q i. record { count = all-bins i; loads = loads i };
+      counted = λ q. all-cells;
+      totalled = λ q. total;
       laid = λ q.
-          let z : Live (rc .scan) = ended-live s (rc .scan) (subst Live er q) in
-          let rows = hrc .laid z
-          ∙ ap₂ (λ (bs : List ℕ) (x : List Cell × Scan). tableFrom rowWords (replicate tableWords 0) 0 (patternRows bs (patternsFrom 0 (x .0)))) loads same
-          ∙ ap (tableFrom rowWords (replicate tableWords 0) 0) (rows-padded (B .0) (omega (arith, hnb .small)) (patternsFrom 0 (X .0))) in
-          λ i. record { bins = record { count = all-bins i; loads = loads i }; count = all-cells i; total = total i; rows = rows i };
+          hrc .laid (ended-live s (rc .scan) (subst Live er q))
+          ∙ ap₂ (λ (bs : List ℕ) (x : List Cell × Scan). tableFrom rowWords l 0 (patternRows bs (patternsFrom 0 (x .0)))) loads same
+          ∙ ap (tableFrom rowWords l 0) (rows-padded (B .0) (omega (arith, hnb .small)) (patternsFrom 0 (X .0)));
       bins-few = hnb .small;
       cells-few = hnc .small;
       patterns-few = hrc .fits;
       near = omega (arith, ap place er, ended-place s (rc .scan), hnb .near, hnb .small, hlb .near, hnc .near, hnc .small, hrc .near, ap place ec, start-place);
     }
+
+-- With its rows laid out in a table of zeros the library is whole.
+pub library-is : (s l′ : List ℕ) (r : SheetRead) → SheetIs s (replicate tableWords 0) l′ r →
+    LibraryIs s (record { scan = r .scan; library = record { bins = r .bins; count = r .count; total = r .total; rows = l′ } })
+unfolding libraryLaid
+library-is s l′ r h = record {
+  scan-is = h .scan-is;
+  laid = λ q i. record { bins = h .bins-are q i; count = h .counted q i; total = h .totalled q i; rows = h .laid q i };
+  bins-few = h .bins-few;
+  cells-few = h .cells-few;
+  patterns-few = h .patterns-few;
+  near = h .near;
+}
 
 -- ---- what the judges say
 
@@ -158,14 +172,14 @@ number-bounds Range = omega arith
 number-bounds Drawing = omega arith
 number-bounds Size = omega arith
 
-module _ (s : List ℕ) (r : LibraryRead) (h : LibraryIs s r) where
+module _ (s l l′ : List ℕ) (r : SheetRead) (h : SheetIs s l l′ r) where
   pub library-sound : (c : Cursor) → r .scan ≡ At c →
-      let n : LibraryCounts = record { cells = r .library .count; patterns = r .library .total } in
+      let n : LibraryCounts = record { cells = r .count; patterns = r .total } in
       (success n ≡ libraryReport s) × (Bounded (success (libraryWord n)) × LibraryLimits (success n))
   unfolding libraryReport libraryRead libraryLaid libraryWord Bounded LibraryLimits
   library-sound c e =
-      let same = h .laid (subst Live (sym e) tt) in (
-        ap (λ (k : LibraryRecord). success (record { cells = k .count; patterns = k .total })) same
+      let live : Live (r .scan) = subst Live (sym e) tt in (
+        ap₂ (λ (n m : ℕ). success (record { cells = n; patterns = m })) (h .counted live) (h .totalled live)
             ∙ ap (λ (q : Scan). libraryRead (library s start .0, q)) (sym e ∙ h .scan-is),
         (omega (arith, h .cells-few, h .patterns-few), (h .cells-few, h .patterns-few)),
       )

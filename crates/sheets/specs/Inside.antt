@@ -2,10 +2,11 @@
 use Prim.Native.Nat.{ℕ, _+_, _*_, _≤_}
 use mathlib.Core.Path.{_≡_}
 use mathlib.Core.List.{List, [], map}
+use mathlib.Core.Logic.{_⊎_}
 use lib.ListN.{length}
 use lib.Seq.{sets}
 use Rattle.fields.specs.declared.Scan.{Scan}
-use Rattle.fields.specs.Reading.{Reader, place, times, field}
+use Rattle.fields.specs.Reading.{Reader, start, place, times, field}
 use Rattle.shapes.specs.Shape.{symbols}
 use Rattle.fields.specs.declared.Got.{Got}
 use Rattle.fields.specs.Promises.{Live, Reads}
@@ -18,10 +19,15 @@ use Rattle.sheets.specs.declared.library.PinsRead.{PinsRead}
 use Rattle.sheets.specs.declared.library.PatternRead.{PatternRead}
 use Rattle.sheets.specs.declared.library.DrawingsRead.{DrawingsRead}
 use Rattle.sheets.specs.declared.library.CellsRead.{CellsRead}
-use Rattle.sheets.specs.Model.{Shape, Pin, binLoadOf, size, Cell, patternsFrom}
-use Rattle.sheets.specs.LibrarySheet.{binLoad, head, pin, pattern, countVerdict, drawings, cell}
-use Rattle.sheets.specs.Reach.{binBits, headBits, pinBits, patternBits, countBits, drawingsBits, cellBits}
-use Rattle.sheets.specs.Layout.{padded, pinsMost, cellLaid, rowWords, row, tableFrom, patternRows}
+use Rattle.sheets.specs.declared.library.SheetRead.{SheetRead}
+use Rattle.sheets.specs.Model.{Shape, Pin, binLoadOf, size, Cell, patternsFrom, patterns}
+use Rattle.sheets.specs.LibrarySheet.{binLoad, head, pin, pattern, countVerdict, drawings, cell, library}
+use Rattle.sheets.specs.Reach.{binBits, headBits, pinBits, patternBits, countBits, drawingsBits, cellBits, libraryBits}
+use Rattle.sheets.specs.Layout.{padded, pinsMost, cellLaid, rowWords, tableWords, row, tableFrom, patternRows, libraryLaid}
+
+-- A table for the rows of patterns, or none where they are not kept.
+abbrev pub Tabled : List ℕ → Type 0
+Tabled rows = (length rows ≡ tableWords) ⊎ (length rows ≡ 0)
 
 -- The row of a pattern of a cell.
 abbrev pub rowUnder : NumberedCell → Shape → List ℕ
@@ -76,6 +82,12 @@ module _ (s : List ℕ) where
     pub few : Live r → length (rowUnder numbered (patternOf numbered [] scan .0)) ≤ rowWords
     pub near : place r ≤ place scan + patternBits
 
+  -- The same as the row with a number in a table; with no table nothing is laid out.
+  pub record RowKept (numbered : NumberedCell) (number : ℕ) (scan : Scan) (l l′ : List ℕ) (r : Scan) : Type 0 where
+    pub scan-is : r ≡ patternOf numbered [] scan .1
+    pub laid : Live r → l′ ≡ sets l (rowWords * number) (rowUnder numbered (patternOf numbered [] scan .0))
+    pub near : place r ≤ place scan + patternBits
+
   -- So many patterns of a cell, their rows laid out in l from row `total` on.
   pub record RowsAre (numbered : NumberedCell) (total count : ℕ) (scan : Scan) (l l′ : List ℕ) (r : Scan) : Type 0 where
     pub scan-is : r ≡ times count (patternOf numbered) scan .1
@@ -114,3 +126,15 @@ module _ (s : List ℕ) where
         l′ ≡ tableFrom rowWords l 0 (patternRows (bins .loads) (patternsFrom 0 (times count (cellAfter (bins .count)) scan .0)))
     pub fits : r .total ≤ 128
     pub near : place (r .scan) ≤ place scan + cellBits * count
+
+  -- The whole library, its rows laid out in l.
+  pub record SheetIs (l l′ : List ℕ) (r : SheetRead) : Type 0 where
+    pub scan-is : r .scan ≡ library s start .1
+    pub bins-are : Live (r .scan) → r .bins ≡ libraryLaid (library s start .0) .bins
+    pub counted : Live (r .scan) → r .count ≡ libraryLaid (library s start .0) .count
+    pub totalled : Live (r .scan) → r .total ≡ libraryLaid (library s start .0) .total
+    pub laid : Live (r .scan) → let x = library s start .0 in l′ ≡ tableFrom rowWords l 0 (patternRows (x .bins) (patterns x))
+    pub bins-few : r .bins .count ≤ 4
+    pub cells-few : r .count ≤ 64
+    pub patterns-few : r .total ≤ 128
+    pub near : place (r .scan) ≤ libraryBits

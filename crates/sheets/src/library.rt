@@ -8,14 +8,14 @@ ghost use mathlib.Core.Path.{_≡_};
 ghost use mathlib.Core.Bool.{cond, _||_};
 ghost use lib.Dec.{eqb};
 ghost use mathlib.Core.List.{[], _∷_};
-ghost use Prim.Native.Nat.{_+_, _-_, _*_, _≤_};
+ghost use Prim.Native.Nat.{_+_, _-_, _*_, _≤_, _<_};
 ghost use lib.ListN.{length, take};
 ghost use lib.Seq.{sets};
 ghost use Rattle.fields.specs.Answer.{onSuccess, Bounded};
 ghost use Rattle.sheets.specs.LibrarySheet.{complete, countVerdict};
-ghost use Rattle.sheets.specs.Layout.{rowWords, tableWords, figuresAt, pinsMost, figures, cellWords};
+ghost use Rattle.sheets.specs.Layout.{rowWords, figuresAt, pinsMost, figures, cellWords};
 ghost use Rattle.sheets.specs.Reach.{InReach, binBits, headBits, pinBits, patternBits, countBits, drawingsBits, cellBits};
-ghost use Rattle.sheets.specs.Inside.{BinsAre, HeadIs, PinIs, PinsAre, PatternIs, RowIs, RowsAre, DrawingsAre, CountIs, CellIs, CellsAre};
+ghost use Rattle.sheets.specs.Inside.{Tabled, BinsAre, HeadIs, PinIs, PinsAre, PatternIs, RowIs, RowKept, RowsAre, DrawingsAre, CountIs, CellIs, CellsAre, SheetIs};
 ghost use Rattle.sheets.specs.Public.{LibraryIs};
 ghost use Rattle.sheets.specs.Report.{ofLibraryJudged, LibraryLimits, libraryWord, libraryReport, libraryNumber};
 
@@ -374,6 +374,26 @@ fn read_row(scan: Scan, s: &[u8], numbered: NumberedCell, row: &mut [u32]) -> Sc
     read.scan
 }
 
+// A pattern with a number, and its row where rows are kept.
+fn keep_row(scan: Scan, s: &[u8], numbered: NumberedCell, number: usize, rows: &mut [u32]) -> Scan
+    requires { ⌜ (numbered .cell .pins ≤ 6) × Tabled (now rows) × (number < 128) × InReach scan patternBits ⌝ }
+    ensures { λ r. ⌜ RowKept (now (s .entry)) numbered number scan (now (rows .entry)) (now (rows .exit)) r ⌝ }
+{
+    if rows.len() == 0 {
+        let cell = numbered.cell;
+        let mut symbols = [0u32; Limits::PATTERN_NODES];
+        let read = read_pattern(scan, s, cell.pins as u32, &mut symbols);
+        return read.scan;
+    }
+    let first = PatternRow::WORDS * number;
+    read_row(
+        scan,
+        s,
+        numbered,
+        &mut rows[first..first + PatternRow::WORDS],
+    )
+}
+
 // The rows of a cell's patterns, after `total` rows.
 fn read_rows(
     scan: Scan,
@@ -383,14 +403,13 @@ fn read_rows(
     count: u32,
     rows: &mut [u32],
 ) -> Scan
-    requires { ⌜ (numbered .cell .pins ≤ 6) × (length (now rows) ≡ tableWords) × (total + count ≤ 128) × InReach scan (patternBits * count) ⌝ }
+    requires { ⌜ (numbered .cell .pins ≤ 6) × Tabled (now rows) × (total + count ≤ 128) × InReach scan (patternBits * count) ⌝ }
     ensures { λ r. ⌜ RowsAre (now (s .entry)) numbered total count scan (now (rows .entry)) (now (rows .exit)) r ⌝ }
 {
     let mut at = scan;
     let mut k: u32 = 0;
     while k < count {
-        let first = PatternRow::WORDS * (total + k as usize);
-        at = read_row(at, s, numbered, &mut rows[first..first + PatternRow::WORDS]);
+        at = keep_row(at, s, numbered, total + k as usize, rows);
         k += 1;
     }
     at
@@ -424,7 +443,7 @@ fn read_drawings(
     total: usize,
     rows: &mut [u32],
 ) -> DrawingsRead
-    requires { ⌜ (numbered .cell .pins ≤ 6) × (length (now rows) ≡ tableWords) × (total ≤ 128) × InReach scan drawingsBits ⌝ }
+    requires { ⌜ (numbered .cell .pins ≤ 6) × Tabled (now rows) × (total ≤ 128) × InReach scan drawingsBits ⌝ }
     ensures { λ r. ⌜ DrawingsAre (now (s .entry)) numbered total scan (now (rows .entry)) (now (rows .exit)) r ⌝ }
 {
     let got = read_count(scan, s, total);
@@ -445,7 +464,7 @@ fn read_cell(
     total: usize,
     rows: &mut [u32],
 ) -> DrawingsRead
-    requires { ⌜ (bins .count ≤ 4) × (length (now rows) ≡ tableWords) × (total ≤ 128) × InReach scan cellBits ⌝ }
+    requires { ⌜ (bins .count ≤ 4) × Tabled (now rows) × (total ≤ 128) × InReach scan cellBits ⌝ }
     ensures { λ r. ⌜ CellIs (now (s .entry)) bins number total scan (now (rows .entry)) (now (rows .exit)) r ⌝ }
 {
     let head = read_head(scan, s);
@@ -477,7 +496,7 @@ pub struct LibraryRead {
 
 // The cells.
 fn read_cells(scan: Scan, s: &[u8], bins: Bins, count: u32, rows: &mut [u32]) -> CellsRead
-    requires { ⌜ (bins .count ≤ 4) × (length (now rows) ≡ tableWords) × InReach scan (cellBits * count) ⌝ }
+    requires { ⌜ (bins .count ≤ 4) × Tabled (now rows) × InReach scan (cellBits * count) ⌝ }
     ensures { λ r. ⌜ CellsAre (now (s .entry)) bins count scan (now (rows .entry)) (now (rows .exit)) r ⌝ }
 {
     let mut at = scan;
@@ -492,9 +511,18 @@ fn read_cells(scan: Scan, s: &[u8], bins: Bins, count: u32, rows: &mut [u32]) ->
     CellsRead { scan: at, total }
 }
 
-// The library sheet.
-pub fn read_library(s: &[u8]) -> LibraryRead
-    ensures { λ r. ⌜ LibraryIs (now (s .entry)) r ⌝ }
+// What a library sheet says but for its rows, and the scan after it.
+pub struct SheetRead {
+    pub scan: Scan,
+    pub bins: Bins,
+    pub count: usize,
+    pub total: usize,
+}
+
+// The library sheet, its rows laid out in a table where rows are kept.
+fn read_sheet(s: &[u8], rows: &mut [u32]) -> SheetRead
+    requires { ⌜ Tabled (now rows) ⌝ }
+    ensures { λ r. ⌜ SheetIs (now (s .entry)) (now (rows .entry)) (now (rows .exit)) r ⌝ }
 {
     let start = fields::begin();
     let bin_count = fields::ranged(start, s, 3, 1, Limits::BINS);
@@ -508,29 +536,45 @@ pub fn read_library(s: &[u8]) -> LibraryRead
     };
     let count = fields::ranged(at, s, 7, 1, Limits::CELLS);
     let at = count.scan;
-    let mut rows = [0u32; PatternRow::TABLE];
-    let cells = read_cells(at, s, bins, count.value, &mut rows);
+    let cells = read_cells(at, s, bins, count.value, rows);
     let at = cells.scan;
-    LibraryRead {
+    SheetRead {
         scan: fields::end(at, s),
+        bins,
+        count: count.value as usize,
+        total: cells.total,
+    }
+}
+
+// The library sheet.
+pub fn read_library(s: &[u8]) -> LibraryRead
+    ensures { λ r. ⌜ LibraryIs (now (s .entry)) r ⌝ }
+{
+    let mut rows = [0u32; PatternRow::TABLE];
+    let read = read_sheet(s, &mut rows);
+    let scan = read.scan;
+    let bins = read.bins;
+    LibraryRead {
+        scan,
         library: LibraryRecord {
             bins,
-            count: count.value as usize,
-            total: cells.total,
+            count: read.count,
+            total: read.total,
             rows,
         },
     }
 }
 
-// Judges a library: its cell count and its pattern count, or what is wrong with it and where.
+// Judges a library: its cell count and its pattern count, or what is wrong with it and where. No rows are kept.
 pub fn judge_library(s: &[u8]) -> LibraryJudged
     ensures { λ r. ⌜ ofLibraryJudged r ≡ libraryReport (now (s .entry)) ⌝ }
     ensures { λ r. ⌜ Bounded (onSuccess libraryWord (ofLibraryJudged r)) × LibraryLimits (ofLibraryJudged r) ⌝ }
 {
-    let read = read_library(s);
+    let mut none = [0u32; 0];
+    let read = read_sheet(s, &mut none);
     let scan = read.scan;
     match scan {
-        Scan::At(_) => LibraryJudged::Sound(read.library.count, read.library.total),
+        Scan::At(_) => LibraryJudged::Sound(read.count, read.total),
         Scan::Refused(fault, place) => LibraryJudged::Refused(library_number(fault), place),
     }
 }

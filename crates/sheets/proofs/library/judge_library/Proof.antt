@@ -1,12 +1,17 @@
 use borrow.Author.Needs.{needs}
+use mathlib.Core.Path.{refl}
+use mathlib.Core.Logic.{inr}
 use Rattle.fields.specs.Answer.{onSuccess}
 use Rattle.sheets.specs.Report.{ofLibraryJudged}
 use Rattle.sheets.proofs.Whole.{library-sound, library-refused}
 use Rattle.sheets.proofs.library.judge_library.Statement.{statement}
 use Rattle.sheets.proofs.library.judge_library.Tie as tie
 
-read-library-requires : tie.Need-read-library-requires
-read-library-requires c κs = search needs
+slice-aggregate-read-sheet : tie.Need-slice-aggregate-read-sheet
+slice-aggregate-read-sheet c = refl
+
+read-sheet-requires : tie.Need-read-sheet-requires
+read-sheet-requires c κs = inr refl
 
 enum-told : tie.Need-enum-told
 enum-told c = search needs
@@ -20,15 +25,24 @@ library-number-requires c κs = search needs
 returns : tie.Need-returns
 unfolding ofLibraryJudged onSuccess
 returns c =
-    let r = c .before .before .read-library in
-    library-sound (c .before .before .before .before .args .s .now) (r .result) (r .ensures) (c .enum-told .given .0 .0) (c .enum-told .given .1)
+    let r = c .before .before .before .read-sheet in
+    library-sound (c .before .before .before .before .before .before .args .s .now) _ _ (r .result) (r .ensures) (c .enum-told .given .0 .0) (c .enum-told .given .1)
 
 returns-2 : tie.Need-returns-2
 unfolding ofLibraryJudged onSuccess
 returns-2 c =
-    let r = c .before .before .before .before .read-library in
+    let r = c .before .before .before .before .before .read-sheet in
     let told = c .before .before .scan .given in
-    library-refused (c .before .before .before .before .before .before .args .s .now) (r .result) (r .ensures) (told .0 .0) (c .library-number .result) (told .0 .1 .0) (told .1) (c .library-number .ensures .0)
+    library-refused (c .before .before .before .before .before .before .before .before .args .s .now) _ _ (r .result) (r .ensures) (told .0 .0) (c .library-number .result) (told .0 .1 .0) (told .1) (c .library-number .ensures .0)
 
 pub judge-library-spec : {M : Type 1} → statement M
-judge-library-spec = tie.close (tie.spec read-library-requires enum-told enum-known-scan library-number-requires returns returns-2)
+judge-library-spec =
+    tie.close
+    (tie.spec
+    slice-aggregate-read-sheet
+    read-sheet-requires
+    enum-told
+    enum-known-scan
+    library-number-requires
+    returns
+    returns-2)

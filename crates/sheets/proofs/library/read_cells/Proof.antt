@@ -11,6 +11,7 @@ use Rattle.sheets.specs.Layout.{rowWords, tableFrom, patternRows}
 use Rattle.sheets.specs.Inside.{cellAfter}
 use Rattle.sheets.specs.Reach.{cellBits}
 use Rattle.sheets.proofs.Cells.{turn-scan, turn-total, turn-rows}
+use Rattle.sheets.proofs.Laws.{table-same}
 use Rattle.sheets.proofs.library.read_cells.Statement.{statement}
 use Rattle.sheets.proofs.library.read_cells.Tie as tie
 
@@ -33,7 +34,9 @@ unfolding times tableFrom patternRows patternsFrom
 loop-holds c = (omega arith, refl, refl, omega arith, refl, λ q. refl, omega arith)
 
 read-cell-requires : tie.Need-read-cell-requires Inv-loop μ-loop
-read-cell-requires c κs = omega arith
+read-cell-requires c κs =
+    let i = c .before .before .loop in
+    (omega arith, table-same (c .before .before .before .before .before .args .rows .now) (i .rows) (i .inv .1) (c .before .before .before .before .before .pre .1), omega arith, omega arith)
 
 cast-total : tie.Need-cast-total Inv-loop μ-loop
 cast-total c = omega arith

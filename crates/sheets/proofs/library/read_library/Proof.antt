@@ -1,40 +1,19 @@
-use borrow.Author.Needs.{needs}
+use mathlib.Core.Path.{refl}
+use mathlib.Core.Logic.{inl}
 use Rattle.sheets.proofs.Whole.{library-is}
 use Rattle.sheets.proofs.library.read_library.Statement.{statement}
 use Rattle.sheets.proofs.library.read_library.Tie as tie
 
-begin-requires : tie.Need-begin-requires
-begin-requires c κs = search needs
+slice-aggregate-read-sheet : tie.Need-slice-aggregate-read-sheet
+slice-aggregate-read-sheet c = refl
 
-ranged-requires : tie.Need-ranged-requires
-ranged-requires c κs = search needs
-
-read-bins-requires : tie.Need-read-bins-requires
-read-bins-requires c κs = search needs
-
-cast-t14 : tie.Need-cast-t14
-cast-t14 c = search needs
-
-ranged-requires-2 : tie.Need-ranged-requires-2
-ranged-requires-2 c κs = search needs
-
-slice-aggregate-read-cells : tie.Need-slice-aggregate-read-cells
-slice-aggregate-read-cells c = search needs
-
-read-cells-requires : tie.Need-read-cells-requires
-read-cells-requires c κs = search needs
-
-end-requires : tie.Need-end-requires
-end-requires c κs = search needs
-
-cast-t14-2 : tie.Need-cast-t14-2
-cast-t14-2 c = search needs
+read-sheet-requires : tie.Need-read-sheet-requires
+read-sheet-requires c κs = inl refl
 
 returns : tie.Need-returns
 returns c =
-    let cells = c .before .before .before .read-cells in
-    library-is (c .before .before .before .before .before .before .before .before .before .before .before .before .args .s .now) (c .before .before .before .before .before .before .before .before .before .before .begin .result) (c .before .before .before .before .before .before .before .before .before .ranged .result) (c .before .before .before .before .before .before .before .before .read-bins .result) (c .before .before .before .before .before .ranged2 .result) (cells .result) (cells .last .1 .1 .1 .1 .0) (c .before .end .result)
-    (c .before .before .before .before .before .before .before .before .before .before .begin .ensures .0) (c .before .before .before .before .before .before .before .before .before .ranged .ensures) (c .before .before .before .before .before .before .before .before .read-bins .ensures) (c .before .before .before .before .before .ranged2 .ensures) (cells .ensures) (c .before .end .ensures)
+    let read = c .before .before .read-sheet in
+    library-is (c .before .before .before .before .before .args .s .now) (read .last .1 .0) (read .result) (read .ensures)
 
 pub read-library-spec : {M : Type 1} → statement M
-read-library-spec = tie.close (tie.spec begin-requires ranged-requires read-bins-requires cast-t14 ranged-requires-2 slice-aggregate-read-cells read-cells-requires end-requires cast-t14-2 returns)
+read-library-spec = tie.close (tie.spec slice-aggregate-read-sheet read-sheet-requires returns)

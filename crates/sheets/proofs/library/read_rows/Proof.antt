@@ -2,9 +2,7 @@ use native.Mathlib.Omega.{arith}
 use Prim.Native.Nat.{ℕ, _≤_, _+_, _-_, _*_}
 use mathlib.Core.Path.{_≡_, refl, ap, _∙_}
 use mathlib.Core.List.{List, map}
-use lib.ListN.{length, drop, length-drop}
-use lib.Seq.{length-take-le}
-use borrow.Rule.Slice.PartMut.{same-len-mid}
+use lib.ListN.{length}
 use Rattle.fields.specs.declared.Scan.{Scan}
 use Rattle.shapes.specs.Shape.{Shape}
 use Rattle.fields.specs.Reading.{place, times}
@@ -12,7 +10,7 @@ use Rattle.fields.specs.Promises.{Live}
 use Rattle.sheets.specs.Layout.{rowWords, tableFrom}
 use Rattle.sheets.specs.Inside.{rowUnder, patternOf}
 use Rattle.sheets.specs.Reach.{patternBits}
-use Rattle.sheets.proofs.Laws.{rows-turn}
+use Rattle.sheets.proofs.Laws.{rows-turn, table-same}
 use Rattle.sheets.proofs.library.read_rows.Statement.{statement}
 use Rattle.sheets.proofs.library.read_rows.Tie as tie
 
@@ -32,36 +30,16 @@ loop-holds : tie.Need-loop-holds Inv-loop μ-loop
 unfolding times tableFrom
 loop-holds c = (omega arith, refl, refl, λ q. refl, omega arith)
 
-cast-first : tie.Need-cast-first Inv-loop μ-loop
-cast-first c = omega arith
+cast-keep-row : tie.Need-cast-keep-row Inv-loop μ-loop
+cast-keep-row c = omega arith
 
-add-first : tie.Need-add-first Inv-loop μ-loop
-add-first c = omega arith
+add-keep-row : tie.Need-add-keep-row Inv-loop μ-loop
+add-keep-row c = omega arith
 
-mul-first : tie.Need-mul-first Inv-loop μ-loop
-mul-first c = omega arith
-
-add-read-row : tie.Need-add-read-row Inv-loop μ-loop
-add-read-row c = omega arith
-
-mul-read-row : tie.Need-mul-read-row Inv-loop μ-loop
-mul-read-row c = omega arith
-
-sub-read-row : tie.Need-sub-read-row Inv-loop μ-loop
-sub-read-row c = omega arith
-
-part-read-row-start : tie.Need-part-read-row-start Inv-loop μ-loop
-part-read-row-start c = omega arith
-
-part-read-row-end : tie.Need-part-read-row-end Inv-loop μ-loop
-part-read-row-end c = omega arith
-
-read-row-requires : tie.Need-read-row-requires Inv-loop μ-loop
-read-row-requires c κs =
-    let a = c .before .before .before .before .before .args in
+keep-row-requires : tie.Need-keep-row-requires Inv-loop μ-loop
+keep-row-requires c κs =
     let i = c .before .before .loop in
-    let first = rowWords * (a .total + i .k) in
-    (omega arith, length-take-le (first + rowWords - first) (drop first (i .rows)) (omega (arith, length-drop first (i .rows), i .inv .1)) ∙ omega arith, omega (arith, i .inv .4))
+    (omega arith, table-same (c .before .before .before .before .before .args .rows .now) (i .rows) (i .inv .1) (c .before .before .before .before .before .pre .1), omega arith, omega (arith, i .inv .4))
 
 add-k : tie.Need-add-k Inv-loop μ-loop
 add-k c = omega arith
@@ -73,16 +51,9 @@ loop-again : tie.Need-loop-again Inv-loop μ-loop
 loop-again c =
     let a = c .before .before .before .before .before .before .before .before .args in
     let i = c .before .before .before .before .before .loop in
-    let first = rowWords * (a .total + i .k) in
-    let r = c .before .before .read-row in
-    let turn = rows-turn (a .s .now) (a .numbered) (a .total) (a .scan) (a .rows .now) (i .k) (i .rows) (r .last .1 .1 .1 .0) (i .at) (r .result) (first + rowWords - first)
-    (omega arith) (omega (arith, i .inv .1)) (i .inv .2) (i .inv .3) (r .ensures) in (
-      omega arith,
-      same-len-mid first (first + rowWords - first) (i .rows) (r .last .1 .1 .1 .0) (r .kept .1 .1 .1 .0) ∙ i .inv .1,
-      turn .0,
-      turn .1,
-      omega (arith, r .ensures .near, i .inv .4),
-    )
+    let r = c .before .before .keep-row in
+    let turn = rows-turn (a .s .now) (a .numbered) (a .total) (a .scan) (a .rows .now) (i .k) (i .rows) (r .last .1 .1 .1 .1 .0) (i .at) (r .result) (i .inv .2) (i .inv .3) (r .ensures) in
+    (omega arith, r .kept .1 .1 .1 .1 .0 ∙ i .inv .1, turn .0, turn .1, omega (arith, r .ensures .near, i .inv .4))
 
 same-length : tie.Need-same-length Inv-loop μ-loop
 same-length c = c .before .loop .inv .1
@@ -100,4 +71,17 @@ returns c =
     }
 
 pub read-rows-spec : {M : Type 1} → statement M
-read-rows-spec = tie.close (tie.spec Inv-loop μ-loop loop-holds cast-first add-first mul-first add-read-row mul-read-row sub-read-row part-read-row-start part-read-row-end read-row-requires add-k loop-less loop-again same-length returns)
+read-rows-spec =
+    tie.close
+    (tie.spec
+    Inv-loop
+    μ-loop
+    loop-holds
+    cast-keep-row
+    add-keep-row
+    keep-row-requires
+    add-k
+    loop-less
+    loop-again
+    same-length
+    returns)
