@@ -46,11 +46,6 @@ value-lt s i (suc w) = rw pow-suc (omega (arith, value-lt s i w, bit-lt s (i + w
 pub value-small : (s : List ℕ) (i w m : ℕ) → w ≤ m → valueAt s i w < 2 ^ m
 value-small s i w m h = lt-of-lt-of-le (value-lt s i w) (pow-mono h)
 
--- One bit more of a field.
-pub value-more : (s : List ℕ) (i k v b : ℕ) → v ≡ valueAt s i k → b ≡ bitAt s (i + k) → 2 * v + b ≡ valueAt s i (k + 1)
-unfolding valueAt
-value-more s i k v b p q = rw (p, q, add-one, valueAt)
-
 pub after-lt : (i : ℕ) → after i < 8
 unfolding after
 after-lt i = omega arith

@@ -14,7 +14,8 @@ use lib.Dec.{eqb, leb}
 use borrow.Author.Tests.{le-leb, lt-leb, eq-eqb, ne-eqb}
 use Rattle.bits.specs.declared.Cursor.{Cursor}
 use Rattle.bits.specs.declared.FieldRead.the-variants.{Value, Truncated}
-use Rattle.bits.specs.Bits.{after, bitAt, valueAt, cursorAt, fieldAt, bytesTo, restOf, endsAt, Opens}
+use Rattle.bits.specs.Bits.{after, bitAt, valueAt, cursorAt, fieldAt, bytesTo, restOf, endsAt}
+use Rattle.bits.specs.Promises.{Opens}
 use Rattle.bits.proofs.Laws.{value-lt, value-small, value-cong}
 
 -- a + b bits are the first a and then the last b.
@@ -139,13 +140,14 @@ pub record Copied (s : List ℕ) (at k : ℕ) (e : List ℕ) : Type 0 where
   pub there : (j : ℕ) → j < k → getD e j 0 ≡ getD s (at + j) 0
   pub zeros : (j : ℕ) → k ≤ j → getD e j 0 ≡ 0
 
-zero-bytes : (n j : ℕ) → getD {A = ℕ} (replicate n 0) j 0 ≡ 0
-zero-bytes zero j = refl
-zero-bytes (suc n) zero = refl
-zero-bytes (suc n) (suc j) = zero-bytes n j
+-- Every place of a list of zeros, and past its end.
+pub zeros-at : (n j : ℕ) → getD (replicate {A = ℕ} n 0) j 0 ≡ 0
+zeros-at zero j = refl
+zeros-at (suc n) zero = refl
+zeros-at (suc n) (suc j) = zeros-at n j
 
 pub copied-none : (s : List ℕ) (at : ℕ) → Copied s at 0 (replicate 256 0)
-copied-none s at = record { long = refl; there = λ j l. absurd (omega arith); zeros = λ j l. zero-bytes 256 j }
+copied-none s at = record { long = refl; there = λ j l. absurd (omega arith); zeros = λ j l. zeros-at 256 j }
 
 pub copied-more : (s : List ℕ) (at k : ℕ) (e : List ℕ) → Copied s at k e → k < 256 → Copied s at (k + 1) (set e k (getD s (at + k) 0))
 copied-more s at k e h l = record {

@@ -1,2 +1,3 @@
 -- What the contracts of `bits` say.
 pub mod Bits
+pub mod Promises

@@ -1,10 +1,11 @@
 // Bit fields, most significant bit first, read from bytes and written into them.
-// No place is divided in reading: a cursor has its byte and how much of it is behind, and goes on by adding and comparing.
+// No place is divided in reading: a cursor has the number of its byte and how many of its bits are before the place, and goes on by adding and comparing.
 ghost use mathlib.Core.Path.{_≡_};
 ghost use Prim.Native.Nat.{_+_, _-_, _*_, _/_, _%_, _<_, _≤_, _^_, min};
 ghost use lib.ListN.{length, drop};
 ghost use lib.Dec.{leb};
-ghost use Rattle.bits.specs.Bits.{placeOf, cursorAt, valueAt, fieldAt, endsAt, withBit, withField, Opens, FieldOf, Weight};
+ghost use Rattle.bits.specs.Bits.{placeOf, cursorAt, valueAt, fieldAt, endsAt, withBit, withField};
+ghost use Rattle.bits.specs.Promises.{Opens, Opened, FieldOf, Weight};
 
 // A place in bytes: the number of a byte, and how many of its bits are before the place.
 pub struct Cursor {
@@ -76,7 +77,7 @@ impl Cursor {
         self.used == 0
     }
 
-    // The field of `width` bits at the cursor.
+    // The field of `width` bits at the cursor. Where a word is there and has the field, it is cut from it; else, near the end and for wide fields, it is read byte by byte.
     pub fn field(self, s: &[u8], width: usize) -> FieldRead
         requires { ⌜ (placeOf self < 2 ^ 32) × (width ≤ 64) ⌝ }
         ensures { λ r. ⌜ r ≡ fieldAt (now (s .entry)) (placeOf self) width ⌝ }
@@ -97,7 +98,7 @@ impl Cursor {
 
     // The field of `width` bits at the cursor, in `bytes` bytes that open so.
     pub fn field_of(self, opening: &[u8; Cursor::OPENING], bytes: usize, width: usize) -> FieldRead
-        requires { ⌜ (self .used < 8) × (self .byte ≤ 252) × (width ≤ 24) ⌝ }
+        requires { ⌜ Opened (now opening) bytes × (self .used < 8) × (self .byte ≤ 252) × (width ≤ 24) ⌝ }
         ensures { λ r. ⌜ FieldOf (now (opening .entry)) bytes (placeOf self) width r ⌝ }
     {
         let byte = self.byte;
@@ -117,6 +118,7 @@ impl Cursor {
         requires { ⌜ placeOf self < 2 ^ 32 ⌝ }
         ensures { λ r. ⌜ r ≡ endsAt (now (s .entry)) (placeOf self) ⌝ }
     {
+        // A cursor may have a byte that is used up.
         let at = self.on(0);
         let byte = at.byte;
         let used = at.used;
@@ -188,7 +190,7 @@ fn cut(number: u64, bits: usize, used: usize, width: usize) -> u64
     number / power(bits - (used + width)) % power(width)
 }
 
-// The number in the `width` bits after the first `used` from byte `byte` on, byte by byte.
+// The number in the `width` bits after the first `used` from byte `byte` on, byte by byte. The sum of the three stays far from what a word can hold.
 fn spread(s: &[u8], byte: usize, used: usize, width: usize) -> u64
     requires { ⌜ (8 * byte + used + width ≤ 8 * length (now s)) × (byte + used + width < 2 ^ 33) × (width ≤ 64) ⌝ }
     ensures { λ r. ⌜ (r ≡ valueAt (now (s .entry)) (8 * byte + used) width) × (r < 2 ^ width) ⌝ }

@@ -42,16 +42,16 @@ read s i w = go (leb (i + w) (8 * length s))
     go true = reads (value-small s i w w (omega arith))
     go false = ends
 
--- What was found has w bits.
+-- The value that was found, and the cursor.
 abbrev foundValue : FieldRead.FieldRead → ℕ
 foundValue FieldRead.the-variants.Truncated = 0
 foundValue (FieldRead.the-variants.Value x n) = x
 
--- And where the cursor stands then.
 abbrev pub cursorIn : FieldRead.FieldRead → Cursor
 cursorIn FieldRead.the-variants.Truncated = cursorAt 0
 cursorIn (FieldRead.the-variants.Value x n) = n
 
+-- What was found has w bits.
 pub found-fits : (s : List ℕ) (i w x : ℕ) (n : Cursor) (f : FieldRead.FieldRead) → f ≡ fieldAt s i w → f ≡ FieldRead.the-variants.Value x n → x < 2 ^ w
 found-fits s i w x n f e q = subst (λ (v : ℕ). v < 2 ^ w) (ap foundValue (sym e ∙ q)) (go (fieldAt s i w) (read s i w))
   where

@@ -1,10 +1,10 @@
--- Laws about lists: runs written from a place on, elements at their places, lists of zeros.
+-- Laws about lists: runs written from a place on, elements at their places.
 use mathlib.Core.Path.{_≡_, refl, sym, ap, _∙_}
 use mathlib.Core.List.{List, [], _∷_, _++_, map, append-assoc, List·Memᴰ, List·Memᴰ·head, List·Memᴰ·tail}
 use Prim.Native.Nat.{ℕ, zero, suc, _+_, _≤_, _<_}
 use native.Mathlib.Nat.{add-zero, zero-add, add-suc, suc-add}
 use native.Mathlib.Omega.{arith}
-use lib.ListN.{length, getD, take, drop, set, replicate, length-append, length-drop, length-set, take-append-drop}
+use lib.ListN.{length, getD, take, drop, set, length-append, length-drop, length-set, take-append-drop}
 use lib.Seq.{sets, getD-set-same, getD-set-other, sets-eq, set-comm, take-at, length-take-le, drop-append-le, drop-drop}
 use borrow.Rule.Slice.PartMut.{putMid}
 
@@ -67,9 +67,3 @@ module _ {A : Type 0} where
   at-map f [] k d e h = absurd (omega arith)
   at-map f (x ∷ l) zero d e h = refl
   at-map f (x ∷ l) (suc k) d e h = at-map f l k d e (omega arith)
-
--- Every place of a list of zeros, and past its end.
-pub zeros-at : (n k : ℕ) → getD (replicate {A = ℕ} n 0) k 0 ≡ 0
-zeros-at zero k = refl
-zeros-at (suc n) zero = refl
-zeros-at (suc n) (suc k) = zeros-at n k

@@ -21,7 +21,7 @@ use Rattle.fields.specs.declared.Verdict.the-variants.{Sound, Faulty}
 use Rattle.fields.specs.Reading.{Reader, times, start, place, field, taken, settled, ended}
 use Rattle.fields.specs.Promises.{Live}
 use Rattle.fields.specs.Written.{Field, widths, written, packed}
-use Rattle.fields.proofs.Lists.{zeros-at}
+use Rattle.bits.proofs.Words.{zeros-at}
 use Rattle.fields.proofs.Laws.{Read, ends, reads, read}
 use Rattle.fields.proofs.Written.{packed-reads, packed-ends, widths-append}
 

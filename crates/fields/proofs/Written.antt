@@ -18,7 +18,7 @@ use Rattle.fields.specs.declared.Scan.the-variants.{At, Refused}
 use Rattle.fields.specs.declared.Fault.the-variants.{Tail}
 use Rattle.fields.specs.Reading.{Reader, done, _>>=_, times, start, free, taken, field, ended}
 use Rattle.fields.specs.Written.{Field, widths, written, packed}
-use Rattle.fields.proofs.Lists.{zeros-at}
+use Rattle.bits.proofs.Words.{zeros-at}
 use Rattle.fields.proofs.Laws.{times-more}
 
 length-written : (fs : List Field) (i : ℕ) (s : List ℕ) → length (written fs i s) ≡ length s

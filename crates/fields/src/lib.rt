@@ -60,11 +60,10 @@ pub fn raw(scan: Scan, s: &[u8], width: usize) -> Got
     let Scan::At(c) = scan else {
         return Got { value: 0, scan };
     };
-    let at = c.place();
     let FieldRead::Value(value, next) = c.field(s, width) else {
         return Got {
             value: 0,
-            scan: Scan::Refused(Fault::Truncated, at),
+            scan: Scan::Refused(Fault::Truncated, c.place()),
         };
     };
     Got {
@@ -121,9 +120,8 @@ pub fn end(scan: Scan, s: &[u8]) -> Scan
     let Scan::At(c) = scan else {
         return scan;
     };
-    let at = c.place();
     if c.ends(s) {
         return scan;
     }
-    Scan::Refused(Fault::Tail, at)
+    Scan::Refused(Fault::Tail, c.place())
 }

@@ -19,7 +19,7 @@ use Rattle.fields.specs.Reading.{Reader, place, field}
 use Rattle.shapes.specs.Shape.{Shape, leaf, inv, nand, size, leaves, nands, symbols, sizes, leafSymbol}
 use Rattle.shapes.specs.Drawing.{elem, leafVerdict, leafNode, pair, branch, node}
 use Rattle.fields.proofs.Lists.{sets-append, take-sets}
-use Rattle.fields.specs.Promises.{Reads, Live}
+use Rattle.fields.specs.Promises.{Live}
 use Rattle.shapes.specs.Promises.{Reached, Coded, Laid, Went, LeafRead, NodeRead, PairRead}
 
 -- ---- a leaf

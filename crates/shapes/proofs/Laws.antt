@@ -1,4 +1,4 @@
--- Laws about a node's code and a leaf's number.
+-- Laws about a node's code, how a reader ends, a field in an opening and the words of the readers.
 use mathlib.Core.Path.{_≡_, refl, sym, ap, ap₂, subst, _∙_}
 use mathlib.Core.List.{List, [], _∷_}
 use mathlib.Core.Bool.{Bool, true, false, cond, _&&_}
@@ -72,15 +72,11 @@ pub outcome-place : (k : ℕ) (c : Cursor) → place (outcome k c) ≡ placeOf c
 outcome-place zero c = refl
 outcome-place (suc k) c = refl
 
-pub outcome-live : (k : ℕ) (c : Cursor) → Live (outcome k c) → k ≡ 0
-outcome-live zero c l = refl
-outcome-live (suc k) c l = absurd l
-
 -- ---- a field in an opening, by what was found there
 
 module _ (s : List ℕ) (c : Cursor) (w : ℕ) (v : ℕ → Verdict) (f : FieldRead) (here : f ≡ fieldAt s (placeOf c) w) where
-  pub field-torn : f ≡ TruncatedField → (0, outcome 1 c) ≡ field s w v (At c)
-  field-torn e = ap (taken (placeOf c) v) (sym e ∙ here)
+  pub field-truncated : f ≡ TruncatedField → (0, outcome 1 c) ≡ field s w v (At c)
+  field-truncated e = ap (taken (placeOf c) v) (sym e ∙ here)
 
   pub field-faulty : (k x : ℕ) (n : Cursor) → f ≡ Value x n → 0 < k → verdictOf k ≡ v x → (0, outcome k c) ≡ field s w v (At c)
   field-faulty zero x n e h q = absurd (omega arith)

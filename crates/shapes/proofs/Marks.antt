@@ -1,51 +1,81 @@
 -- Laws about the marks of pins: the words of the readers as a leaf and a gate change them, and what the marks say.
-use mathlib.Core.Path.{_≡_, refl, sym, ap, ap₂, subst, _∙_}
+use mathlib.Core.Path.{_≡_, refl, sym, ap, ap₂, _∙_}
 use mathlib.Core.List.{List, [], _∷_, _++_}
-use mathlib.Core.Logic.{_⊎_, inl, inr, _≢_}
-use mathlib.Core.Bool.{Bool, true, false, cond, _&&_, _||_, or-false}
+use mathlib.Core.Logic.{_⊎_, inl, inr}
+use mathlib.Core.Bool.{Bool, true, false, cond, _&&_, _||_, or-false, or-true}
 use Prim.Native.Nat.{ℕ, zero, suc, _+_, _≤_, _<_}
 use native.Mathlib.Nat.{eq-or-lt-of-le, le-of-suc-le-suc}
 use native.Mathlib.Decide.{ℕ-discrete}
 use native.Mathlib.Numerals.{add-one}
 use native.Mathlib.Omega.{arith}
-use lib.ListN.{length, take, drop, getD, set, length-drop, length-set}
-use lib.Seq.{getD-set-same, getD-set-other, getD-drop, drop-set-add, take-suc-set}
+use lib.ListN.{length, take, getD, set, length-drop, length-set}
+use lib.Seq.{getD-set-same, getD-set-other, drop-set-add, take-suc-set}
 use lib.Dec.{eqb, leb}
-use borrow.Author.Tests.{eq-eqb, ne-eqb, le-leb, lt-leb}
-use Rattle.bits.specs.declared.Cursor.{Cursor}
-use Rattle.fields.specs.declared.Fault.the-variants.{Drawing}
+use borrow.Author.Tests.{eq-eqb, ne-eqb, leb-true}
+use Rattle.fields.specs.declared.Fault.the-variants.{Range, Drawing}
 use Rattle.fields.specs.declared.Verdict.the-variants.{Sound, Faulty}
 use Rattle.shapes.specs.declared.Rules.{Rules}
 use Rattle.shapes.specs.Shape.{leafSymbol}
 use Rattle.shapes.specs.Drawing.{elem, hasAll, leafVerdict}
-use Rattle.shapes.specs.Promises.{cursorOf, nextOf, pinsOf, Met, Marked}
+use Rattle.shapes.specs.Promises.{cursorOf, nextOf, pinsOf, Met, Marked, allMarked, markVerdict}
 use Rattle.shapes.proofs.Pins.{elem-append}
 
--- ---- a leaf's number, by its mark
+-- ---- what the marks say
 
-module _ (pins seen : List ℕ) (x : ℕ) (met : getD pins x 0 ≡ cond (elem (leafSymbol x) seen) 1 0) where
-  pub seen-is : (getD pins x 0 ≡ 0 → ⊥) → elem (leafSymbol x) seen ≡ true
-  seen-is h = go (elem (leafSymbol x) seen) refl
-    where
-      go : (b : Bool) → elem (leafSymbol x) seen ≡ b → elem (leafSymbol x) seen ≡ true
-      go true e = e
-      go false e = absurd (h (met ∙ ap (λ (k : Bool). cond k 1 0) e))
+-- A leaf's number by its mark is a leaf's number after the symbols seen.
+pub mark-leaf : (rules : Rules) (pins seen : List ℕ) (x : ℕ) → Met rules pins seen → markVerdict rules (getD pins x 0) x ≡ leafVerdict rules seen x
+unfolding leafVerdict
+mark-leaf rules pins seen x met = go (leb x (rules .most)) (rules .pattern) (elem (leafSymbol x) seen) refl refl refl
+  where
+    go : (a b k : Bool) → leb x (rules .most) ≡ a → rules .pattern ≡ b → elem (leafSymbol x) seen ≡ k →
+        cond (leb x (rules .most)) (cond (rules .pattern) (cond (eqb (getD pins x 0) 0) Sound (Faulty Drawing)) Sound) (Faulty Range)
+        ≡ cond (leb x (rules .most)) (cond (rules .pattern && elem (leafSymbol x) seen) (Faulty Drawing) Sound) (Faulty Range)
+    go false b k ea eb ek = rw ea refl
+    go true false k ea eb ek = rw (ea, eb) refl
+    go true true k ea eb ek = rw (ea, eb, met eb x (leb-true x (rules .most) ea), ek) (hit k)
+      where
+        hit : (k : Bool) → cond (eqb (cond k 1 0) 0) Sound (Faulty Drawing) ≡ cond k (Faulty Drawing) Sound
+        hit true = refl
+        hit false = refl
 
-  pub unseen-is : getD pins x 0 ≡ 0 → elem (leafSymbol x) seen ≡ false
-  unseen-is h = go (elem (leafSymbol x) seen) refl
-    where
-      go : (b : Bool) → elem (leafSymbol x) seen ≡ b → elem (leafSymbol x) seen ≡ false
-      go true e = absurd (omega (arith, met ∙ ap (λ (k : Bool). cond k 1 0) e))
-      go false e = e
+-- All of the first pins are marked exactly when all were seen.
+marked-all : (pins nodes : List ℕ) (n : ℕ) → ((x : ℕ) → x < n → getD pins x 0 ≡ cond (elem (leafSymbol x) nodes) 1 0) → allMarked n pins ≡ hasAll n nodes
+unfolding allMarked hasAll
+marked-all pins nodes zero met = refl
+marked-all pins nodes (suc n) met =
+    rw (met n (omega arith), marked-all pins nodes n (λ x h. met x (omega arith))) (go (elem (leafSymbol n) nodes) (hasAll n nodes))
+  where
+    go : (k b : Bool) → cond (eqb (cond k 1 0) 0) false b ≡ (b && k)
+    go true true = refl
+    go true false = refl
+    go false true = refl
+    go false false = refl
 
-module _ (rules : Rules) (pins seen : List ℕ) (x : ℕ) (met : Met rules pins seen) (p : rules .pattern ≡ true) (l : x ≤ rules .most) where
-  pub repeated : (getD pins x 0 ≡ 0 → ⊥) → Faulty Drawing ≡ leafVerdict rules seen x
-  unfolding leafVerdict
-  repeated h = simp (le-leb x (rules .most) l, p, seen-is pins seen x (met p x l) h)
+pub whole-marked : (rules : Rules) (pins nodes : List ℕ) → Met rules pins nodes →
+    (rules .pattern && allMarked (suc (rules .most)) pins) ≡ (rules .pattern && hasAll (suc (rules .most)) nodes)
+whole-marked rules pins nodes met = go (rules .pattern) refl
+  where
+    go : (b : Bool) → rules .pattern ≡ b → (b && allMarked (suc (rules .most)) pins) ≡ (b && hasAll (suc (rules .most)) nodes)
+    go true e = marked-all pins nodes (suc (rules .most)) (λ x h. met e x (omega arith))
+    go false e = refl
 
-  pub fresh-pin : getD pins x 0 ≡ 0 → Sound ≡ leafVerdict rules seen x
-  unfolding leafVerdict
-  fresh-pin h = simp (le-leb x (rules .most) l, p, unseen-is pins seen x (met p x l) h)
+-- Without a mark for one of them not all are marked, and one more.
+pub lacks-mark : (n m : ℕ) (pins : List ℕ) → n < m → getD pins n 0 ≡ 0 → allMarked m pins ≡ false
+unfolding allMarked
+lacks-mark n zero pins h e = absurd (omega arith)
+lacks-mark n (suc m) pins h e = go (λ q. lacks-mark n m pins q e) (eq-or-lt-of-le (le-of-suc-le-suc h))
+  where
+    go : (n < m → allMarked m pins ≡ false) → (n ≡ m) ⊎ (n < m) → cond (eqb (getD pins m 0) 0) false (allMarked m pins) ≡ false
+    go rec (inl q) = rw (eq-eqb (getD pins m 0) 0 (ap (λ (i : ℕ). getD pins i 0) (sym q) ∙ e)) refl
+    go rec (inr q) = rw (rec q) (either (eqb (getD pins m 0) 0))
+      where
+        either : (b : Bool) → cond b false false ≡ false
+        either true = refl
+        either false = refl
+
+pub mark-more : (n : ℕ) (pins : List ℕ) → allMarked n pins ≡ true → (getD pins n 0 ≡ 0 → ⊥) → allMarked (n + 1) pins ≡ true
+unfolding allMarked
+mark-more n pins h e = rw add-one (rw (ne-eqb (getD pins n 0) 0 e) h)
 
 -- ---- marks as nodes are read
 
@@ -77,10 +107,6 @@ met-leaf rules words words′ l n y lw ly len mk met p x b =
     seen : elem (leafSymbol x) (take (n + 1) (set l n (2 + y))) ≡ (elem (leafSymbol x) (take n l) || eqb (leafSymbol x) (2 + y))
     seen = seen-next l n (2 + y) x len
 
-    or-true : (a : Bool) → (a || true) ≡ true
-    or-true true = refl
-    or-true false = refl
-
     go : Dec (x ≡ y) → getD (set (pinsOf words) y 1) x 0 ≡ cond (elem (leafSymbol x) (take (n + 1) (set l n (2 + y)))) 1 0
     go (yes e) =
         let long : y < length (pinsOf words) = omega (arith, length-drop 3 words) in
@@ -110,24 +136,3 @@ long-marked rules words words′ y mk = go (rules .pattern) mk
     go : (b : Bool) → words′ ≡ cond b (set words (3 + y) 1) words → length words′ ≡ length words
     go true e = ap length e ∙ length-set words (3 + y) 1
     go false e = ap length e
-
--- ---- all pins
-
--- A pattern that has the first n pins and not the next lacks a pin.
-pub lacks : (pins n : ℕ) (l : List ℕ) → n < pins → elem (2 + n) l ≡ false → hasAll pins l ≡ false
-unfolding hasAll
-lacks zero n l h e = absurd (omega arith)
-lacks (suc k) n l h e = go (λ q. lacks k n l q e) (eq-or-lt-of-le (le-of-suc-le-suc h))
-  where
-    and-false : (b : Bool) → (b && false) ≡ false
-    and-false true = refl
-    and-false false = refl
-
-    go : (n < k → hasAll k l ≡ false) → (n ≡ k) ⊎ (n < k) → (hasAll k l && elem (2 + k) l) ≡ false
-    go rec (inl q) = ap (λ (b : Bool). hasAll k l && b) (ap (λ (i : ℕ). elem (2 + i) l) (sym q) ∙ e) ∙ and-false (hasAll k l)
-    go rec (inr q) = ap (λ (b : Bool). b && elem (2 + k) l) (rec q)
-
--- One pin more.
-pub has-more : (n : ℕ) (l : List ℕ) → hasAll n l ≡ true → elem (2 + n) l ≡ true → hasAll (n + 1) l ≡ true
-unfolding hasAll
-has-more n l h e = rw (add-one, hasAll, h) e

@@ -1,19 +1,18 @@
 -- Laws about the node reader and the pair reader in an opening: what they may call, and what comes out of it.
 use mathlib.Core.Path.{_≡_, refl, sym, ap, ap₂, subst, _∙_}
 use mathlib.Core.List.{List}
-use Prim.Native.Nat.{ℕ, zero, suc, _+_, _-_, _*_, _≤_, _<_}
+use Prim.Native.Nat.{ℕ, suc, _+_, _-_, _≤_, _<_}
 use native.Mathlib.Omega.{arith}
-use lib.ListN.{length, take, set, getD, length-set}
+use lib.ListN.{length, take, set, length-set}
 use Rattle.bits.specs.declared.Cursor.{Cursor}
-use Rattle.bits.specs.Bits.{placeOf, Opens}
+use Rattle.bits.specs.Bits.{placeOf}
 use Rattle.fields.specs.declared.Scan.{Scan}
 use Rattle.fields.specs.declared.Scan.the-variants.{At}
-use Rattle.fields.specs.Reading.{place}
 use Rattle.fields.specs.Promises.{Live}
 use Rattle.shapes.specs.declared.Rules.{Rules}
 use Rattle.shapes.specs.declared.NodeCode.the-variants.{Code, Faulty}
 use Rattle.shapes.specs.Promises.{Met, outcome, cursorOf, nextOf, pinsOf, codeGot, Reached, reached, Inside, Room, LeafRoom, CodeRead, LeafRead, NodeRead, PairRead, Kept}
-use Rattle.shapes.proofs.Laws.{outcome-dead, outcome-place, outcome-live, counted-cursor, counted-next, counted-pins}
+use Rattle.shapes.proofs.Laws.{outcome-dead, outcome-place, counted-cursor, counted-next, counted-pins}
 use Rattle.shapes.proofs.Marks.{met-gate}
 use Rattle.shapes.proofs.Drawn.{node-refused, node-leaf, node-inv, node-nand, dead-read, pair-read}
 
@@ -44,8 +43,7 @@ module _ {e : List ℕ} {bytes : ℕ} {rules : Rules} {words l : List ℕ} (room
     unfolding placeOf
     leaf-room s k code = record {
       rules-are = room .rules-are;
-      sheet = room .sheet;
-      opens = room .opens;
+      opened = room .opened;
       wide = room .wide;
       room = omega (arith, code .next, in-room s k code);
       inside = (code .long, code .used, omega (arith, code .coded .reads .near, room .near));
@@ -84,8 +82,7 @@ module _ {e : List ℕ} {bytes : ℕ} {rules : Rules} {words l : List ℕ} (room
       pub gate-room : Room e bytes rules counted drawn
       gate-room = record {
         rules-are = room .rules-are;
-        sheet = room .sheet;
-        opens = room .opens;
+        opened = room .opened;
         long = length-set words₁ 2 (nextOf words₁ + 1) ∙ code .long;
         wide = length-set l (nextOf words₁) (k - 1) ∙ room .wide;
         read = omega (arith, next-is, gate-in-room);
@@ -130,8 +127,7 @@ module _ {e : List ℕ} {bytes : ℕ} {rules : Rules} {words l : List ℕ} (room
     pub second-room : f ≡ 0 → Room e bytes rules words₁ l₁
     second-room z = record {
       rules-are = room .rules-are;
-      sheet = room .sheet;
-      opens = room .opens;
+      opened = room .opened;
       long = kept .long;
       wide = kept .wide;
       read = first .went .upto;

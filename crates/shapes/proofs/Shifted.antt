@@ -1,5 +1,5 @@
 -- Reading a shape from the bytes from number b on is reading it from the whole: the same shape, every place 8 * b farther.
-use mathlib.Core.Path.{_≡_, refl, sym, ap, ap₂, subst, _∙_}
+use mathlib.Core.Path.{_≡_, refl, ap, ap₂, _∙_}
 use mathlib.Core.List.{List, [], _∷_, _++_}
 use mathlib.Core.Bool.{Bool, true, false, cond}
 use Prim.Native.Nat.{ℕ, zero, suc, _+_, _*_, _≤_, _<_}
@@ -8,17 +8,16 @@ use lib.ListN.{length, drop}
 use lib.Dec.{leb}
 use borrow.Author.Tests.{lt-leb}
 use Rattle.bits.specs.declared.Cursor.{Cursor}
-use Rattle.bits.specs.declared.FieldRead.{FieldRead}
 use Rattle.bits.specs.declared.FieldRead.the-variants.{Value, Truncated}
 use Rattle.bits.specs.Bits.{placeOf, cursorAt, valueAt, fieldAt}
 use Rattle.bits.proofs.Laws.{place-at}
 use Rattle.bits.proofs.Words.{value-drop, fits-drop}
-use Rattle.fields.specs.declared.Fault.the-variants.{Truncated as Torn}
+use Rattle.fields.specs.declared.Fault.the-variants.{Truncated as TruncatedFault}
 use Rattle.fields.specs.declared.Scan.{Scan}
 use Rattle.fields.specs.declared.Scan.the-variants.{At, Refused}
 use Rattle.fields.specs.declared.Verdict.{Verdict}
 use Rattle.fields.specs.declared.Verdict.the-variants.{Sound, Faulty}
-use Rattle.fields.specs.Reading.{Reader, place, field, taken, settled}
+use Rattle.fields.specs.Reading.{Reader, field, taken, settled}
 use Rattle.shapes.specs.declared.Rules.{Rules}
 use Rattle.shapes.specs.Shape.{Shape, leaf, inv, nand, symbols}
 use Rattle.shapes.specs.Drawing.{codeVerdict, leafVerdict, leafNode, pair, branch, node, shape}
@@ -98,6 +97,6 @@ module _ (s : List ℕ) (b : ℕ) (few : b ≤ length s) where
         ∙ branch-shift (node s rules (rules .nodes)) (node t rules (rules .nodes)) (node-shift (rules .nodes)) [] (x .0) (x .1)
 
 -- Where the bytes end before the first code.
-pub shape-torn : (s : List ℕ) (rules : Rules) (c : Cursor) → 8 * length s < placeOf c + 2 → shape s rules (At c) .1 ≡ Refused Torn (placeOf c)
+pub shape-truncated : (s : List ℕ) (rules : Rules) (c : Cursor) → 8 * length s < placeOf c + 2 → shape s rules (At c) .1 ≡ Refused TruncatedFault (placeOf c)
 unfolding shape node branch leafNode fieldAt
-shape-torn s rules c h = rw (lt-leb (placeOf c + 2) (8 * length s) h) refl
+shape-truncated s rules c h = rw (lt-leb (placeOf c + 2) (8 * length s) h) refl

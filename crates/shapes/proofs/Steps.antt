@@ -2,7 +2,7 @@
 use mathlib.Core.Path.{_≡_, refl, sym, ap, subst, _∙_}
 use mathlib.Core.List.{List}
 use mathlib.Core.Bool.{true}
-use Prim.Native.Nat.{ℕ, zero, suc, _+_, _≤_, _<_, _^_}
+use Prim.Native.Nat.{ℕ, zero, suc, _+_, _≤_, _<_}
 use native.Mathlib.Omega.{arith}
 use native.Mathlib.Numerals.{add-one}
 use lib.ListN.{length, take, set, getD, length-set}
@@ -10,19 +10,15 @@ use Rattle.bits.specs.declared.Cursor.{Cursor}
 use Rattle.bits.specs.declared.FieldRead.{FieldRead}
 use Rattle.bits.specs.declared.FieldRead.the-variants.{Value, Truncated}
 use Rattle.bits.specs.Bits.{placeOf, fieldAt}
-use Rattle.fields.specs.declared.Got.{Got}
-use Rattle.fields.specs.declared.Scan.{Scan}
 use Rattle.fields.specs.declared.Scan.the-variants.{At}
-use Rattle.fields.specs.declared.Verdict.the-variants.{Sound}
-use Rattle.fields.specs.Reading.{place, field}
-use Rattle.fields.specs.Promises.{Reads, Live}
+use Rattle.fields.specs.Reading.{field}
 use Rattle.fields.proofs.Laws.{reads-field}
 use Rattle.shapes.specs.declared.Rules.{Rules}
 use Rattle.shapes.specs.declared.NodeCode.{NodeCode}
 use Rattle.shapes.specs.declared.NodeCode.the-variants.{Code, Faulty}
 use Rattle.shapes.specs.Drawing.{codeVerdict, leafVerdict}
 use Rattle.shapes.specs.Promises.{Met, Marked, verdictOf, outcome, cursorOf, nextOf, pinsOf, codeGot, reached, CodeRead, LeafRead, Kept}
-use Rattle.shapes.proofs.Laws.{code-room, coded, outcome-dead, outcome-place, field-torn, field-faulty, field-sound, found-used, moved-cursor, moved-next, moved-pins, counted-cursor, counted-next, counted-pins}
+use Rattle.shapes.proofs.Laws.{code-room, coded, outcome-dead, outcome-place, field-truncated, field-faulty, field-sound, found-used, moved-cursor, moved-next, moved-pins, counted-cursor, counted-next, counted-pins}
 use Rattle.shapes.proofs.Marks.{met-leaf, marked-others, long-marked}
 use Rattle.shapes.proofs.Drawn.{leaf-laid, leaf-refused, leaf-passes}
 
@@ -47,8 +43,8 @@ code-read s rules words words′ r en ep el u pos e = record {
 }
 
 module _ (s : List ℕ) (rules : Rules) (words : List ℕ) (f : FieldRead) (long : length words ≡ 16) (u : getD words 1 0 < 8) (here : f ≡ fieldAt s (placeOf (cursorOf words)) 2) where
-  pub code-torn : f ≡ Truncated → CodeRead s rules words words (Faulty 1)
-  code-torn e = code-read s rules words words (Faulty 1) refl refl long u (omega arith) (field-torn s (cursorOf words) 2 (codeVerdict rules (nextOf words)) f here e)
+  pub code-truncated : f ≡ Truncated → CodeRead s rules words words (Faulty 1)
+  code-truncated e = code-read s rules words words (Faulty 1) refl refl long u (omega arith) (field-truncated s (cursorOf words) 2 (codeVerdict rules (nextOf words)) f here e)
 
   pub code-faulty : (k x : ℕ) (n : Cursor) → f ≡ Value x n → (k ≡ 0 → ⊥) → verdictOf k ≡ codeVerdict rules (nextOf words) x → CodeRead s rules words words (Faulty k)
   code-faulty k x n e h q =
@@ -88,8 +84,8 @@ module _ (s : List ℕ) (rules : Rules) (words l : List ℕ) (f : FieldRead) (lo
         record { long = long; wide = wide; used = λ x. absurd (dead x); met = λ x. absurd (dead x) },
       )
 
-  pub leaf-torn : f ≡ Truncated → Done words l 1
-  leaf-torn e = refused 1 (omega arith) (field-torn s (cursorOf words) (rules .width) (leafVerdict rules (take (nextOf words) l)) f here e)
+  pub leaf-truncated : f ≡ Truncated → Done words l 1
+  leaf-truncated e = refused 1 (omega arith) (field-truncated s (cursorOf words) (rules .width) (leafVerdict rules (take (nextOf words) l)) f here e)
 
   pub leaf-faulty : (k x : ℕ) (n : Cursor) → f ≡ Value x n → (k ≡ 0 → ⊥) → verdictOf k ≡ leafVerdict rules (take (nextOf words) l) x → Done words l k
   leaf-faulty k x n e h q =

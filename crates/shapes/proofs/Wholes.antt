@@ -1,15 +1,17 @@
 -- Laws about a whole shape: one for each way out of its reader.
-use mathlib.Core.Path.{_≡_, refl, sym, ap, subst, _∙_}
+use mathlib.Core.Path.{_≡_, refl, sym, ap, ap₂, subst, _∙_}
 use mathlib.Core.List.{List, [], _∷_}
-use mathlib.Core.Bool.{Bool, true, false}
-use Prim.Native.Nat.{ℕ, zero, suc, _+_, _-_, _*_, _≤_, _<_}
+use mathlib.Core.Bool.{Bool, false, _&&_}
+use Prim.Native.Nat.{ℕ, zero, suc, _+_, _*_, _≤_, _<_}
 use native.Mathlib.Nat.{zero-add}
 use native.Mathlib.Omega.{arith}
-use lib.ListN.{length, take, drop, getD, replicate}
+use lib.ListN.{length, take, drop, getD, replicate, length-replicate}
+use Rattle.fields.proofs.Lists.{take-sets}
 use lib.Seq.{sets}
-use Rattle.fields.proofs.Lists.{zeros-at}
+use Rattle.bits.proofs.Words.{zeros-at}
 use Rattle.bits.specs.declared.Cursor.{Cursor}
-use Rattle.bits.specs.Bits.{placeOf, cursorAt, Opens}
+use Rattle.bits.specs.Bits.{placeOf}
+use Rattle.bits.specs.Promises.{Opens}
 use Rattle.bits.proofs.Laws.{cursor-is}
 use Rattle.fields.specs.declared.Fault.the-variants.{Truncated}
 use Rattle.fields.specs.declared.Scan.{Scan}
@@ -19,11 +21,12 @@ use Rattle.fields.specs.Promises.{Live}
 use Rattle.shapes.specs.declared.Rules.{Rules}
 use Rattle.shapes.specs.declared.ShapeRead.{ShapeRead}
 use Rattle.shapes.specs.Shape.{Shape, symbols}
-use Rattle.shapes.specs.Drawing.{elem, hasAll, node, shape}
-use Rattle.shapes.specs.Promises.{AllMarked, faultOf, outcome, cursorOf, nextOf, pinsOf, reached, Followed, Room, Laid, NodeRead, Kept, ShapeIs}
+use Rattle.shapes.specs.Drawing.{elem, hasAll, shape}
+use Rattle.shapes.specs.Promises.{allMarked, faultOf, outcome, cursorOf, nextOf, pinsOf, reached, Followed, Room, Laid, NodeRead, Kept, ShapeIs}
 use Rattle.shapes.proofs.Laws.{outcome-place}
+use Rattle.shapes.proofs.Marks.{whole-marked}
 use Rattle.shapes.proofs.Drawn.{node-dead, run-seen}
-use Rattle.shapes.proofs.Shifted.{shift, shape-shift, shape-torn}
+use Rattle.shapes.proofs.Shifted.{shift, shape-shift, shape-truncated}
 
 -- ---- nothing was read
 
@@ -46,7 +49,7 @@ module _ (s : List ℕ) (rules : Rules) (l : List ℕ) (wide : length l ≡ 64) 
   pub shape-ended : (scan : Scan) (c : Cursor) (p : ℕ) → scan ≡ At c → p ≡ placeOf c → 8 * length s < placeOf c + 2 →
       ShapeIs s rules scan l l (record { scan = Refused Truncated p; size = 0; whole = false })
   shape-ended scan c p e q h =
-      none scan (Refused Truncated p) (λ x. x) (ap (Refused Truncated) q ∙ sym (shape-torn s rules c h) ∙ sym (ap (λ (k : Scan). shape s rules k .1) e)) (q ∙ sym (ap place e))
+      none scan (Refused Truncated p) (λ x. x) (ap (Refused Truncated) q ∙ sym (shape-truncated s rules c h) ∙ sym (ap (λ (k : Scan). shape s rules k .1) e)) (q ∙ sym (ap place e))
 
 -- ---- the words at the start
 
@@ -54,8 +57,7 @@ pub start-room : (e s : List ℕ) (bytes u : ℕ) (rules : Rules) (l : List ℕ)
 unfolding placeOf elem
 start-room e s bytes u rules l opens followed wide h = record {
   rules-are = followed;
-  sheet = s;
-  opens = opens;
+  opened = record { sheet = s; opens = opens };
   long = refl;
   wide = wide;
   read = omega arith;
@@ -110,7 +112,7 @@ module _ (s : List ℕ) (rules : Rules) (scan : Scan) (c : Cursor) (b u : ℕ) (
   seen : Live (outcome end next) → take (nextOf words′) l′ ≡ symbols (x .0)
   seen z = run-seen 0 l l′ (reached end words′) (x .1) (symbols (x .0)) (live z) (omega (arith, read .went .upto, followed .nodes)) laid
 
-  pub shape-done : (r : Scan) (w : Bool) → r ≡ outcome end next → (rules .pattern ≡ true → AllMarked (rules .most) (pinsOf words′) w) →
+  pub shape-done : (r : Scan) (w : Bool) → r ≡ outcome end next → w ≡ (rules .pattern && allMarked (suc (rules .most)) (pinsOf words′)) →
       ShapeIs s rules scan l l′ (record { scan = r; size = nextOf words′; whole = w })
   shape-done r w e marked =
       let shape-is : shape s rules scan .0 ≡ x .0 = ap (λ (y : Shape × Scan). y .0) whole-is in
@@ -119,8 +121,20 @@ module _ (s : List ℕ) (rules : Rules) (scan : Scan) (c : Cursor) (b u : ℕ) (
         scan-is = e ∙ ends;
         symbols-are = λ z. laid .symbols (live (back z)) ∙ ap (λ (d : Shape). sets l 0 (symbols d)) (sym shape-is);
         size-is = λ z. laid .next (live (back z)) ∙ zero-add (length (symbols (x .0))) ∙ ap (λ (d : Shape). length (symbols d)) (sym shape-is);
-        whole-is = λ z p. marked p _ (kept .met (live (back z)) p) ∙ ap (hasAll (suc (rules .most))) (seen (back z) ∙ ap symbols (sym shape-is));
+        whole-is = λ z.
+            marked ∙ whole-marked rules (pinsOf words′) (take (nextOf words′) l′) (kept .met (live (back z)))
+            ∙ ap (λ (ss : List ℕ). rules .pattern && hasAll (suc (rules .most)) ss) (seen (back z) ∙ ap symbols (sym shape-is));
         few = read .went .upto;
         wide = kept .wide;
         near = omega (arith, end-place, ap place e, outcome-place end next, ap place stands);
       }
+
+-- ---- what a whole shape says
+
+-- The first words of an array that held zeros are the shape's symbols.
+pub drawn-is : (s : List ℕ) (rules : Rules) (c : Scan) (l′ : List ℕ) (read : ShapeRead) → rules .nodes ≤ 64 → ShapeIs s rules c (replicate 64 0) l′ read → Live (read .scan) →
+    take (read .size) l′ ≡ symbols (shape s rules c .0)
+drawn-is s rules c l′ read few h z =
+    let d = shape s rules c .0 in
+    ap₂ (λ (i : ℕ) (k : List ℕ). take i k) (h .size-is z ∙ sym (zero-add (length (symbols d)))) (h .symbols-are z)
+    ∙ take-sets (replicate 64 0) 0 (symbols d) (omega (arith, h .size-is z, h .few, length-replicate {A = ℕ} 64 0))

@@ -2,11 +2,13 @@
 use Prim.Native.Nat.{ℕ, zero, suc, _+_, _-_, _*_, _≤_, _<_}
 use mathlib.Core.Path.{_≡_}
 use mathlib.Core.List.{List, _++_}
-use mathlib.Core.Bool.{Bool, true, cond}
+use mathlib.Core.Bool.{Bool, true, false, cond, _&&_}
+use lib.Dec.{leb, eqb}
 use lib.ListN.{length, take, drop, getD, set}
 use lib.Seq.{sets}
 use Rattle.bits.specs.declared.Cursor.{Cursor}
-use Rattle.bits.specs.Bits.{placeOf, Opens}
+use Rattle.bits.specs.Bits.{placeOf}
+use Rattle.bits.specs.Promises.{Opens, Opened}
 use Rattle.shapes.specs.declared.Rules.{Rules}
 use Rattle.shapes.specs.declared.NodeCode.{NodeCode}
 use Rattle.shapes.specs.declared.NodeCode.the-variants.{Code, Faulty}
@@ -20,7 +22,7 @@ use Rattle.fields.specs.declared.Scan.the-variants.{At, Refused}
 use Rattle.fields.specs.Reading.{place, field}
 use Rattle.fields.specs.Promises.{Reads, Live}
 use Rattle.shapes.specs.Shape.{Shape, symbols, sizes, leafSymbol}
-use Rattle.shapes.specs.Drawing.{elem, hasAll, codeVerdict, leafVerdict, leafNode, pair, node, shape}
+use Rattle.shapes.specs.Drawing.{elem, hasAll, codeVerdict, leafNode, pair, node, shape}
 
 -- ---- the words that the readers of a shape share
 
@@ -45,11 +47,12 @@ Met rules pins seen = rules .pattern ≡ true → (x : ℕ) → x ≤ rules .mos
 abbrev pub Marked : Rules → List ℕ → ℕ → List ℕ → Type 0
 Marked rules words pin words′ = words′ ≡ cond (rules .pattern) (set words (3 + pin) 1) words
 
--- Whether each pin up to the greatest is marked: whether all stand among nodes that these are the marks of.
-abbrev pub AllMarked : ℕ → List ℕ → Bool → Type 0
-AllMarked most pins r = (nodes : List ℕ) → ((x : ℕ) → x ≤ most → getD pins x 0 ≡ cond (elem (leafSymbol x) nodes) 1 0) → r ≡ hasAll (suc most) nodes
+-- Whether each of the first n pins is marked.
+unfoldable pub allMarked : ℕ → List ℕ → Bool
+allMarked zero pins = true
+allMarked (suc n) pins = cond (eqb (getD pins n 0) 0) false (allMarked n pins)
 
--- How a reader ends: 0, or the number of the fault at the field where it stands.
+-- How a reader ends: 0, or the number of the fault at the field where it stands. (0 is no fault, and read as one it means nothing.)
 abbrev pub faultOf : ℕ → Fault
 faultOf zero = Size
 faultOf (suc zero) = Truncated
@@ -61,9 +64,12 @@ abbrev pub verdictOf : ℕ → Verdict.Verdict
 verdictOf zero = Verdict.the-variants.Sound
 verdictOf (suc k) = Verdict.the-variants.Faulty (faultOf (suc k))
 
--- What is wrong with a leaf's number where these pins are marked.
-abbrev pub LeafFault : Rules → List ℕ → ℕ → ℕ → Type 0
-LeafFault rules pins x r = (seen : List ℕ) → Met rules pins seen → verdictOf r ≡ leafVerdict rules seen x
+-- A leaf's number, by its range and its mark.
+abbrev pub markVerdict : Rules → ℕ → ℕ → Verdict.Verdict
+markVerdict rules mark x =
+    cond (leb x (rules .most))
+    (cond (rules .pattern) (cond (eqb mark 0) Verdict.the-variants.Sound (Verdict.the-variants.Faulty Drawing)) Verdict.the-variants.Sound)
+    (Verdict.the-variants.Faulty Range)
 
 abbrev pub outcome : ℕ → Cursor → Scan
 outcome zero c = At c
@@ -87,26 +93,25 @@ nodeBits = 26
 abbrev pub reach : ℕ
 reach = 1048576
 
--- A shape starts in the first byte of an opening and ends within 2,000 bits.
+-- A shape starts in the first byte of an opening, and each of its fields so that a word, four bytes, from its byte on is in the opening.
 abbrev pub openReach : ℕ
-openReach = 2000
+openReach = 8 * 252
 
--- The rules that the reader can follow.
+-- The rules that the reader can follow. Of its 16 words 13 are for pins.
 pub record Followed (rules : Rules) : Type 0 where
   pub width : rules .width ≤ 24
   pub most : rules .most ≤ 16777215
   pub nodes : rules .nodes ≤ 64
   pub pins : rules .pattern ≡ true → rules .most ≤ 12
 
--- The cursor stands in the opening, far enough from its end.
+-- The cursor stands in the opening, with a word from its byte on.
 abbrev pub Inside : List ℕ → Type 0
 Inside words = (length words ≡ 16) × (getD words 1 0 < 8) × (getD words 0 0 ≤ 252)
 
 -- What the readers are lent: an opening of some bytes, room for every node, and the words.
 pub record Room (e : List ℕ) (bytes : ℕ) (rules : Rules) (words l : List ℕ) : Type 0 where
   pub rules-are : Followed rules
-  pub sheet : List ℕ
-  pub opens : Opens e sheet bytes
+  pub opened : Opened e bytes
   pub long : length words ≡ 16
   pub wide : length l ≡ 64
   pub read : nextOf words ≤ rules .nodes
@@ -117,8 +122,7 @@ pub record Room (e : List ℕ) (bytes : ℕ) (rules : Rules) (words l : List ℕ
 -- After a leaf's code: there is room for the leaf.
 pub record LeafRoom (e : List ℕ) (bytes : ℕ) (rules : Rules) (words l : List ℕ) : Type 0 where
   pub rules-are : Followed rules
-  pub sheet : List ℕ
-  pub opens : Opens e sheet bytes
+  pub opened : Opened e bytes
   pub wide : length l ≡ 64
   pub room : nextOf words < rules .nodes
   pub inside : Inside words
@@ -204,7 +208,7 @@ pub record ShapeIs (s : List ℕ) (rules : Rules) (scan : Scan) (l l′ : List �
   pub scan-is : r .scan ≡ shape s rules scan .1
   pub symbols-are : Live (r .scan) → l′ ≡ sets l 0 (symbols (shape s rules scan .0))
   pub size-is : Live (r .scan) → r .size ≡ length (symbols (shape s rules scan .0))
-  pub whole-is : Live (r .scan) → rules .pattern ≡ true → r .whole ≡ hasAll (suc (rules .most)) (symbols (shape s rules scan .0))
+  pub whole-is : Live (r .scan) → r .whole ≡ (rules .pattern && hasAll (suc (rules .most)) (symbols (shape s rules scan .0)))
   pub few : r .size ≤ rules .nodes
   pub wide : length l′ ≡ 64
   pub near : place (r .scan) ≤ place scan + nodeBits * rules .nodes

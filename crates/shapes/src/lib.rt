@@ -4,13 +4,14 @@ use bits::FieldRead;
 use fields::Fault;
 use fields::Scan;
 ghost use mathlib.Core.Path.{_≡_};
-ghost use mathlib.Core.Bool.{true, false};
-ghost use Prim.Native.Nat.{_+_, _*_, _<_, _≤_, _^_};
+ghost use mathlib.Core.Bool.{true, false, _&&_};
+ghost use Prim.Native.Nat.{suc, _+_, _*_, _<_, _≤_, _^_};
 ghost use Rattle.bits.specs.Bits.{placeOf};
-ghost use lib.ListN.{length};
+ghost use Rattle.bits.specs.Promises.{Opened};
+ghost use lib.ListN.{length, getD};
 ghost use Rattle.fields.specs.Reading.{place};
 ghost use Rattle.shapes.specs.Drawing.{codeVerdict};
-ghost use Rattle.shapes.specs.Promises.{ruled, verdictOf, faultOf, outcome, cursorOf, stoodAt, pinsOf, Marked, AllMarked, nodeBits, reach, Followed, Inside, LeafFault, LeafRoom, Room, CodeDone, LeafDone, NodeDone, PairDone, ShapeIs, Preorder, SizesSet};
+ghost use Rattle.shapes.specs.Promises.{ruled, verdictOf, faultOf, markVerdict, outcome, cursorOf, stoodAt, pinsOf, Marked, allMarked, nodeBits, reach, Followed, Inside, LeafRoom, Room, CodeDone, LeafDone, NodeDone, PairDone, ShapeIs, Preorder, SizesSet};
 
 // What differs between patterns and trees: the width of a leaf's number and the greatest that is sound, the most nodes, and whether
 // it is a pattern, which opens with a gate and has no pin twice.
@@ -26,7 +27,7 @@ impl Rules {
     pub const NODES: usize = 64;
 }
 
-// A shape that was read: the scan after it, how many nodes it has, and, of a pattern, whether each pin up to the greatest stands at a leaf.
+// A shape that was read: the scan after it, how many nodes it has, and whether it is a pattern in which each pin up to the greatest stands at a leaf.
 pub struct ShapeRead {
     pub scan: Scan,
     pub size: usize,
@@ -49,9 +50,9 @@ impl Words {
 }
 
 // How a reader ends: sound, or with a fault at the field where it stands. As a number it goes back in a register.
-struct Outcome {}
+struct Ending {}
 
-impl Outcome {
+impl Ending {
     const SOUND: u32 = 0;
 
     const TRUNCATED: u32 = 1;
@@ -91,19 +92,19 @@ fn code_fault(rules: Rules, n: usize, code: u64) -> u32
     ensures { λ r. ⌜ verdictOf r ≡ codeVerdict rules n code ⌝ }
 {
     if rules.nodes <= n {
-        return Outcome::SIZE;
+        return Ending::SIZE;
     }
     if 3 <= code {
-        return Outcome::RANGE;
+        return Ending::RANGE;
     }
     if rules.pattern {
         if n == 0 {
             if code == 0 {
-                return Outcome::DRAWING;
+                return Ending::DRAWING;
             }
         }
     }
-    Outcome::SOUND
+    Ending::SOUND
 }
 
 // The code of the next node.
@@ -113,15 +114,15 @@ fn read_code(
     rules: Rules,
     words: &mut [usize; Words::COUNT],
 ) -> NodeCode
-    requires { ⌜ Inside (now words) ⌝ }
+    requires { ⌜ Opened (now opening) bytes × Inside (now words) ⌝ }
     ensures { λ r. ⌜ CodeDone (now (opening .entry)) bytes rules (now (words .entry)) (now (words .exit)) r ⌝ }
 {
     let at = stood(words);
     let FieldRead::Value(code, next) = at.field_of(opening, bytes, 2) else {
-        return NodeCode::Faulty(Outcome::TRUNCATED);
+        return NodeCode::Faulty(Ending::TRUNCATED);
     };
     let fault = code_fault(rules, words[Words::NEXT], code);
-    if fault != Outcome::SOUND {
+    if fault != Ending::SOUND {
         return NodeCode::Faulty(fault);
     }
     stand(words, next);
@@ -131,17 +132,17 @@ fn read_code(
 // What is wrong with a leaf's number, after the leaves whose pins are marked.
 fn leaf_fault(rules: Rules, words: &[usize; Words::COUNT], number: u64) -> u32
     requires { ⌜ (rules .pattern ≡ true → rules .most ≤ 12) ⌝ }
-    ensures { λ r. ⌜ LeafFault rules (pinsOf (now (words .entry))) number r ⌝ }
+    ensures { λ r. ⌜ verdictOf r ≡ markVerdict rules (getD (pinsOf (now (words .entry))) number 0) number ⌝ }
 {
     if (rules.most as u64) < number {
-        return Outcome::RANGE;
+        return Ending::RANGE;
     }
     if rules.pattern {
         if words[Words::PINS + number as usize] != 0 {
-            return Outcome::DRAWING;
+            return Ending::DRAWING;
         }
     }
-    Outcome::SOUND
+    Ending::SOUND
 }
 
 // Marks the pin of a pattern's leaf.
@@ -167,10 +168,10 @@ fn read_leaf(
 {
     let at = stood(words);
     let FieldRead::Value(number, next) = at.field_of(opening, bytes, rules.width) else {
-        return Outcome::TRUNCATED;
+        return Ending::TRUNCATED;
     };
     let fault = leaf_fault(rules, words, number);
-    if fault != Outcome::SOUND {
+    if fault != Ending::SOUND {
         return fault;
     }
     let n = words[Words::NEXT];
@@ -178,10 +179,10 @@ fn read_leaf(
     stand(words, next);
     words[Words::NEXT] = n + 1;
     mark(rules, words, number as usize);
-    Outcome::SOUND
+    Ending::SOUND
 }
 
-// The next node and all below it.
+// The next node and all below it. The rules are four numbers, since numbers go down in registers.
 fn read_node(
     opening: &[u8; Cursor::OPENING],
     bytes: usize,
@@ -233,7 +234,7 @@ fn read_pair(
     ensures { λ r. ⌜ PairDone (now (opening .entry)) bytes (ruled width most nodes pattern) (now (words .entry)) (now (symbols .entry)) (now (words .exit)) (now (symbols .exit)) r ⌝ }
 {
     let first = read_node(opening, bytes, width, most, nodes, pattern, words, symbols);
-    if first != Outcome::SOUND {
+    if first != Ending::SOUND {
         return first;
     }
     read_node(opening, bytes, width, most, nodes, pattern, words, symbols)
@@ -244,7 +245,7 @@ fn scan_of(end: u32, at: Cursor) -> Scan
     requires { ⌜ placeOf at < 2 ^ 32 ⌝ }
     ensures { λ r. ⌜ r ≡ outcome end at ⌝ }
 {
-    if end == Outcome::SOUND {
+    if end == Ending::SOUND {
         return Scan::At(at);
     }
     Scan::Refused(fault_of(end), at.place())
@@ -253,13 +254,13 @@ fn scan_of(end: u32, at: Cursor) -> Scan
 fn fault_of(end: u32) -> Fault
     ensures { λ r. ⌜ r ≡ faultOf end ⌝ }
 {
-    if end == Outcome::TRUNCATED {
+    if end == Ending::TRUNCATED {
         return Fault::Truncated;
     }
-    if end == Outcome::RANGE {
+    if end == Ending::RANGE {
         return Fault::Range;
     }
-    if end == Outcome::DRAWING {
+    if end == Ending::DRAWING {
         return Fault::Drawing;
     }
     Fault::Size
@@ -268,7 +269,7 @@ fn fault_of(end: u32) -> Fault
 // Whether each pin up to the greatest is marked.
 fn all_marked(most: usize, words: &[usize; Words::COUNT]) -> bool
     requires { ⌜ most ≤ 12 ⌝ }
-    ensures { λ r. ⌜ AllMarked most (pinsOf (now (words .entry))) r ⌝ }
+    ensures { λ r. ⌜ r ≡ allMarked (suc most) (pinsOf (now (words .entry))) ⌝ }
 {
     let mut p = 0;
     while p <= most {
@@ -280,10 +281,10 @@ fn all_marked(most: usize, words: &[usize; Words::COUNT]) -> bool
     true
 }
 
-// Whether a pattern has all its pins.
+// Whether it is a pattern and has all its pins.
 fn has_pins(rules: Rules, words: &[usize; Words::COUNT]) -> bool
     requires { ⌜ (rules .pattern ≡ true → rules .most ≤ 12) ⌝ }
-    ensures { λ r. ⌜ (rules .pattern ≡ true → AllMarked (rules .most) (pinsOf (now (words .entry))) r) ⌝ }
+    ensures { λ r. ⌜ r ≡ (rules .pattern && allMarked (suc (rules .most)) (pinsOf (now (words .entry)))) ⌝ }
 {
     if rules.pattern {
         return all_marked(rules.most as usize, words);
@@ -315,6 +316,7 @@ pub fn read_shape(
     let Scan::At(c) = scan else {
         return nothing(scan);
     };
+    // By its type a cursor may stand past its byte, and past the sheet.
     let at = c.on(0);
     let byte = at.byte;
     if s.len() < byte {

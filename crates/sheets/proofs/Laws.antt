@@ -3,8 +3,8 @@ use mathlib.Core.Path.{_≡_, refl, sym, ap, ap₂, subst, _∙_}
 use mathlib.Core.List.{List, [], _∷_, _++_, map, map-append}
 use Prim.Native.Nat.{ℕ, zero, suc, _+_, _-_, _*_, _≤_, _<_}
 use mathlib.Core.Bool.{Bool, true, false, cond, _||_}
-use mathlib.Core.Logic.{_⊎_, inl, inr}
-use native.Mathlib.Nat.{zero-add, add-zero, add-suc, suc-add, eq-or-lt-of-le, le-of-suc-le-suc}
+use mathlib.Core.Logic.{inl, inr}
+use native.Mathlib.Nat.{zero-add, add-zero, add-suc, suc-add}
 use native.Mathlib.Numerals.{add-one}
 use native.Mathlib.Omega.{arith}
 use lib.ListN.{length, getD, take, drop, set, replicate, length-map, length-replicate}
@@ -16,8 +16,10 @@ use Rattle.fields.specs.declared.Fault.the-variants.{Size}
 use borrow.Author.Tests.{leb-true, ne-eqb}
 use lib.Dec.{leb, eqb}
 use Rattle.fields.proofs.Laws.{length-times, times-value, times-scan, positive-live, live-sound, range-passes}
-use Rattle.fields.proofs.Lists.{sets-append, set-sets, take-sets, mid-sets, front-sets, zeros-at}
+use Rattle.fields.proofs.Lists.{sets-append, set-sets, mid-sets, front-sets}
+use Rattle.bits.proofs.Words.{zeros-at}
 use Rattle.shapes.proofs.Drawn.{live?, length-symbols, node-live}
+use Rattle.shapes.proofs.Wholes.{drawn-is}
 use borrow.Rule.Slice.PartMut.{putMid}
 use Rattle.fields.specs.declared.Scan.the-variants.{At, Refused}
 use Rattle.shapes.specs.declared.ShapeRead.{ShapeRead}
@@ -129,10 +131,8 @@ pattern-is s pins most scan l l′ d read whole first res em el h ew ed ef er = 
 
     go : Dec (Live (read .scan)) → PatternIs s pins scan l l′ (record { scan = res; size = read .size })
     go (yes z) =
-        let drawn : take (read .size) d ≡ symbols (x .0) =
-        ap₂ (λ (i : ℕ) (k : List ℕ). take i k) (here .size-is z ∙ sym (zero-add (length (symbols (x .0))))) (here .symbols-are z)
-        ∙ take-sets (replicate 64 0) 0 (symbols (x .0)) (omega (arith, here .size-is z, here .few, length-replicate {A = ℕ} 64 0)) in
-        let all : whole ≡ hasAll pins (symbols (x .0)) = ew ∙ ap (λ (w : Bool). eqb pins 0 || w) (here .whole-is z refl) ∙ has-pins pins (symbols (x .0)) in
+        let drawn : take (read .size) d ≡ symbols (x .0) = drawn-is s (patternRules pins) scan d read (omega arith) here z in
+        let all : whole ≡ hasAll pins (symbols (x .0)) = ew ∙ ap (λ (w : Bool). eqb pins 0 || w) (here .whole-is z) ∙ has-pins pins (symbols (x .0)) in
         record {
           scan-is = er ∙ ap₂ (λ (w : Bool) (c : Scan). complete w first c) all (here .scan-is) ∙ ap (λ (k : ℕ). complete (hasAll pins (symbols (x .0))) k (x .1)) ef;
           size-is = λ q. here .size-is z ∙ length-symbols (x .0);

@@ -1,12 +1,10 @@
 -- Laws about the whole of each sheet.
 use mathlib.Core.Path.{_≡_, refl, sym, ap, ap₂, subst, _∙_}
-use mathlib.Core.List.{List, [], map}
+use mathlib.Core.List.{List, map}
 use mathlib.Core.Bool.{Bool, true, false, cond}
 use Prim.Native.Nat.{ℕ, _+_, _≤_}
-use native.Mathlib.Nat.{zero-add}
 use native.Mathlib.Omega.{arith}
-use lib.ListN.{length, replicate, take, length-replicate}
-use Rattle.fields.proofs.Lists.{take-sets}
+use lib.ListN.{length, replicate}
 use Rattle.bits.specs.Bits.{placeOf, endsAt}
 use Rattle.bits.specs.declared.Cursor.{Cursor}
 use Rattle.shapes.specs.declared.ShapeRead.{ShapeRead}
@@ -23,6 +21,7 @@ use Rattle.fields.specs.Promises.{Live, Reads}
 use Rattle.shapes.specs.Promises.{ShapeIs, Preorder, SizesSet}
 use Rattle.fields.proofs.Laws.{start-place, value-at, scan-at, length-times}
 use Rattle.shapes.proofs.Drawn.{length-symbols}
+use Rattle.shapes.proofs.Wholes.{drawn-is}
 use Rattle.sheets.specs.declared.library.Bins.{Bins}
 use Rattle.sheets.specs.declared.library.BinsRead.{BinsRead}
 use Rattle.sheets.specs.declared.library.CellsRead.{CellsRead}
@@ -31,7 +30,6 @@ use Rattle.sheets.specs.LibrarySheet.{binLoad, bins, cells, library}
 use Rattle.sheets.specs.TreeSheet.{tree, treeRules}
 use Rattle.sheets.specs.Report.{LibraryLimits, TreeLimits, libraryNumber, treeNumber, LibraryCounts, libraryWord, libraryRead, treeRead, libraryReport, treeReport}
 use Rattle.sheets.specs.declared.library.SheetRead.{SheetRead}
-use Rattle.sheets.specs.declared.library.LibraryRecord.{LibraryRecord}
 use Rattle.sheets.specs.declared.tree.TreeRead.{TreeRead}
 use Rattle.sheets.specs.declared.tree.TreeRecord.{TreeRecord}
 use Rattle.sheets.specs.Layout.{padded, pinsMost, cellLaid, rowWords, tableWords, row, tableFrom, patternRow, patternRows, libraryLaid, treeLaid}
@@ -52,17 +50,9 @@ ended-place s (At c) = go (endsAt s (placeOf c))
     go false = refl
 ended-place s (Refused f p) = refl
 
--- A tree's symbols, as many as its nodes.
-pub drawn-is : (s : List ℕ) (c : Scan) (l′ : List ℕ) (read : ShapeRead) → ShapeIs s treeRules c (replicate 64 0) l′ read → Live (read .scan) →
-    take (read .size) l′ ≡ symbols (shape s treeRules c .0)
-drawn-is s c l′ read h z =
-    let X = shape s treeRules c in
-    ap₂ (λ (i : ℕ) (k : List ℕ). take i k) (h .size-is z ∙ sym (zero-add (length (symbols (X .0))))) (h .symbols-are z)
-    ∙ take-sets (replicate 64 0) 0 (symbols (X .0)) (omega (arith, h .size-is z, h .few, length-replicate {A = ℕ} 64 0))
-
--- So they are the symbols of a shape.
+-- A tree's symbols, as many as its nodes, are those of a shape.
 pub tree-preorder : (s : List ℕ) (c : Scan) (l′ : List ℕ) (read : ShapeRead) → ShapeIs s treeRules c (replicate 64 0) l′ read → Live (read .scan) → Preorder (read .size) l′
-tree-preorder s c l′ read h z = record { many = omega (arith, h .few, h .wide); shape = shape s treeRules c .0; laid = drawn-is s c l′ read h z }
+tree-preorder s c l′ read h z = record { many = omega (arith, h .few, h .wide); shape = shape s treeRules c .0; laid = drawn-is s treeRules c l′ read (omega arith) h z }
 
 pub tree-is : (s : List ℕ) (c : Scan) (load req : Got) (read : ShapeRead) (l′ m′ : List ℕ) (res : Scan) → c ≡ start →
     Reads load (field s 8 (within 0 255) c) (place c + 8) 255 → Reads req (field s 24 (within 0 16777215) (load .scan)) (place (load .scan) + 24) 16777215 →
@@ -81,7 +71,7 @@ tree-is s c load req read l′ m′ res ec hl hr h₀ hs er =
       laid = λ q.
           let z : Live (read .scan) = ended-live s (read .scan) (subst Live er q) in
           let counted = h .size-is z ∙ length-symbols (X .0) in
-          let sized = hs z (X .0) (drawn-is s (R .1) l′ read h z) in
+          let sized = hs z (X .0) (drawn-is s treeRules (R .1) l′ read (omega arith) h z) in
           λ i. record {
             load = value-at s 8 (within 0 255) c hl ec i;
             required = value-at s 24 (within 0 16777215) (load .scan) hr at-load i;

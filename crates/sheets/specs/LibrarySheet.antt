@@ -1,7 +1,7 @@
 -- The library sheet, as document 01 lists it.
-use Prim.Native.Nat.{ℕ, zero, suc, _+_, _-_}
+use Prim.Native.Nat.{ℕ, suc, _+_, _-_}
 use mathlib.Core.List.{List, [], _∷_}
-use mathlib.Core.Bool.{Bool, true, cond, _&&_}
+use mathlib.Core.Bool.{Bool, true, cond}
 use lib.ListN.{length}
 use lib.Dec.{leb, eqb}
 use Rattle.fields.specs.declared.Fault.the-variants.{Drawing, Size}

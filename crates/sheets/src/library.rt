@@ -247,7 +247,7 @@ pub struct CellsRead {
     pub total: usize,
 }
 
-// Whether a pattern has so many pins: `whole` says it of one pin or more.
+// Whether a pattern has all of so many pins. There are none after a refusal only, and the rules' greatest pin is then 0 too.
 fn has_pins(pins: u32, whole: bool) -> bool
     ensures { λ r. ⌜ r ≡ (eqb pins 0 || whole) ⌝ }
 {

@@ -33,14 +33,14 @@ pub struct TreeRead {
     pub tree: TreeRecord,
 }
 
-// The sizes of the nodes of a tree that was read.
-fn sizes_of(read: Scan, symbols: &[u32], n: usize) -> [u8; Limits::TREE_NODES]
-    requires { ⌜ (Live read → Preorder n (now symbols)) ⌝ }
+// The sizes of the nodes of a tree that was read up to `after`: zeros after a refusal.
+fn sizes_of(after: Scan, symbols: &[u32], n: usize) -> [u8; Limits::TREE_NODES]
+    requires { ⌜ (Live after → Preorder n (now symbols)) ⌝ }
     requires { ⌜ n ≤ 64 ⌝ }
-    ensures { λ r. ⌜ (Live read → SizesSet n (now (symbols .entry)) (replicate 64 0) r) ⌝ }
+    ensures { λ r. ⌜ (Live after → SizesSet n (now (symbols .entry)) (replicate 64 0) r) ⌝ }
 {
     let mut sizes = [0u8; Limits::TREE_NODES];
-    let Scan::At(_) = read else {
+    let Scan::At(_) = after else {
         return sizes;
     };
     shapes::set_sizes(symbols, n, &mut sizes);

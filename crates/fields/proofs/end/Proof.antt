@@ -20,23 +20,25 @@ enum-told c = search needs
 returns : tie.Need-returns
 returns c = search needs
 
-place-requires : tie.Need-place-requires
-place-requires c κs = omega (arith, ap place (c .before .scan .given .1))
-
 ends-requires : tie.Need-ends-requires
-ends-requires c κs = omega (arith, ap place (c .before .before .scan .given .1))
+ends-requires c κs = omega (arith, ap place (c .before .scan .given .1))
 
 returns-2 : tie.Need-returns-2
 returns-2 c =
-    let k = c .before .before .before .before .scan .given in
+    let k = c .before .before .before .scan .given in
     ap (λ (b : Bool). cond b (At (k .0 .0)) (Refused Tail (placeOf (k .0 .0)))) (sym (c .if1 .taken))
-    ∙ ended-at (c .before .before .before .before .before .before .before .args .s .now) _ (k .0 .0) (c .before .ends .result) (k .1) (c .before .ends .ensures)
+    ∙ ended-at (c .before .before .before .before .before .before .args .s .now) _ (k .0 .0) (c .before .ends .result) (k .1) (c .before .ends .ensures)
+
+place-requires : tie.Need-place-requires
+place-requires c κs = omega (arith, ap place (c .before .before .before .scan .given .1))
 
 returns-3 : tie.Need-returns-3
 returns-3 c =
     let k = c .before .before .before .before .scan .given in
-    ap (λ (p : ℕ). Refused Tail p) (c .before .before .place .ensures) ∙ ap (λ (b : Bool). cond b (At (k .0 .0)) (Refused Tail (placeOf (k .0 .0)))) (sym (c .if1 .left))
-    ∙ ended-at (c .before .before .before .before .before .before .before .args .s .now) _ (k .0 .0) (c .before .ends .result) (k .1) (c .before .ends .ensures)
+    ap (λ (p : ℕ). Refused Tail p) (c .place .ensures) ∙ ap (λ (b : Bool). cond b (At (k .0 .0)) (Refused Tail (placeOf (k .0 .0)))) (sym (c .before .if1 .left))
+    ∙ ended-at (c .before .before .before .before .before .before .before .args .s .now) _ (k .0 .0) (c .before .before .ends .result) (k .1) (c .before .before .ends .ensures)
 
 pub end-spec : {M : Type 1} → statement M
-end-spec = tie.close (tie.spec enum-known-scan enum-told returns place-requires ends-requires returns-2 returns-3)
+end-spec =
+    tie.close
+    (tie.spec enum-known-scan enum-told returns ends-requires returns-2 place-requires returns-3)

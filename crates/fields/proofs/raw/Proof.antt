@@ -20,11 +20,8 @@ enum-told c = search needs
 returns : tie.Need-returns
 returns c = search needs
 
-place-requires : tie.Need-place-requires
-place-requires c κs = omega (arith, ap place (c .before .scan .given .1))
-
 field-requires : tie.Need-field-requires
-field-requires c κs = omega (arith, ap place (c .before .before .scan .given .1))
+field-requires c κs = omega (arith, ap place (c .before .scan .given .1))
 
 enum-known-value : tie.Need-enum-known-value
 enum-known-value c = search needs
@@ -32,16 +29,20 @@ enum-known-value c = search needs
 enum-told-2 : tie.Need-enum-told-2
 enum-told-2 c = search needs
 
+place-requires : tie.Need-place-requires
+place-requires c κs = omega (arith, ap place (c .before .before .before .before .scan .given .1))
+
 returns-2 : tie.Need-returns-2
 returns-2 c =
     let a = c .before .before .before .before .before .before .before .before .args in
     let k = c .before .before .before .before .before .scan .given in
-    reads-taken (a .s .now) (a .width) (a .scan) (k .0 .0) (c .before .before .field .result) _ (k .1) (c .before .before .field .ensures)
-    (ap (λ (p : ℕ). (0, Refused Truncated p)) (c .before .before .before .place .ensures) ∙ ap (taken (placeOf (k .0 .0)) free) (sym (c .enum-told2 .given .1)))
+    let field = c .before .before .before .field in
+    reads-taken (a .s .now) (a .width) (a .scan) (k .0 .0) (field .result) _ (k .1) (field .ensures)
+    (ap (λ (p : ℕ). (0, Refused Truncated p)) (c .place .ensures) ∙ ap (taken (placeOf (k .0 .0)) free) (sym (c .before .enum-told2 .given .1)))
 
 cast-t11 : tie.Need-cast-t11
 cast-t11 c =
-    let a = c .before .before .before .before .before .before .before .before .before .args in
+    let a = c .before .before .before .before .before .before .before .before .args in
     let field = c .before .before .before .field in
     let few : a .width ≤ 24 = omega arith in
     let top : 2 ^ a .width ≤ 16777216 = pow-mono few in
@@ -49,9 +50,10 @@ cast-t11 c =
 
 returns-3 : tie.Need-returns-3
 returns-3 c =
-    let a = c .before .before .before .before .before .before .before .before .before .args in
-    let k = c .before .before .before .before .before .before .scan .given in
-    reads-taken (a .s .now) (a .width) (a .scan) (k .0 .0) (c .before .before .before .field .result) _ (k .1) (c .before .before .before .field .ensures)
+    let a = c .before .before .before .before .before .before .before .before .args in
+    let k = c .before .before .before .before .before .scan .given in
+    let field = c .before .before .before .field in
+    reads-taken (a .s .now) (a .width) (a .scan) (k .0 .0) (field .result) _ (k .1) (field .ensures)
     (ap (taken (placeOf (k .0 .0)) free) (sym (c .before .value .given .1)))
 
 pub raw-spec : {M : Type 1} → statement M
@@ -61,10 +63,10 @@ raw-spec =
     enum-known-scan
     enum-told
     returns
-    place-requires
     field-requires
     enum-known-value
     enum-told-2
+    place-requires
     returns-2
     cast-t11
     returns-3)

@@ -56,7 +56,7 @@ abbrev of-pair : ℕ → read-pair-lts.Claims
 of-pair t = (read-node-below t, read-node.Post)
 
 read-node-read-code-requires : (t : ℕ) → read-node-lts.Need-read-code-requires (of-node t) (read-node-at t) read-node.Post
-read-node-read-code-requires t c κs = room-inside (c .before .pre .1)
+read-node-read-code-requires t c κs = (c .before .pre .1 .opened, room-inside (c .before .pre .1))
 
 read-node-enum-known-read : (t : ℕ) → read-node-lts.Need-enum-known-read (of-node t) (read-node-at t) read-node.Post
 read-node-enum-known-read t c = search needs
@@ -70,7 +70,7 @@ read-node-returns t c s opens = refused-done (c .before .before .before .before 
 read-node-read-leaf-requires : (t : ℕ) → read-node-lts.Need-read-leaf-requires (of-node t) (read-node-at t) read-node.Post
 read-node-read-leaf-requires t c κs =
     let room = c .before .before .before .before .before .before .before .before .pre .1 in
-    leaf-room room (room .sheet) _ (subst (CodeRead (room .sheet) _ _ _) (c .before .before .before .before .read .given .1) (c .before .before .before .before .before .before .read-code .ensures (room .sheet) (room .opens)))
+    leaf-room room (room .opened .sheet) _ (subst (CodeRead (room .opened .sheet) _ _ _) (c .before .before .before .before .read .given .1) (c .before .before .before .before .before .before .read-code .ensures (room .opened .sheet) (room .opened .opens)))
 
 read-node-returns-2 : (t : ℕ) → read-node-lts.Need-returns-2 (of-node t) (read-node-at t) read-node.Post
 read-node-returns-2 t c s opens =
@@ -84,13 +84,13 @@ read-node-element-copy-out-n t c = omega arith
 small : (t : ℕ) (c : read-node-lts.After-n (of-node t) (read-node-at t) read-node.Post) → c .before .before .before .read .given .0 .0 ≤ 2
 small t c =
     let room = c .before .before .before .before .before .before .before .pre .1 in
-    gate-small room (room .sheet) _ (subst (CodeRead (room .sheet) _ _ _) (c .before .before .before .read .given .1) (c .before .before .before .before .before .read-code .ensures (room .sheet) (room .opens)))
+    gate-small room (room .opened .sheet) _ (subst (CodeRead (room .opened .sheet) _ _ _) (c .before .before .before .read .given .1) (c .before .before .before .before .before .read-code .ensures (room .opened .sheet) (room .opened .opens)))
 
 in-room : (t : ℕ) (c : read-node-lts.After-n (of-node t) (read-node-at t) read-node.Post) → nextOf (c .before .before .before .before .before .read-code .last .1 .1 .1 .0) < 64
 in-room t c =
     let room = c .before .before .before .before .before .before .before .pre .1 in
-    let code = (subst (CodeRead (room .sheet) _ _ _) (c .before .before .before .read .given .1) (c .before .before .before .before .before .read-code .ensures (room .sheet) (room .opens))) in
-    omega (arith, code .next, gate-in-room room (room .sheet) _ code, room .rules-are .nodes)
+    let code = (subst (CodeRead (room .opened .sheet) _ _ _) (c .before .before .before .read .given .1) (c .before .before .before .before .before .read-code .ensures (room .opened .sheet) (room .opened .opens))) in
+    omega (arith, code .next, gate-in-room room (room .opened .sheet) _ code, room .rules-are .nodes)
 
 read-node-cast-symbols : (t : ℕ) → read-node-lts.Need-cast-symbols (of-node t) (read-node-at t) read-node.Post
 read-node-cast-symbols t c = omega (arith, small t c)
@@ -113,8 +113,8 @@ read-node-element-write-words t c = omega arith
 read-node-read-node-requires : (t : ℕ) → read-node-lts.Need-read-node-requires (of-node t) (read-node-at t) read-node.Post
 read-node-read-node-requires t c κs =
     let room = c .before .before .before .before .before .before .before .before .before .before .pre .1 in
-    let code = (subst (CodeRead (room .sheet) _ _ _) (c .before .before .before .before .before .before .read .given .1) (c .before .before .before .before .before .before .before .before .read-code .ensures (room .sheet) (room .opens))) in
-    (omega (arith, c .before .before .before .before .before .before .before .before .before .before .pre .0, gate-next room (room .sheet) _ code, gate-in-room room (room .sheet) _ code), gate-room room (room .sheet) _ code)
+    let code = (subst (CodeRead (room .opened .sheet) _ _ _) (c .before .before .before .before .before .before .read .given .1) (c .before .before .before .before .before .before .before .before .read-code .ensures (room .opened .sheet) (room .opened .opens))) in
+    (omega (arith, c .before .before .before .before .before .before .before .before .before .before .pre .0, gate-next room (room .opened .sheet) _ code, gate-in-room room (room .opened .sheet) _ code), gate-room room (room .opened .sheet) _ code)
 
 read-node-returns-3 : (t : ℕ) → read-node-lts.Need-returns-3 (of-node t) (read-node-at t) read-node.Post
 read-node-returns-3 t c s opens =
@@ -124,8 +124,8 @@ read-node-returns-3 t c s opens =
 read-node-read-pair-requires : (t : ℕ) → read-node-lts.Need-read-pair-requires (of-node t) (read-node-at t) read-node.Post
 read-node-read-pair-requires t c κs =
     let room = c .before .before .before .before .before .before .before .before .before .before .pre .1 in
-    let code = (subst (CodeRead (room .sheet) _ _ _) (c .before .before .before .before .before .before .read .given .1) (c .before .before .before .before .before .before .before .before .read-code .ensures (room .sheet) (room .opens))) in
-    (omega (arith, c .before .before .before .before .before .before .before .before .before .before .pre .0, gate-next room (room .sheet) _ code, gate-in-room room (room .sheet) _ code), gate-room room (room .sheet) _ code)
+    let code = (subst (CodeRead (room .opened .sheet) _ _ _) (c .before .before .before .before .before .before .read .given .1) (c .before .before .before .before .before .before .before .before .read-code .ensures (room .opened .sheet) (room .opened .opens))) in
+    (omega (arith, c .before .before .before .before .before .before .before .before .before .before .pre .0, gate-next room (room .opened .sheet) _ code, gate-in-room room (room .opened .sheet) _ code), gate-room room (room .opened .sheet) _ code)
 
 read-node-returns-4 : (t : ℕ) → read-node-lts.Need-returns-4 (of-node t) (read-node-at t) read-node.Post
 read-node-returns-4 t c s opens =
@@ -146,8 +146,8 @@ read-pair-returns t c s opens =
 read-pair-read-node-requires-2 : (t : ℕ) → read-pair-lts.Need-read-node-requires-2 (of-pair t) (read-pair-at t) read-pair.Post
 read-pair-read-node-requires-2 t c κs =
     let room = c .before .before .before .before .before .before .pre .1 in
-    let done = c .before .before .before .read-node .ensures (room .sheet) (room .opens) in
-    (omega (arith, c .before .before .before .before .before .before .pre .0, done .0 .went .from), second-room room (room .sheet) _ (done .0) (done .1) (c .before .before .if1 .left))
+    let done = c .before .before .before .read-node .ensures (room .opened .sheet) (room .opened .opens) in
+    (omega (arith, c .before .before .before .before .before .before .pre .0, done .0 .went .from), second-room room (room .opened .sheet) _ (done .0) (done .1) (c .before .before .if1 .left))
 
 read-pair-returns-2 :
     (t : ℕ) →

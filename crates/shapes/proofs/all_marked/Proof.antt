@@ -1,27 +1,22 @@
 use native.Mathlib.Omega.{arith}
 use Prim.Native.Nat.{ℕ, suc, _≤_, _-_}
 use mathlib.Core.Path.{_≡_, refl, sym, ap, _∙_}
-use mathlib.Core.List.{List}
-use mathlib.Core.Bool.{true, cond}
-use lib.ListN.{getD}
+use mathlib.Core.Bool.{true}
 use lib.Seq.{getD-drop}
-use Rattle.shapes.specs.Shape.{leafSymbol}
-use Rattle.shapes.specs.Drawing.{elem, hasAll}
-use Rattle.shapes.specs.Promises.{pinsOf}
-use Rattle.shapes.proofs.Marks.{seen-is, unseen-is, lacks, has-more}
+use Rattle.shapes.specs.Promises.{pinsOf, allMarked}
+use Rattle.shapes.proofs.Marks.{lacks-mark, mark-more}
 use Rattle.shapes.proofs.all_marked.Statement.{statement}
 use Rattle.shapes.proofs.all_marked.Tie as tie
 
 abbrev Inv-loop : tie.InvT-loop
-Inv-loop most words p₀ p =
-    (p ≤ suc most) × ((nodes : List ℕ) → ((x : ℕ) → x ≤ most → getD (pinsOf words) x 0 ≡ cond (elem (leafSymbol x) nodes) 1 0) → hasAll p nodes ≡ true)
+Inv-loop most words p₀ p = (p ≤ suc most) × (allMarked p (pinsOf words) ≡ true)
 
 abbrev μ-loop : tie.MeasureT-loop
 μ-loop most words p₀ p = suc most - p
 
 loop-holds : tie.Need-loop-holds Inv-loop μ-loop
-unfolding hasAll
-loop-holds c = (omega arith, λ nodes met. refl)
+unfolding allMarked
+loop-holds c = (omega arith, refl)
 
 add-if1 : tie.Need-add-if1 Inv-loop μ-loop
 add-if1 c = omega arith
@@ -33,10 +28,10 @@ element-copy-out-if1 : tie.Need-element-copy-out-if1 Inv-loop μ-loop
 element-copy-out-if1 c = omega arith
 
 returns : tie.Need-returns Inv-loop μ-loop
-returns c nodes met =
+returns c =
     let a = c .before .before .before .before .args in
     let k = c .before .before .before .loop .p in
-    sym (lacks (suc (a .most)) k nodes (omega arith) (unseen-is (pinsOf (a .words .now)) nodes k (met k (omega arith)) (getD-drop 3 (a .words .now) k 0 ∙ c .if1 .taken)))
+    sym (lacks-mark k (suc (a .most)) (pinsOf (a .words .now)) (omega arith) (getD-drop 3 (a .words .now) k 0 ∙ c .if1 .taken))
 
 add-p : tie.Need-add-p Inv-loop μ-loop
 add-p c = omega arith
@@ -45,19 +40,17 @@ loop-less : tie.Need-loop-less Inv-loop μ-loop
 loop-less c = omega arith
 
 loop-again : tie.Need-loop-again Inv-loop μ-loop
-loop-again c = (
-  omega arith,
-  λ nodes met.
-      let a = c .before .before .before .before .args in
-      let i = c .before .before .before .loop in
-      has-more (i .p) nodes (i .inv .1 nodes met) (seen-is (pinsOf (a .words .now)) nodes (i .p) (met (i .p) (omega arith)) (λ e. c .if1 .left (sym (getD-drop 3 (a .words .now) (i .p) 0) ∙ e))),
-)
+loop-again c =
+    let a = c .before .before .before .before .args in
+    let i = c .before .before .before .loop in
+    (omega arith, mark-more (i .p) (pinsOf (a .words .now)) (i .inv .1) (λ e. c .if1 .left (sym (getD-drop 3 (a .words .now) (i .p) 0) ∙ e)))
 
 returns-2 : tie.Need-returns-2 Inv-loop μ-loop
-returns-2 c nodes met =
+returns-2 c =
+    let a = c .before .before .args in
     let i = c .before .loop in
-    let all : i .p ≡ suc (c .before .before .args .most) = omega arith in
-    sym (ap (λ (k : ℕ). hasAll k nodes) (sym all) ∙ i .inv .1 nodes met)
+    let all : i .p ≡ suc (a .most) = omega arith in
+    sym (ap (λ (k : ℕ). allMarked k (pinsOf (a .words .now))) (sym all) ∙ i .inv .1)
 
 pub all-marked-spec : {M : Type 1} → statement M
 all-marked-spec =

@@ -1,10 +1,9 @@
 use mathlib.Core.Path.{sym, _∙_}
+use lib.ListN.{getD}
 use lib.Seq.{getD-drop}
 use Rattle.shapes.specs.Promises.{pinsOf}
-use Rattle.shapes.proofs.Marks.{repeated, fresh-pin}
 use native.Mathlib.Omega.{arith}
-use borrow.Author.Tests.{le-leb, lt-leb}
-use Rattle.shapes.specs.Drawing.{leafVerdict}
+use borrow.Author.Tests.{le-leb, lt-leb, eq-eqb, ne-eqb}
 use borrow.Author.Needs.{needs}
 use Rattle.shapes.proofs.leaf_fault.Statement.{statement}
 use Rattle.shapes.proofs.leaf_fault.Tie as tie
@@ -13,8 +12,7 @@ cast-if1 : tie.Need-cast-if1
 cast-if1 c = search needs
 
 returns : tie.Need-returns
-unfolding leafVerdict
-returns c seen met =
+returns c =
     let a = c .before .before .args in
     simp (lt-leb (a .number) (a .rules .most) (c .if1 .taken))
 
@@ -28,18 +26,19 @@ element-copy-out-if3 : tie.Need-element-copy-out-if3
 element-copy-out-if3 c = omega (arith, c .before .before .before .pre (c .if2 .taken))
 
 returns-2 : tie.Need-returns-2
-returns-2 c seen met =
+returns-2 c =
     let a = c .before .before .before .before .before .args in
-    repeated (a .rules) (pinsOf (a .words .now)) seen (a .number) met (c .before .before .if2 .taken) (c .before .before .before .if1 .left) (λ e. c .if3 .taken (sym (getD-drop 3 (a .words .now) (a .number) 0) ∙ e))
+    let mark = getD-drop 3 (a .words .now) (a .number) 0 in
+    simp (le-leb (a .number) (a .rules .most) (c .before .before .before .if1 .left), c .before .before .if2 .taken, ne-eqb (getD (pinsOf (a .words .now)) (a .number) 0) 0 (λ e. c .if3 .taken (sym mark ∙ e)))
 
 returns-3 : tie.Need-returns-3
-returns-3 c seen met =
+returns-3 c =
     let a = c .before .before .before .before .before .args in
-    fresh-pin (a .rules) (pinsOf (a .words .now)) seen (a .number) met (c .before .before .if2 .taken) (c .before .before .before .if1 .left) (getD-drop 3 (a .words .now) (a .number) 0 ∙ c .if3 .left)
+    let mark = getD-drop 3 (a .words .now) (a .number) 0 in
+    simp (le-leb (a .number) (a .rules .most) (c .before .before .before .if1 .left), c .before .before .if2 .taken, eq-eqb (getD (pinsOf (a .words .now)) (a .number) 0) 0 (mark ∙ c .if3 .left))
 
 returns-4 : tie.Need-returns-4
-unfolding leafVerdict
-returns-4 c seen met =
+returns-4 c =
     let a = c .before .before .before .args in
     simp (le-leb (a .number) (a .rules .most) (c .before .if1 .left), c .if2 .left)
 

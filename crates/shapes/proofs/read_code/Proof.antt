@@ -6,7 +6,7 @@ use Rattle.bits.specs.declared.Cursor.{Cursor}
 use Rattle.bits.specs.Bits.{placeOf, fieldAt}
 use Rattle.shapes.specs.declared.NodeCode.the-variants.{Code}
 use Rattle.shapes.specs.Promises.{CodeRead}
-use Rattle.shapes.proofs.Steps.{code-torn, code-faulty, code-sound}
+use Rattle.shapes.proofs.Steps.{code-truncated, code-faulty, code-sound}
 use borrow.Author.Needs.{needs}
 use Rattle.shapes.proofs.read_code.Statement.{statement}
 use Rattle.shapes.proofs.read_code.Tie as tie
@@ -17,7 +17,7 @@ stood-requires c κs = search needs
 field-of-requires : tie.Need-field-of-requires
 field-of-requires c κs =
     let at = c .stood .ensures in
-    omega (arith, ap (λ (k : Cursor). k .used) at, ap (λ (k : Cursor). k .byte) at)
+    (c .before .before .pre .0, omega (arith, ap (λ (k : Cursor). k .used) at), omega (arith, ap (λ (k : Cursor). k .byte) at), omega arith)
 
 enum-known-code : tie.Need-enum-known-code
 enum-known-code c = search needs
@@ -28,7 +28,7 @@ enum-told c = search needs
 returns : tie.Need-returns
 returns c s opens =
     let a = c .before .before .before .before .before .args in
-    code-torn s (a .rules) (a .words .now) (c .before .before .field-of .result) (c .before .before .before .before .before .pre .0) (c .before .before .before .before .before .pre .1) (c .before .before .field-of .ensures s opens ∙ ap (λ (k : Cursor). fieldAt s (placeOf k) 2) (c .before .before .before .stood .ensures)) (c .enum-told .given .1)
+    code-truncated s (a .rules) (a .words .now) (c .before .before .field-of .result) (c .before .before .before .before .before .pre .1 .0) (c .before .before .before .before .before .pre .1 .1) (c .before .before .field-of .ensures s opens ∙ ap (λ (k : Cursor). fieldAt s (placeOf k) 2) (c .before .before .before .stood .ensures)) (c .enum-told .given .1)
 
 element-copy-out-code-fault : tie.Need-element-copy-out-code-fault
 element-copy-out-code-fault c = search needs
@@ -39,7 +39,7 @@ code-fault-requires c κs = search needs
 returns-2 : tie.Need-returns-2
 returns-2 c s opens =
     let a = c .before .before .before .before .before .before .before .before .before .args in
-    code-faulty s (a .rules) (a .words .now) (c .before .before .before .before .before .before .field-of .result) (c .before .before .before .before .before .before .before .before .before .pre .0) (c .before .before .before .before .before .before .before .before .before .pre .1) (c .before .before .before .before .before .before .field-of .ensures s opens ∙ ap (λ (k : Cursor). fieldAt s (placeOf k) 2) (c .before .before .before .before .before .before .before .stood .ensures)) (c .before .code-fault .result) _ _ (c .before .before .before .before .code .given .1) (c .if1 .taken) (c .before .code-fault .ensures)
+    code-faulty s (a .rules) (a .words .now) (c .before .before .before .before .before .before .field-of .result) (c .before .before .before .before .before .before .before .before .before .pre .1 .0) (c .before .before .before .before .before .before .before .before .before .pre .1 .1) (c .before .before .before .before .before .before .field-of .ensures s opens ∙ ap (λ (k : Cursor). fieldAt s (placeOf k) 2) (c .before .before .before .before .before .before .before .stood .ensures)) (c .before .code-fault .result) _ _ (c .before .before .before .before .code .given .1) (c .if1 .taken) (c .before .code-fault .ensures)
 
 stand-requires : tie.Need-stand-requires
 stand-requires c κs = search needs
@@ -48,7 +48,7 @@ returns-3 : tie.Need-returns-3
 returns-3 c s opens =
     let a = c .before .before .before .before .before .before .before .before .before .before .before .args in
     subst (λ (w : List ℕ). CodeRead s (a .rules) (a .words .now) w (Code (c .before .before .before .before .before .before .code .given .0 .0))) (sym (c .stand .ensures))
-    (code-sound s (a .rules) (a .words .now) (c .before .before .before .before .before .before .before .before .field-of .result) (c .before .before .before .before .before .before .before .before .before .before .before .pre .0) (c .before .before .before .before .before .before .before .before .before .before .before .pre .1) (c .before .before .before .before .before .before .before .before .field-of .ensures s opens ∙ ap (λ (k : Cursor). fieldAt s (placeOf k) 2) (c .before .before .before .before .before .before .before .before .before .stood .ensures)) (c .before .before .before .code-fault .result) _ _ (c .before .before .before .before .before .before .code .given .1) (c .before .before .if1 .left) (c .before .before .before .code-fault .ensures))
+    (code-sound s (a .rules) (a .words .now) (c .before .before .before .before .before .before .before .before .field-of .result) (c .before .before .before .before .before .before .before .before .before .before .before .pre .1 .0) (c .before .before .before .before .before .before .before .before .before .before .before .pre .1 .1) (c .before .before .before .before .before .before .before .before .field-of .ensures s opens ∙ ap (λ (k : Cursor). fieldAt s (placeOf k) 2) (c .before .before .before .before .before .before .before .before .before .stood .ensures)) (c .before .before .before .code-fault .result) _ _ (c .before .before .before .before .before .before .code .given .1) (c .before .before .if1 .left) (c .before .before .before .code-fault .ensures))
 
 pub read-code-spec : {M : Type 1} → statement M
 read-code-spec =

@@ -2,11 +2,12 @@ use native.Mathlib.Omega.{arith}
 use Prim.Native.Nat.{ℕ, _+_, _≤_}
 use mathlib.Core.Path.{ap, subst, _∙_}
 use mathlib.Core.List.{List}
-use lib.ListN.{set}
+use lib.ListN.{set, take}
 use Rattle.bits.specs.declared.Cursor.{Cursor}
 use Rattle.bits.specs.Bits.{placeOf, fieldAt}
-use Rattle.shapes.specs.Promises.{nextOf, Marked}
-use Rattle.shapes.proofs.Steps.{leaf-most, leaf-torn, leaf-faulty, leaf-sound}
+use Rattle.shapes.specs.Promises.{nextOf, pinsOf, Marked}
+use Rattle.shapes.proofs.Marks.{mark-leaf}
+use Rattle.shapes.proofs.Steps.{leaf-most, leaf-truncated, leaf-faulty, leaf-sound}
 use borrow.Author.Needs.{needs}
 use Rattle.shapes.proofs.read_leaf.Statement.{statement}
 use Rattle.shapes.proofs.read_leaf.Tie as tie
@@ -17,7 +18,7 @@ stood-requires c κs = search needs
 field-of-requires : tie.Need-field-of-requires
 field-of-requires c κs =
     let at = c .stood .ensures in
-    omega (arith, ap (λ (k : Cursor). k .used) at, ap (λ (k : Cursor). k .byte) at, c .before .before .pre .inside, c .before .before .pre .rules-are .width)
+    (c .before .before .pre .opened, omega (arith, ap (λ (k : Cursor). k .used) at, c .before .before .pre .inside), omega (arith, ap (λ (k : Cursor). k .byte) at, c .before .before .pre .inside), c .before .before .pre .rules-are .width)
 
 enum-known-number : tie.Need-enum-known-number
 enum-known-number c = search needs
@@ -29,7 +30,7 @@ returns : tie.Need-returns
 returns c s opens =
     let a = c .before .before .before .before .before .args in
     let pre = c .before .before .before .before .before .pre in
-    leaf-torn s (a .rules) (a .words .now) (a .symbols .now) (c .before .before .field-of .result) (pre .inside .0) (pre .wide) (c .before .before .field-of .ensures s opens ∙ ap (λ (k : Cursor). fieldAt s (placeOf k) (a .rules .width)) (c .before .before .before .stood .ensures)) (c .enum-told .given .1)
+    leaf-truncated s (a .rules) (a .words .now) (a .symbols .now) (c .before .before .field-of .result) (pre .inside .0) (pre .wide) (c .before .before .field-of .ensures s opens ∙ ap (λ (k : Cursor). fieldAt s (placeOf k) (a .rules .width)) (c .before .before .before .stood .ensures)) (c .enum-told .given .1)
 
 leaf-fault-requires : tie.Need-leaf-fault-requires
 leaf-fault-requires c κs = search needs
@@ -39,14 +40,17 @@ returns-2 c s opens =
     let a = c .before .before .before .before .before .before .before .before .before .args in
     let pre = c .before .before .before .before .before .before .before .before .before .pre in
     leaf-faulty s (a .rules) (a .words .now) (a .symbols .now) (c .before .before .before .before .before .before .field-of .result) (pre .inside .0) (pre .wide) (c .before .before .before .before .before .before .field-of .ensures s opens ∙ ap (λ (k : Cursor). fieldAt s (placeOf k) (a .rules .width)) (c .before .before .before .before .before .before .before .stood .ensures)) (c .before .leaf-fault .result) _ _ (c .before .before .before .before .number .given .1) (c .if1 .taken)
-    (c .before .leaf-fault .ensures _ (pre .met))
+    (c .before .leaf-fault .ensures ∙ mark-leaf (a .rules) (pinsOf (a .words .now)) (take (nextOf (a .words .now)) (a .symbols .now)) (c .before .before .before .before .number .given .0 .0) (pre .met))
 
 element-copy-out-n : tie.Need-element-copy-out-n
 element-copy-out-n c = search needs
 
 -- the number is in range
 small : (c : tie.After-n) → c .before .before .before .before .before .number .given .0 .0 ≤ c .before .before .before .before .before .before .before .before .before .before .args .rules .most
-small c = leaf-most (c .before .before .before .before .before .before .before .before .before .before .args .rules) _ (c .before .before .leaf-fault .result) _ (c .before .if1 .left) (c .before .before .leaf-fault .ensures _ (c .before .before .before .before .before .before .before .before .before .before .pre .met))
+small c =
+    let a = c .before .before .before .before .before .before .before .before .before .before .args in
+    leaf-most (a .rules) (take (nextOf (a .words .now)) (a .symbols .now)) (c .before .before .leaf-fault .result) (c .before .before .before .before .before .number .given .0 .0) (c .before .if1 .left)
+    (c .before .before .leaf-fault .ensures ∙ mark-leaf (a .rules) (pinsOf (a .words .now)) (take (nextOf (a .words .now)) (a .symbols .now)) (c .before .before .before .before .before .number .given .0 .0) (c .before .before .before .before .before .before .before .before .before .before .pre .met))
 
 cast-symbols : tie.Need-cast-symbols
 cast-symbols c = omega (arith, small c, c .before .before .before .before .before .before .before .before .before .before .pre .rules-are .most)
@@ -77,7 +81,7 @@ returns-3 c s opens =
     let a = c .before .before .before .before .before .before .before .before .before .before .before .before .before .before .args in
     let pre = c .before .before .before .before .before .before .before .before .before .before .before .before .before .before .pre in
     leaf-sound s (a .rules) (a .words .now) (a .symbols .now) (c .before .before .before .before .before .before .before .before .before .before .before .field-of .result) (pre .inside .0) (pre .wide) (c .before .before .before .before .before .before .before .before .before .before .before .field-of .ensures s opens ∙ ap (λ (k : Cursor). fieldAt s (placeOf k) (a .rules .width)) (c .before .before .before .before .before .before .before .before .before .before .before .before .stood .ensures)) (c .before .before .before .before .before .before .leaf-fault .result) _ _ _ (c .before .before .before .before .before .before .before .before .before .number .given .1)
-    (c .before .before .before .before .before .if1 .left) (c .before .before .before .before .before .before .leaf-fault .ensures _ (pre .met)) (pre .rules-are .width) (λ p. omega (arith, small (c .before .before .before .before), pre .rules-are .pins p)) (omega (arith, pre .room, pre .rules-are .nodes)) (pre .met)
+    (c .before .before .before .before .before .if1 .left) (c .before .before .before .before .before .before .leaf-fault .ensures ∙ mark-leaf (a .rules) (pinsOf (a .words .now)) (take (nextOf (a .words .now)) (a .symbols .now)) (c .before .before .before .before .before .before .before .before .before .number .given .0 .0) (pre .met)) (pre .rules-are .width) (λ p. omega (arith, small (c .before .before .before .before), pre .rules-are .pins p)) (omega (arith, pre .room, pre .rules-are .nodes)) (pre .met)
     (subst (λ (w : List ℕ). Marked (a .rules) (set w 2 (nextOf (a .words .now) + 1)) (c .before .before .before .before .before .before .before .before .before .number .given .0 .0) (c .mark .last .1 .0)) (c .before .before .stand .ensures) (c .mark .ensures))
 
 pub read-leaf-spec : {M : Type 1} → statement M

@@ -1,7 +1,7 @@
 use native.Mathlib.Omega.{arith}
-use Prim.Native.Nat.{_+_, _*_, _<_, _^_}
+use Prim.Native.Nat.{_+_, _*_}
 use mathlib.Core.Path.{_≡_}
-use Rattle.bits.specs.Bits.{placeOf, cursorAt}
+use Rattle.bits.specs.Bits.{placeOf}
 use Rattle.bits.proofs.Laws.{cursor-is}
 use Rattle.bits.proofs.Cursor.on.Statement.{statement}
 use Rattle.bits.proofs.Cursor.on.Tie as tie
