@@ -50,7 +50,7 @@ taking turns in one run (medians of 31 rounds), each answer compared with the ex
 problem; \`chain\` and \`comb\` are the worst that were found before inputs could be exchanged; \`deep\` has nearly nothing to find and the deepest choice; \`full\` and \`crosscomb\` have many crossings.
 
 The judges are timed on the longest sound library and the longest sound tree. Beside the product stand the separate implementation, which keeps what it reads (\`reference\`), and judges
-written by hand for speed, which take each field from one word of 64 bits, check every rule and keep nothing (\`reference/src/wordwise.rs\`, \`wordwise\`).
+written by hand for speed, which take each field from one word of 64 bits, check every rule and keep nothing, and divide places, which the product must not (\`reference/src/wordwise.rs\`, \`wordwise\`).
 
 The bars that we set: on chain and comb no more instructions than before inputs could be exchanged; on full and crosscomb at most 1.25 times plain Rust with all savings
 (crossings that are ruled out together, points that are kept, matches that are passed over: \`plain_kept\`); faster than merging on every row but deep.

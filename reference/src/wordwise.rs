@@ -1,6 +1,7 @@
 //! Both judges once more, written by hand for speed: the yardstick of the benchmark for reading. Every field is taken
 //! from one word of 64 bits and every rule is checked, but nothing of a sheet is kept: a shape is only the number of its
-//! branches that are still open, and the pins met in a pattern are a set of bits.
+//! branches that are still open, and the pins met in a pattern are a set of bits. A place is divided for every field,
+//! which Paper 4 forbids to the product.
 
 use crate::generate::damage::Kind;
 use crate::library::{MOST_PATTERNS, MOST_PATTERN_NODES};
