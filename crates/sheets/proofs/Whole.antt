@@ -1,5 +1,5 @@
 -- Laws about the whole of each sheet.
-use mathlib.Core.Path.{_≡_, refl, sym, ap, ap₂, subst, _∙_}
+use mathlib.Core.Path.{_≡_, refl, sym, ap, ap₂, subst, subst₂, _∙_}
 use mathlib.Core.List.{List, map}
 use mathlib.Core.Bool.{Bool, true, false, cond}
 use Prim.Native.Nat.{ℕ, _+_, _≤_}
@@ -30,11 +30,10 @@ use Rattle.sheets.specs.LibrarySheet.{binLoad, bins, cells, library}
 use Rattle.sheets.specs.TreeSheet.{tree, treeRules}
 use Rattle.sheets.specs.Report.{LibraryLimits, TreeLimits, libraryNumber, treeNumber, LibraryCounts, libraryWord, libraryRead, treeRead, libraryReport, treeReport}
 use Rattle.sheets.specs.declared.library.SheetRead.{SheetRead}
-use Rattle.sheets.specs.declared.tree.TreeRead.{TreeRead}
-use Rattle.sheets.specs.declared.tree.TreeRecord.{TreeRecord}
+use Rattle.sheets.specs.declared.tree.TreeHead.{TreeHead}
 use Rattle.sheets.specs.Layout.{padded, pinsMost, cellLaid, rowWords, tableWords, row, tableFrom, patternRow, patternRows, libraryLaid, treeLaid}
 use Rattle.sheets.specs.Public.{LibraryIs, TreeIs}
-use Rattle.sheets.specs.Inside.{BinsAre, CellsAre, cellAfter, SheetIs}
+use Rattle.sheets.specs.Inside.{BinsAre, CellsAre, cellAfter, SheetIs, NodesAre}
 use Rattle.sheets.proofs.Laws.{padded-at}
 
 -- A scan that was not refused at the end was not refused before.
@@ -50,38 +49,45 @@ ended-place s (At c) = go (endsAt s (placeOf c))
     go false = refl
 ended-place s (Refused f p) = refl
 
--- A tree's symbols, as many as its nodes, are those of a shape.
-pub tree-preorder : (s : List ℕ) (c : Scan) (l′ : List ℕ) (read : ShapeRead) → ShapeIs s treeRules c (replicate 64 0) l′ read → Live (read .scan) → Preorder (read .size) l′
-tree-preorder s c l′ read h z = record { many = omega (arith, h .few, h .wide); shape = shape s treeRules c .0; laid = drawn-is s treeRules c l′ read (omega arith) h z }
-
-pub tree-is : (s : List ℕ) (c : Scan) (load req : Got) (read : ShapeRead) (l′ m′ : List ℕ) (res : Scan) → c ≡ start →
+pub nodes-are : (s : List ℕ) (c : Scan) (load req : Got) (read : ShapeRead) (l l′ : List ℕ) (res : Scan) → l ≡ replicate 64 0 → c ≡ start →
     Reads load (field s 8 (within 0 255) c) (place c + 8) 255 → Reads req (field s 24 (within 0 16777215) (load .scan)) (place (load .scan) + 24) 16777215 →
-    ShapeIs s treeRules (req .scan) (replicate 64 0) l′ read → (Live (read .scan) → SizesSet (read .size) l′ (replicate 64 0) m′) → res ≡ ended s (read .scan) →
-    TreeIs s (record { scan = res; tree = record { load = load .value; required = req .value; count = read .size; symbols = l′; sizes = m′ } })
-unfolding tree treeLaid
-tree-is s c load req read l′ m′ res ec hl hr h₀ hs er =
+    ShapeIs s treeRules (req .scan) l l′ read → res ≡ ended s (read .scan) →
+    NodesAre s l′ (record { scan = res; load = load .value; required = req .value; count = read .size })
+unfolding tree
+nodes-are s c load req read l l′ res el ec hl hr h₀ er =
     let L = field s 8 (within 0 255) start in
     let R = field s 24 (within 0 16777215) (L .1) in
     let X = shape s treeRules (R .1) in
     let at-load = scan-at s 8 (within 0 255) c hl ec in
     let at-shape = scan-at s 24 (within 0 16777215) (load .scan) hr at-load in
-    let h : ShapeIs s treeRules (R .1) (replicate 64 0) l′ read = subst (λ (q : Scan). ShapeIs s treeRules q (replicate 64 0) l′ read) at-shape h₀ in
+    let h : ShapeIs s treeRules (R .1) (replicate 64 0) l′ read = subst₂ (λ (q : Scan) (k : List ℕ). ShapeIs s treeRules q k l′ read) at-shape el h₀ in
+    let live : Live res → Live (read .scan) = λ q. ended-live s (read .scan) (subst Live er q) in
     record {
       scan-is = er ∙ ap (ended s) (h .scan-is);
-      laid = λ q.
-          let z : Live (read .scan) = ended-live s (read .scan) (subst Live er q) in
-          let counted = h .size-is z ∙ length-symbols (X .0) in
-          let sized = hs z (X .0) (drawn-is s treeRules (R .1) l′ read (omega arith) h z) in
-          λ i. record {
-            load = value-at s 8 (within 0 255) c hl ec i;
-            required = value-at s 24 (within 0 16777215) (load .scan) hr at-load i;
-            count = counted i;
-            symbols = h .symbols-are z i;
-            sizes = sized i;
-          };
+      load-is = λ q. value-at s 8 (within 0 255) c hl ec;
+      required-is = λ q. value-at s 24 (within 0 16777215) (load .scan) hr at-load;
+      counted = λ q. h .size-is (live q) ∙ length-symbols (X .0);
+      laid = λ q. h .symbols-are (live q);
+      drawn = λ q. drawn-is s treeRules (R .1) l′ read (omega arith) h (live q);
+      wide = h .wide;
       nodes-few = h .few;
       near = omega (arith, ap place er, ended-place s (read .scan), h₀ .near, hl .near, hr .near, ap place ec, start-place);
     }
+
+-- A tree's symbols, as many as its nodes, are those of a shape.
+pub tree-preorder : (s l′ : List ℕ) (r : TreeHead) → NodesAre s l′ r → Live (r .scan) → Preorder (r .count) l′
+tree-preorder s l′ r h z = record { many = omega (arith, h .nodes-few, h .wide); shape = tree s start .0 .shape; laid = h .drawn z }
+
+-- With its sizes set the tree is whole.
+pub tree-is : (s l′ m′ : List ℕ) (r : TreeHead) → NodesAre s l′ r → (Live (r .scan) → SizesSet (r .count) l′ (replicate 64 0) m′) →
+    TreeIs s (record { scan = r .scan; tree = record { load = r .load; required = r .required; count = r .count; symbols = l′; sizes = m′ } })
+unfolding treeLaid
+tree-is s l′ m′ r h hs = record {
+  scan-is = h .scan-is;
+  laid = λ q i. record { load = h .load-is q i; required = h .required-is q i; count = h .counted q i; symbols = h .laid q i; sizes = hs q (tree s start .0 .shape) (h .drawn q) i };
+  nodes-few = h .nodes-few;
+  near = h .near;
+}
 
 -- The bin loads in their array, and in the rows of patterns.
 bins-padded : (xs : List ℕ) → length xs ≤ 4 → binLoadOf (padded 4 0 xs) ≡ binLoadOf xs
@@ -181,12 +187,11 @@ module _ (s l l′ : List ℕ) (r : SheetRead) (h : SheetIs s l l′ r) where
     (omega (arith, h .near, ap place e, number-bounds f), omega (arith, h .near, ap place e)),
   )
 
-module _ (s : List ℕ) (r : TreeRead) (h : TreeIs s r) where
-  pub tree-sound : (c : Cursor) → r .scan ≡ At c → (success (r .tree .count) ≡ treeReport s) × (Bounded (success (r .tree .count)) × TreeLimits (success (r .tree .count)))
-  unfolding treeReport treeRead treeLaid Bounded TreeLimits
+module _ (s l′ : List ℕ) (r : TreeHead) (h : NodesAre s l′ r) where
+  pub tree-sound : (c : Cursor) → r .scan ≡ At c → (success (r .count) ≡ treeReport s) × (Bounded (success (r .count)) × TreeLimits (success (r .count)))
+  unfolding treeReport treeRead Bounded TreeLimits
   tree-sound c e =
-      let same = h .laid (subst Live (sym e) tt) in
-      (ap (λ (k : TreeRecord). success (k .count)) same ∙ ap (λ (q : Scan). treeRead (tree s start .0, q)) (sym e ∙ h .scan-is), (omega (arith, h .nodes-few), h .nodes-few))
+      (ap success (h .counted (subst Live (sym e) tt)) ∙ ap (λ (q : Scan). treeRead (tree s start .0, q)) (sym e ∙ h .scan-is), (omega (arith, h .nodes-few), h .nodes-few))
 
   pub tree-refused : (f : Fault) (n p : ℕ) → r .scan ≡ Refused f p → n ≡ treeNumber f → (refused n p ≡ treeReport s) × (Bounded (refused n p) × TreeLimits (refused n p))
   unfolding treeReport treeRead treeNumber Bounded TreeLimits

@@ -9,6 +9,7 @@ ghost use lib.ListN.{replicate};
 ghost use Rattle.fields.specs.Answer.{Bounded};
 ghost use Rattle.fields.specs.Promises.{Live};
 ghost use Rattle.shapes.specs.Promises.{Preorder, SizesSet};
+ghost use Rattle.sheets.specs.Inside.{NodesAre};
 ghost use Rattle.sheets.specs.Public.{TreeIs};
 ghost use Rattle.sheets.specs.Report.{ofTreeJudged, TreeLimits, treeReport, treeNumber};
 
@@ -33,6 +34,40 @@ pub struct TreeRead {
     pub tree: TreeRecord,
 }
 
+// What a tree sheet says but for its nodes, how many they are, and the scan after it.
+pub struct TreeHead {
+    pub scan: Scan,
+    pub load: u8,
+    pub required: u32,
+    pub count: usize,
+}
+
+// The tree sheet, its nodes' symbols laid out in an array of zeros.
+fn read_nodes(s: &[u8], symbols: &mut [u32; Limits::TREE_NODES]) -> TreeHead
+    requires { ⌜ now symbols ≡ replicate 64 0 ⌝ }
+    ensures { λ r. ⌜ NodesAre (now (s .entry)) (now (symbols .exit)) r ⌝ }
+{
+    let start = fields::begin();
+    let load = fields::ranged(start, s, 8, 0, Limits::LOAD);
+    let at = load.scan;
+    let required = fields::ranged(at, s, 24, 0, Limits::TIME);
+    let at = required.scan;
+    let rules = Rules {
+        width: 20,
+        most: Limits::ARRIVAL,
+        nodes: Limits::TREE_NODES,
+        pattern: false,
+    };
+    let read = shapes::read_shape(at, s, rules, symbols);
+    let at = read.scan;
+    TreeHead {
+        scan: fields::end(at, s),
+        load: load.value as u8,
+        required: required.value,
+        count: read.size,
+    }
+}
+
 // The sizes of the nodes of a tree that was read up to `after`: zeros after a refusal.
 fn sizes_of(after: Scan, symbols: &[u32], n: usize) -> [u8; Limits::TREE_NODES]
     requires { ⌜ (Live after → Preorder n (now symbols)) ⌝ }
@@ -51,43 +86,33 @@ fn sizes_of(after: Scan, symbols: &[u32], n: usize) -> [u8; Limits::TREE_NODES]
 pub fn read_tree(s: &[u8]) -> TreeRead
     ensures { λ r. ⌜ TreeIs (now (s .entry)) r ⌝ }
 {
-    let start = fields::begin();
-    let load = fields::ranged(start, s, 8, 0, Limits::LOAD);
-    let at = load.scan;
-    let required = fields::ranged(at, s, 24, 0, Limits::TIME);
-    let at = required.scan;
-    let rules = Rules {
-        width: 20,
-        most: Limits::ARRIVAL,
-        nodes: Limits::TREE_NODES,
-        pattern: false,
-    };
     let mut symbols = [0u32; Limits::TREE_NODES];
-    let read = shapes::read_shape(at, s, rules, &mut symbols);
-    let at = read.scan;
-    let size = read.size;
-    let sizes = sizes_of(at, &symbols, size);
+    let read = read_nodes(s, &mut symbols);
+    let scan = read.scan;
+    let count = read.count;
+    let sizes = sizes_of(scan, &symbols, count);
     TreeRead {
-        scan: fields::end(at, s),
+        scan,
         tree: TreeRecord {
-            load: load.value as u8,
-            required: required.value,
-            count: size,
+            load: read.load,
+            required: read.required,
+            count,
             symbols,
             sizes,
         },
     }
 }
 
-// Judges a tree: its node count, or what is wrong with it and where.
+// Judges a tree: its node count, or what is wrong with it and where. No sizes are set.
 pub fn judge_tree(s: &[u8]) -> TreeJudged
     ensures { λ r. ⌜ ofTreeJudged r ≡ treeReport (now (s .entry)) ⌝ }
     ensures { λ r. ⌜ Bounded (ofTreeJudged r) × TreeLimits (ofTreeJudged r) ⌝ }
 {
-    let read = read_tree(s);
+    let mut symbols = [0u32; Limits::TREE_NODES];
+    let read = read_nodes(s, &mut symbols);
     let scan = read.scan;
     match scan {
-        Scan::At(_) => TreeJudged::Sound(read.tree.count),
+        Scan::At(_) => TreeJudged::Sound(read.count),
         Scan::Refused(fault, place) => TreeJudged::Refused(tree_number(fault), place),
     }
 }

@@ -1,11 +1,11 @@
-use borrow.Author.Needs.{needs}
 use Rattle.sheets.specs.Report.{ofTreeJudged}
 use Rattle.sheets.proofs.Whole.{tree-sound, tree-refused}
+use borrow.Author.Needs.{needs}
 use Rattle.sheets.proofs.tree.judge_tree.Statement.{statement}
 use Rattle.sheets.proofs.tree.judge_tree.Tie as tie
 
-read-tree-requires : tie.Need-read-tree-requires
-read-tree-requires c κs = search needs
+read-nodes-requires : tie.Need-read-nodes-requires
+read-nodes-requires c κs = search needs
 
 enum-told : tie.Need-enum-told
 enum-told c = search needs
@@ -19,15 +19,17 @@ tree-number-requires c κs = search needs
 returns : tie.Need-returns
 unfolding ofTreeJudged
 returns c =
-    let r = c .before .before .read-tree in
-    tree-sound (c .before .before .before .before .args .s .now) (r .result) (r .ensures) (c .enum-told .given .0 .0) (c .enum-told .given .1)
+    let r = c .before .before .read-nodes in
+    tree-sound (c .before .before .before .before .before .args .s .now) (r .last .1 .0) (r .result) (r .ensures) (c .enum-told .given .0 .0) (c .enum-told .given .1)
 
 returns-2 : tie.Need-returns-2
 unfolding ofTreeJudged
 returns-2 c =
-    let r = c .before .before .before .before .read-tree in
+    let r = c .before .before .before .before .read-nodes in
     let told = c .before .before .scan .given in
-    tree-refused (c .before .before .before .before .before .before .args .s .now) (r .result) (r .ensures) (told .0 .0) (c .tree-number .result) (told .0 .1 .0) (told .1) (c .tree-number .ensures .0)
+    tree-refused (c .before .before .before .before .before .before .before .args .s .now) (r .last .1 .0) (r .result) (r .ensures) (told .0 .0) (c .tree-number .result) (told .0 .1 .0) (told .1) (c .tree-number .ensures .0)
 
 pub judge-tree-spec : {M : Type 1} → statement M
-judge-tree-spec = tie.close (tie.spec read-tree-requires enum-told enum-known-scan tree-number-requires returns returns-2)
+judge-tree-spec =
+    tie.close
+    (tie.spec read-nodes-requires enum-told enum-known-scan tree-number-requires returns returns-2)
