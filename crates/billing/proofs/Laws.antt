@@ -15,8 +15,7 @@ use borrow.Author.Tests.{lt-ltb}
 use mir.Syntax.{w32}
 use mir.Val.{SFits, toZ, ofZ}
 use mir.ValLaws.{toZ-ofZ, toZ-pos}
-use Rattle.fields.proofs.Lists.{at-mem, at-map}
-use Rattle.bits.proofs.Words.{zeros-at}
+use Rattle.fields.proofs.Lists.{at-mem, at-map, zeros-at}
 use Rattle.sheets.specs.Model.{Library, cellOf, areaOf}
 use Rattle.sheets.specs.Layout.{rowWords}
 use Rattle.covers.specs.Lists.{keepIf, select}

@@ -1,4 +1,4 @@
--- Laws about lists: runs written from a place on, elements at their places.
+-- Laws about lists: runs written from a place on, elements at their places, lists of zeros.
 use mathlib.Core.Path.{_≡_, refl, sym, ap, _∙_}
 use mathlib.Core.List.{List, [], _∷_, _++_, map, append-assoc, List·Memᴰ, List·Memᴰ·head, List·Memᴰ·tail}
 use Prim.Native.Nat.{ℕ, zero, suc, _+_, _≤_, _<_}
@@ -7,6 +7,7 @@ use native.Mathlib.Omega.{arith}
 use lib.ListN.{length, getD, take, drop, set, length-append, length-drop, length-set, take-append-drop}
 use lib.Seq.{sets, getD-set-same, getD-set-other, sets-eq, set-comm, take-at, length-take-le, drop-append-le, drop-drop}
 use borrow.Rule.Slice.PartMut.{putMid}
+pub use Rattle.bits.proofs.Words.{zeros-at}
 
 module _ {A : Type 0} where
   -- One run after another is one run.

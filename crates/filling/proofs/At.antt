@@ -7,7 +7,7 @@ use lib.ListN.{length, take, replicate}
 use lib.Seq.{take-all}
 use Rattle.sheets.specs.Model.{Shape, Library, Tree}
 use Rattle.covers.specs.Curve.{gates}
-use Rattle.bits.proofs.Words.{zeros-at}
+use Rattle.fields.proofs.Lists.{zeros-at}
 use Rattle.filling.specs.declared.Turn.{Turn}
 use Rattle.filling.specs.declared.Counts.{Counts}
 use Rattle.filling.specs.Promises.{loadAt, curveUnder, pointsUnder, NodeReady, NodeFilled, FillReady, NodeDone}

@@ -16,7 +16,7 @@ use Rattle.fields.specs.declared.Scan.{Scan}
 use Rattle.fields.specs.declared.Scan.the-variants.{At, Refused}
 use Rattle.fields.specs.Reading.{start, place}
 use Rattle.fields.specs.Answer.{Answer, refused, success, onSuccess, places, Bounded}
-use Rattle.bits.proofs.Words.{zeros-at}
+use Rattle.fields.proofs.Lists.{zeros-at}
 use Rattle.sheets.specs.declared.library.LibraryRecord.{LibraryRecord}
 use Rattle.sheets.specs.declared.tree.TreeRecord.{TreeRecord}
 use Rattle.sheets.specs.declared.library.LibraryRead.{LibraryRead}

@@ -7,7 +7,7 @@ use native.Mathlib.Decide.{ℕ-discrete}
 use native.Mathlib.Omega.{arith}
 use lib.ListN.{length, getD, set, replicate}
 use lib.Seq.{sets, getD-set-same, getD-set-other, set-out}
-use Rattle.bits.proofs.Words.{zeros-at}
+use Rattle.fields.proofs.Lists.{zeros-at}
 use Rattle.shapes.specs.Shape.{symbols as symbolsOf}
 use Rattle.sheets.specs.Model.{Shape, leaf, inv, nand, leaves}
 use Rattle.sheets.specs.Layout.{padded}

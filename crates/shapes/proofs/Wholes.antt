@@ -6,9 +6,8 @@ use Prim.Native.Nat.{ℕ, zero, suc, _+_, _*_, _≤_, _<_}
 use native.Mathlib.Nat.{zero-add}
 use native.Mathlib.Omega.{arith}
 use lib.ListN.{length, take, drop, getD, replicate, length-replicate}
-use Rattle.fields.proofs.Lists.{take-sets}
+use Rattle.fields.proofs.Lists.{take-sets, zeros-at}
 use lib.Seq.{sets}
-use Rattle.bits.proofs.Words.{zeros-at}
 use Rattle.bits.specs.declared.Cursor.{Cursor}
 use Rattle.bits.specs.Bits.{placeOf}
 use Rattle.bits.specs.Promises.{Opens}

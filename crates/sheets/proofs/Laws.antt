@@ -16,8 +16,7 @@ use Rattle.fields.specs.declared.Fault.the-variants.{Size}
 use borrow.Author.Tests.{leb-true, ne-eqb}
 use lib.Dec.{leb, eqb}
 use Rattle.fields.proofs.Laws.{length-times, times-value, times-scan, positive-live, live-sound, range-passes}
-use Rattle.fields.proofs.Lists.{sets-append, set-sets, mid-sets, front-sets}
-use Rattle.bits.proofs.Words.{zeros-at}
+use Rattle.fields.proofs.Lists.{sets-append, set-sets, mid-sets, front-sets, zeros-at}
 use Rattle.shapes.proofs.Drawn.{live?, length-symbols, node-live}
 use Rattle.shapes.proofs.Wholes.{drawn-is}
 use borrow.Rule.Slice.PartMut.{putMid}
