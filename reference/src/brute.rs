@@ -93,8 +93,8 @@ impl<'a> Listing<'a> {
     }
 
     fn list_covers(&self, node: usize, load: u32) -> Vec<Cover> {
-        if let Node::Leaf(arrival) = self.tree.shape.nodes[node] {
-            return vec![Cover { area: 0, arrival, matches: vec![] }];
+        if let Node::Leaf(leaf) = self.tree.shape.nodes[node] {
+            return vec![Cover::of_leaf(leaf, load)];
         }
         self.legal_matches(node, load).flat_map(|found| self.covers_from(node, load, found)).collect()
     }

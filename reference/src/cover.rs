@@ -3,6 +3,7 @@
 use crate::bits::Writer;
 use crate::refusal::Refusal;
 use crate::sheet::Sheet;
+use crate::tree::TreeLeaf;
 
 /// A pair of arrival and area.
 #[derive(Clone, Copy, PartialEq, Eq, PartialOrd, Ord, Hash, Debug)]
@@ -34,6 +35,11 @@ pub struct Cover {
 }
 
 impl Cover {
+    /// Nothing, with the leaf's arrival under the load that it drives.
+    pub fn of_leaf(leaf: TreeLeaf, load: u32) -> Cover {
+        Cover { area: 0, arrival: leaf.arrival_under(load), matches: vec![] }
+    }
+
     pub fn sheet(&self) -> Vec<u8> {
         let mut writer = Writer::new();
         writer.put(self.area, 22);

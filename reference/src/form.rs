@@ -4,7 +4,8 @@ use crate::bits::Writer;
 use crate::cover::Cover;
 use crate::library::{Cell, Library, Pin};
 use crate::shape::{Shape, Step};
-use crate::tree::Tree;
+use crate::sheet::{DRIVEN, INV, LEAF, NAND};
+use crate::tree::{Tree, TreeLeaf};
 
 #[derive(Clone, Copy, PartialEq, Eq, Debug)]
 pub enum Role {
@@ -48,7 +49,7 @@ impl Role {
         Role::Code,
         Role::PinNumber,
     ];
-    pub const OF_TREE: [Role; 4] = [Role::RootLoad, Role::Required, Role::Code, Role::Arrival];
+    pub const OF_TREE: [Role; 5] = [Role::RootLoad, Role::Required, Role::Code, Role::Arrival, Role::Drive];
 
     pub fn width(self) -> usize {
         match self {
@@ -93,7 +94,7 @@ impl Form {
         let mut form = Form::default();
         form.push(Role::RootLoad, tree.root_load);
         form.push(Role::Required, tree.required);
-        form.push_shape(&tree.shape, Role::Arrival);
+        form.push_shape(&tree.shape, Form::push_tree_leaf);
         form
     }
 
@@ -121,7 +122,7 @@ impl Form {
         self.push(Role::PinCount, cell.pins.len() as u32);
         cell.pins.iter().for_each(|pin| self.push_pin(pin));
         self.push(Role::PatternCount, cell.patterns.len() as u32);
-        cell.patterns.iter().for_each(|shape| self.push_shape(shape, Role::PinNumber));
+        cell.patterns.iter().for_each(|shape| self.push_shape(shape, Form::push_pin_number));
     }
 
     fn push_pin(&mut self, pin: &Pin) {
@@ -130,17 +131,25 @@ impl Form {
         self.push(Role::Drive, pin.drive);
     }
 
-    fn push_shape(&mut self, shape: &Shape, leaf: Role) {
+    fn push_shape<L: Copy>(&mut self, shape: &Shape<L>, push_leaf: fn(&mut Form, L)) {
         for step in shape.steps() {
             match step {
-                Step::Leaf(value) => {
-                    self.push(Role::Code, 0);
-                    self.push(leaf, value);
-                }
-                Step::Inv => self.push(Role::Code, 1),
-                Step::Nand => self.push(Role::Code, 2),
+                Step::Leaf(leaf) => push_leaf(self, leaf),
+                Step::Inv => self.push(Role::Code, INV),
+                Step::Nand => self.push(Role::Code, NAND),
             }
         }
+    }
+
+    fn push_pin_number(&mut self, pin: u32) {
+        self.push(Role::Code, LEAF);
+        self.push(Role::PinNumber, pin);
+    }
+
+    fn push_tree_leaf(&mut self, leaf: TreeLeaf) {
+        self.push(Role::Code, if leaf.drive.is_some() { DRIVEN } else { LEAF });
+        self.push(Role::Arrival, leaf.arrival);
+        leaf.drive.into_iter().for_each(|drive| self.push(Role::Drive, drive));
     }
 
     /// The first bit of a field, or for the field count the first bit after the last field.

@@ -7,7 +7,7 @@ use crate::library::{self, Library};
 use crate::matching::{inputs_at, Match};
 use crate::refusal::{Refusal, COVER_FIGURES, COVER_MATCH, COVER_SHEET, TAIL};
 use crate::shape::{Node, Shape};
-use crate::tree::{self, Tree};
+use crate::tree::{self, Tree, TreeLeaf};
 use std::collections::BTreeMap;
 
 /// What is wrong with a match.
@@ -135,17 +135,17 @@ pub fn figures(library: &Library, tree: &Tree, matches: &[Placed]) -> Judged {
     if !walk.uncovered.is_empty() {
         return Err(Fault::Unfinished(matches.len()));
     }
-    Ok(Pair { arrival: walk.arrival(0), area: walk.area() })
+    Ok(Pair { arrival: walk.arrival(0, tree.root_load), area: walk.area() })
 }
 
 /// A list of matches walked up to some position.
 struct Walk<'a> {
     library: &'a Library,
-    shape: &'a Shape,
+    shape: &'a Shape<TreeLeaf>,
     /// The inverters and NANDs still to be covered, with the loads that they drive.
     uncovered: BTreeMap<usize, u32>,
-    /// The matches by node, with the loads that they drive.
-    taken: BTreeMap<usize, (Match<'a>, u32)>,
+    /// The matches by node.
+    taken: BTreeMap<usize, Match<'a>>,
 }
 
 impl<'a> Walk<'a> {
@@ -173,7 +173,7 @@ impl<'a> Walk<'a> {
         for input in &found.inputs {
             self.uncover(input.node, self.library.bins[found.bin(input)]);
         }
-        self.taken.insert(placed.node, (found, load));
+        self.taken.insert(placed.node, found);
         Ok(())
     }
 
@@ -199,16 +199,20 @@ impl<'a> Walk<'a> {
     }
 
     fn area(&self) -> u32 {
-        self.taken.values().map(|(found, _)| found.cell.area).sum()
+        self.taken.values().map(|found| found.cell.area).sum()
     }
 
-    /// A leaf's stated arrival, or the latest over the pins of the match taken at a node.
-    fn arrival(&self, node: usize) -> u32 {
-        if let Node::Leaf(arrival) = self.shape.nodes[node] {
-            return arrival;
+    /// When a node arrives under the load that it drives: a leaf by its own driver, any other node as the latest over
+    /// the pins of the match taken there.
+    fn arrival(&self, node: usize, load: u32) -> u32 {
+        if let Node::Leaf(leaf) = self.shape.nodes[node] {
+            return leaf.arrival_under(load);
         }
-        let (found, load) = &self.taken[&node];
-        let through = found.inputs.iter().map(|input| self.arrival(input.node) + found.delay(input, *load));
+        let found = &self.taken[&node];
+        let through = found.inputs.iter().map(|input| {
+            let arrival = self.arrival(input.node, self.library.bins[found.bin(input)]);
+            arrival + found.delay(input, load)
+        });
         through.max().expect("a pattern has a leaf")
     }
 }

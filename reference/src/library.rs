@@ -2,7 +2,7 @@
 
 use crate::refusal::{Refusal, DRAWING, RANGE, SIZE};
 use crate::shape::Shape;
-use crate::sheet::Sheet;
+use crate::sheet::{Sheet, DRIVEN};
 
 #[derive(Clone, Copy, PartialEq, Eq, Debug)]
 pub struct Pin {
@@ -116,8 +116,11 @@ fn read_pattern(sheet: &mut Sheet, pin_count: usize) -> Result<Shape, Refusal> {
     let first = sheet.at();
     let mut marks = [false; 6];
     let seen = &mut marks[..pin_count];
-    let steps = sheet.nodes(MOST_PATTERN_NODES, |sheet, code_place| {
-        if code_place == first {
+    let steps = sheet.nodes(MOST_PATTERN_NODES, |sheet, code| {
+        if code.value == DRIVEN {
+            return sheet.refuse(RANGE, code.place);
+        }
+        if code.place == first {
             return sheet.refuse(DRAWING, first);
         }
         read_pin_number(sheet, seen)

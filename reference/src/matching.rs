@@ -5,6 +5,7 @@ use crate::cover::Placed;
 use crate::crossing::{crossings, redrawn};
 use crate::library::{Cell, Library};
 use crate::shape::{Node, Shape};
+use crate::tree::TreeLeaf;
 
 /// An input: the node under a pattern's leaf, and the pin that stands there.
 #[derive(Clone, Copy, PartialEq, Eq, Debug)]
@@ -62,11 +63,11 @@ pub fn redrawings(library: &Library) -> Vec<Redrawing<'_>> {
 }
 
 /// Every match by node, each node's in the order of the redrawings.
-pub fn matches_by_node<'a>(redrawings: &[Redrawing<'a>], tree: &Shape) -> Vec<Vec<Match<'a>>> {
+pub fn matches_by_node<'a>(redrawings: &[Redrawing<'a>], tree: &Shape<TreeLeaf>) -> Vec<Vec<Match<'a>>> {
     (0..tree.nodes.len()).map(|node| matches_at(redrawings, tree, node)).collect()
 }
 
-fn matches_at<'a>(redrawings: &[Redrawing<'a>], tree: &Shape, node: usize) -> Vec<Match<'a>> {
+fn matches_at<'a>(redrawings: &[Redrawing<'a>], tree: &Shape<TreeLeaf>, node: usize) -> Vec<Match<'a>> {
     let stand = |&Redrawing { pattern, crossing, cell, ref shape }: &Redrawing<'a>| {
         inputs_at(shape, tree, node).map(|inputs| Match { pattern, crossing, cell, inputs })
     };
@@ -74,13 +75,13 @@ fn matches_at<'a>(redrawings: &[Redrawing<'a>], tree: &Shape, node: usize) -> Ve
 }
 
 /// The inputs of a shape that stands at a node, in drawn order; `None` if it does not stand there.
-pub fn inputs_at(shape: &Shape, tree: &Shape, node: usize) -> Option<Vec<Input>> {
+pub fn inputs_at(shape: &Shape, tree: &Shape<TreeLeaf>, node: usize) -> Option<Vec<Input>> {
     let mut inputs = Vec::new();
     stands(shape, 0, tree, node, &mut inputs).then_some(inputs)
 }
 
 /// Whether the pattern from one of its nodes on has the tree's shape from `node` on.
-fn stands(pattern: &Shape, at: usize, tree: &Shape, node: usize, inputs: &mut Vec<Input>) -> bool {
+fn stands(pattern: &Shape, at: usize, tree: &Shape<TreeLeaf>, node: usize, inputs: &mut Vec<Input>) -> bool {
     match (pattern.nodes[at], tree.nodes[node]) {
         (Node::Leaf(pin), _) => {
             inputs.push(Input { pin: pin as usize, node });

@@ -6,7 +6,7 @@ use crate::library::Library;
 use crate::matching::{matches_by_node, redrawings, Input, Match, Redrawing};
 use crate::refusal::{Refusal, NO_COVER, OVERFULL};
 use crate::shape::{Node, Shape};
-use crate::tree::Tree;
+use crate::tree::{Tree, TreeLeaf};
 
 /// The most trade-offs of a node under one load.
 pub const MOST_TRADE_OFFS: usize = 31;
@@ -53,7 +53,7 @@ pub fn extent(library: &Library, tree: &Tree) -> Result<Extent, Refusal> {
 /// The curves of every node below the root by bin, and the root's.
 struct Curves<'a> {
     library: &'a Library,
-    shape: &'a Shape,
+    shape: &'a Shape<TreeLeaf>,
     /// By node.
     matches: Vec<Vec<Match<'a>>>,
     /// By node and bin; filled from the highest node down.
@@ -84,8 +84,8 @@ impl<'a> Curves<'a> {
     }
 
     fn curve(&self, node: usize, load: u32) -> Curve {
-        if let Node::Leaf(arrival) = self.shape.nodes[node] {
-            return Curve::single(arrival, 0, 0);
+        if let Node::Leaf(leaf) = self.shape.nodes[node] {
+            return Curve::single(leaf.arrival_under(load), 0, 0);
         }
         let mut curve = Curve::default();
         for (position, found) in self.matches[node].iter().enumerate().filter(|(_, found)| found.is_legal(load)) {

@@ -5,6 +5,13 @@ use crate::refusal::{Refusal, RANGE, SIZE, TAIL, TRUNCATED};
 use crate::shape::Step;
 use std::ops::RangeInclusive;
 
+/// The codes of nodes.
+pub const LEAF: u32 = 0;
+pub const INV: u32 = 1;
+pub const NAND: u32 = 2;
+/// A leaf with a drive, in trees only.
+pub const DRIVEN: u32 = 3;
+
 /// A field's value and first bit.
 #[derive(Clone, Copy)]
 pub struct Taken {
@@ -51,11 +58,11 @@ impl<'a> Sheet<'a> {
         }
     }
 
-    /// The nodes of one shape in preorder, at most `most`. `leaf` is called after a
-    /// leaf's code, with the code's place, and reads the leaf's number.
-    pub fn nodes<F>(&mut self, most: usize, mut leaf: F) -> Result<Vec<Step>, Refusal>
+    /// The nodes of one shape in preorder, at most `most`. `leaf` is called after a code that is
+    /// no gate's, with that code, and reads what stands at the leaf, if it is one.
+    pub fn nodes<L, F>(&mut self, most: usize, mut leaf: F) -> Result<Vec<Step<L>>, Refusal>
     where
-        F: FnMut(&mut Self, usize) -> Result<u32, Refusal>,
+        F: FnMut(&mut Self, Taken) -> Result<L, Refusal>,
     {
         let mut steps = Vec::with_capacity(most);
         let mut open_branches = 1;
@@ -65,10 +72,9 @@ impl<'a> Sheet<'a> {
                 return self.refuse(SIZE, code.place);
             }
             let step = match code.value {
-                0 => Step::Leaf(leaf(self, code.place)?),
-                1 => Step::Inv,
-                2 => Step::Nand,
-                _ => return self.refuse(RANGE, code.place),
+                INV => Step::Inv,
+                NAND => Step::Nand,
+                _ => Step::Leaf(leaf(self, code)?),
             };
             open_branches = open_branches + step.branches() - 1;
             steps.push(step);

@@ -36,9 +36,11 @@ mod width {
     pub const ARRIVAL: usize = 20;
 }
 
-/// A node's code is the number of its branches: a leaf's is 0, and 3 is out of range.
+/// A gate's code is the number of its branches: 1 or 2. Code 0 is a leaf; 3 is a driven one in a tree, and out of range
+/// in a pattern.
 const LEAF: usize = 0;
-const MOST_CODE: usize = 2;
+const MOST_BRANCHES: usize = 2;
+const DRIVEN: usize = 3;
 
 const MOST_BINS: usize = 4;
 const MOST_LOAD: usize = 255;
@@ -101,12 +103,13 @@ impl<'a> Sheet<'a> {
         Ok(value)
     }
 
-    /// The nodes of `open` branches in preorder, after `nodes` others of the shape; answers how many it has now.
+    /// The nodes of `open` branches in preorder, after `nodes` others of the shape; answers how many it has now. `leaf`
+    /// is called after a code that is no gate's, with that code, and reads the rest of the leaf, if it is one.
     /// No jump tells INV from NAND, because a processor can hardly foresee which of them comes.
     #[inline(always)]
     fn branches<F>(&mut self, mut open: usize, mut nodes: usize, most: usize, mut leaf: F) -> Read<usize>
     where
-        F: FnMut(&mut Self) -> Read<()>,
+        F: FnMut(&mut Self, usize) -> Read<()>,
     {
         while open > 0 {
             let place = self.at;
@@ -114,14 +117,13 @@ impl<'a> Sheet<'a> {
             if nodes == most {
                 return self.refuse(SIZE, place);
             }
-            if code > MOST_CODE {
-                return self.refuse(RANGE, place);
-            }
-            if code == LEAF {
-                leaf(self)?;
-            }
             nodes += 1;
-            open = open + code - 1;
+            open -= 1;
+            if is_gate(code) {
+                open += code;
+            } else {
+                leaf(self, code)?;
+            }
         }
         Ok(nodes)
     }
@@ -134,6 +136,11 @@ impl<'a> Sheet<'a> {
         }
         self.refuse(TAIL, self.at)
     }
+}
+
+#[inline(always)]
+fn is_gate(code: usize) -> bool {
+    (1..=MOST_BRANCHES).contains(&code)
 }
 
 /// The word of the last bytes, fewer than eight, with zeros after them.
@@ -197,12 +204,12 @@ fn pattern_count(sheet: &mut Sheet, room: usize) -> Read<usize> {
 #[inline(always)]
 fn pattern(sheet: &mut Sheet, pins: usize) -> Read<()> {
     let first = sheet.at;
-    let opening = sheet.within(width::CODE, 0..=MOST_CODE)?;
+    let opening = sheet.within(width::CODE, 0..=MOST_BRANCHES)?;
     if opening == LEAF {
         return sheet.refuse(DRAWING, first);
     }
     let mut met = 0;
-    sheet.branches(opening, 1, MOST_PATTERN_NODES, |sheet| pin(sheet, pins, &mut met))?;
+    sheet.branches(opening, 1, MOST_PATTERN_NODES, |sheet, code| pin(sheet, code, pins, &mut met))?;
     if met != (1 << pins) - 1 {
         return sheet.refuse(DRAWING, first);
     }
@@ -211,8 +218,11 @@ fn pattern(sheet: &mut Sheet, pins: usize) -> Read<()> {
 
 /// The pin number of a leaf, whose bit joins those met before.
 #[inline(always)]
-fn pin(sheet: &mut Sheet, pins: usize, met: &mut u32) -> Read<()> {
+fn pin(sheet: &mut Sheet, code: usize, pins: usize, met: &mut u32) -> Read<()> {
     let place = sheet.at;
+    if code == DRIVEN {
+        return sheet.refuse(RANGE, place - width::CODE);
+    }
     let bit = 1 << sheet.within(width::PIN, 0..=pins - 1)?;
     if *met & bit != 0 {
         return sheet.refuse(DRAWING, place);
@@ -225,13 +235,17 @@ fn tree(bytes: &[u8]) -> Read<usize> {
     let mut sheet = Sheet::new(bytes, IN_TREE);
     sheet.any(width::LOAD)?;
     sheet.any(width::REQUIRED)?;
-    let nodes = sheet.branches(1, 0, MOST_TREE_NODES, arrival)?;
+    let nodes = sheet.branches(1, 0, MOST_TREE_NODES, tree_leaf)?;
     sheet.end()?;
     Ok(nodes)
 }
 
+/// The arrival of a leaf and, if it is driven, its drive.
 #[inline(always)]
-fn arrival(sheet: &mut Sheet) -> Read<()> {
+fn tree_leaf(sheet: &mut Sheet, code: usize) -> Read<()> {
     sheet.within(width::ARRIVAL, 0..=LATEST_LEAF as usize)?;
+    if code == DRIVEN {
+        sheet.any(width::DRIVE)?;
+    }
     Ok(())
 }

@@ -12,7 +12,7 @@ use reference::library::Library;
 use reference::rng::Rng;
 use reference::shape::Shape;
 use reference::shape::Step::{Inv, Leaf, Nand};
-use reference::tree::{Tree, LATEST_LEAF, LATEST_REQUIRED};
+use reference::tree::{Tree, TreeLeaf, LATEST_LEAF, LATEST_REQUIRED};
 use std::collections::BTreeMap;
 
 /// Area 2, arrival 5, one match of pattern 1 at node 0.
@@ -76,18 +76,35 @@ fn a_leaf_costs_nothing() {
     assert_eq!(of(LATEST_LEAF, 0), "total 0\nmargin -1000000\n");
 }
 
-/// 63 inverters of the greatest area and delay: 63 × 65,535, and 63 × (65,535 + 255 × 255) after the leaf.
+/// 7 + 3 × 9, and the latest: 1,000,000 + 255 × 255.
+#[test]
+fn a_driven_leaf_is_billed_under_the_root_load() {
+    let of = |leaf: TreeLeaf, root_load, required, arrival| {
+        billed(&specimen::library(), &tree(root_load, required, &[Leaf(leaf)]), 0, arrival, &[])
+    };
+    assert_eq!(of(TreeLeaf::driven(7, 3), 9, 34, 34), "total 0\nmargin 0\n");
+    assert_eq!(of(TreeLeaf::driven(7, 3), 9, 33, 34), "total 0\nmargin -1\n");
+    assert_eq!(of(TreeLeaf::driven(7, 3), 9, 34, 7), "refused 24 0\n");
+    assert_eq!(of(TreeLeaf::driven(LATEST_LEAF, 255), 255, 0, 1_065_025), "total 0\nmargin -1065025\n");
+}
+
+/// 63 inverters of the greatest area and delay: 63 × 65,535, and 63 × (65,535 + 255 × 255) after the leaf, which if it
+/// is driven has 255 × 255 more itself.
 #[test]
 fn the_greatest_figures_are_billed() {
     let inverter = cell(65_535, 255, pin(0, 65_535, 255), INVERTER);
     let library = Library { bins: vec![255], cells: vec![inverter] };
     let matches: Vec<(usize, usize)> = (0..63).map(|node| (node, 0)).collect();
-    let of = |required| {
-        let tree = tree(255, required, &chain(63, &[Leaf(LATEST_LEAF)]));
-        billed(&library, &tree, 4_128_705, 9_225_280, &matches)
+    let of = |leaf: TreeLeaf, arrival, required| {
+        let tree = tree(255, required, &chain(63, &[Leaf(leaf)]));
+        billed(&library, &tree, 4_128_705, arrival, &matches)
     };
-    assert_eq!(of(0), "0 63 4128705\ntotal 4128705\nmargin -9225280\n");
-    assert_eq!(of(LATEST_REQUIRED), "0 63 4128705\ntotal 4128705\nmargin 7551935\n");
+    let (plain, driven) = (TreeLeaf::plain(LATEST_LEAF), TreeLeaf::driven(LATEST_LEAF, 255));
+    assert_eq!(of(plain, 9_225_280, 0), "0 63 4128705\ntotal 4128705\nmargin -9225280\n");
+    assert_eq!(of(plain, 9_225_280, LATEST_REQUIRED), "0 63 4128705\ntotal 4128705\nmargin 7551935\n");
+    assert_eq!(of(driven, 9_290_305, 0), "0 63 4128705\ntotal 4128705\nmargin -9290305\n");
+    assert_eq!(of(driven, 9_290_305, LATEST_REQUIRED), "0 63 4128705\ntotal 4128705\nmargin 7486910\n");
+    assert_eq!(of(driven, 9_225_280, 0), "refused 24 0\n");
 }
 
 /// A NAND over the fast inverter and the plain one: the list has cells 2, 1 and 0.

@@ -1,19 +1,24 @@
 //! The rows of the benchmark: what they are, and that every method gives the same cover.
 
 use reference::deadline::Variant;
-use reference::generate::heavy;
+use reference::form::Form;
+use reference::generate::{heavy, longest};
 use reference::merging::{extent, Extent};
 use reference::operation::{Lent, Operation, LEAST_WORK};
 
 /// Name, the sheets' digests, matches over all nodes, and the most trade-offs of a node under a load.
-const ROWS: [(&str, u64, u64, usize, usize); 6] = [
+const ROWS: [(&str, u64, u64, usize, usize); 7] = [
     ("typical", 0xfb71_64ab_f9bb_7a1f, 0x577a_5fc9_a095_2fca, 189, 12),
     ("chain", 0xbe9a_8d6f_a4d2_86e7, 0x3cb3_aa88_ec01_c30c, 6_721, 31),
     ("comb", 0x22ed_991d_752a_bc41, 0xc40c_4a1f_3cc5_d258, 7_189, 31),
     ("deep", 0xbe53_b972_f4ae_79d8, 0x3cb3_aa88_ec01_c30c, 63, 1),
     ("full", 0x87f3_76b7_600d_8490, 0xcea8_477e_ef0f_40c1, 16_190, 31),
     ("crosscomb", 0x87f3_76b7_600d_8490, 0x60b3_c32a_2f51_3341, 3_464, 31),
+    ("driven", 0xfb71_64ab_f9bb_7a1f, 0x5785_60ec_5338_57fa, 189, 10),
 ];
+
+/// The digests of the sheets that the judges are timed on: the longest library, tree, and tree with plain leaves.
+const SHEETS: [u64; 3] = [0x8fe4_1739_1a1e_0c88, 0x934a_0a14_e612_9670, 0xdd3c_706a_f906_0633];
 
 /// FNV-1a: sheets that change are noticed, so that times can be compared over the years.
 fn digest(sheet: &[u8]) -> u64 {
@@ -28,6 +33,23 @@ fn the_rows_are_what_they_were() {
         let (library, tree) = (digest(&problem.library_sheet()), digest(&problem.tree_sheet()));
         assert_eq!((name, library, tree, matches, most_trade_offs), row, "{library:#x}, {tree:#x}");
     }
+}
+
+#[test]
+fn the_longest_sheets_are_what_they_were() {
+    let library = Form::of_library(&longest::library());
+    let sheets = [library, Form::of_tree(&longest::tree()), Form::of_tree(&longest::plain_tree())];
+    let digests = sheets.map(|form| digest(&form.bytes()));
+    assert_eq!(digests, SHEETS, "{digests:#x?}");
+}
+
+/// Only the leaves' drives part it from `typical`.
+#[test]
+fn the_driven_row_is_the_typical_one_with_drivers() {
+    let (typical, driven) = (heavy::typical(), heavy::driven());
+    assert_eq!(driven.library, typical.library);
+    assert_eq!(driven.tree.with_drive(None), typical.tree);
+    assert!(driven.tree.shape.leaves().all(|leaf| leaf.drive.is_some()));
 }
 
 #[test]

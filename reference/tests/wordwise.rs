@@ -21,18 +21,21 @@ fn stored(name: &str) -> Vec<u8> {
     std::fs::read(path).expect("a stored case")
 }
 
-fn longest_sheets() -> [(Kind, Vec<u8>); 2] {
-    [(Kind::Library, stored("longest.library")), (Kind::Tree, stored("longest.tree"))]
+/// The longest library, the longest tree, and the longest with plain leaves.
+fn longest_sheets() -> [(Kind, Vec<u8>); 3] {
+    let plain = Form::of_tree(&longest::plain_tree()).bytes();
+    [(Kind::Library, stored("longest.library")), (Kind::Tree, stored("longest.tree")), (Kind::Tree, plain)]
 }
 
 #[test]
 fn the_longest_sheets_are_stored() {
-    let [(_, library), (_, tree)] = longest_sheets();
-    assert_eq!((library.len(), tree.len()), (2_302, 100));
+    let [(_, library), (_, tree), (_, plain)] = longest_sheets();
+    assert_eq!((library.len(), tree.len(), plain.len()), (2_302, 132, 100));
     assert_eq!(library, Form::of_library(&longest::library()).bytes());
     assert_eq!(tree, Form::of_tree(&longest::tree()).bytes());
     assert_eq!(judge(Kind::Library, &library), 64 * 256 + 128);
     assert_eq!(judge(Kind::Tree, &tree), 64);
+    assert_eq!(judge(Kind::Tree, &plain), 64);
 }
 
 #[test]
@@ -64,12 +67,12 @@ fn longest_sheets_cut_anywhere_or_followed_by_bytes() {
     }
 }
 
-/// Of the tree every field, of the library every seventh.
+/// Of the trees every field, of the library every seventh.
 #[test]
 fn longest_sheets_with_fields_at_their_edges() {
     let library = Form::of_library(&longest::library());
-    let tree = Form::of_tree(&longest::tree());
-    for (kind, form, step) in [(Kind::Library, library, 7), (Kind::Tree, tree, 1)] {
+    let trees = [longest::tree(), longest::plain_tree()].map(|tree| (Kind::Tree, Form::of_tree(&tree), 1));
+    for (kind, form, step) in [(Kind::Library, library, 7)].into_iter().chain(trees) {
         for field in (0..form.fields.len()).step_by(step) {
             for value in edge_values(form.fields[field].role) {
                 compare(kind, &form.with(field, value).bytes());

@@ -5,7 +5,7 @@ use mathlib.Core.List.{List, map, List·Memᴰ}
 use mathlib.Core.Option.{some}
 use lib.ListN.{length, getD}
 use lib.Seq.{sets}
-use Rattle.sheets.specs.Model.{Shape, leaf, Library, Tree}
+use Rattle.sheets.specs.Model.{plainLeaf, Shape, Library, Tree}
 use Rattle.covers.specs.Match.{Input, Match, pinLoad}
 use Rattle.covers.specs.Cover.{Point, Placed, feeds, inputDelay}
 use Rattle.covers.specs.Enumeration.{covers}
@@ -41,7 +41,7 @@ pub record RowHolds (l : Library) (pattern row : List ℕ) (m : Match) : Type 0 
   pub pinned : (i : Input) → List·Memᴰ i (m .inputs) → i .pin < length (m .pattern .cell .pins)
 
 abbrev pub noInput : Input
-noInput = record { pin = 0; node = 0; shape = leaf 0 }
+noInput = record { pin = 0; node = 0; shape = plainLeaf 0 }
 
 -- What is asked of an input of the match m that drives a load and is to arrive by t: the load and the bin are its pin's, and the pin's delay is
 -- taken off the time.

@@ -1,4 +1,4 @@
--- No arrival exceeds 9,225,280 and no area 4,128,705.
+-- No arrival exceeds 9,290,305 and no area 4,128,705.
 use Prim.Native.Nat.{ℕ, suc, _+_, _*_, _≤_, _<_}
 use mathlib.Core.Path.{_≡_, refl, ap}
 use mathlib.Core.Option.{some}
@@ -7,7 +7,7 @@ use mathlib.Core.Logic.{⊎-elim}
 use mathlib.Core.List.{List, [], _∷_, List·Memᴰ, List·Memᴰ·head, List·Memᴰ·tail, List·Memᴰ·append-cases, List·Memᴰ·not-nil}
 use native.Mathlib.Nat.{mul-le-mul, mul-le-mul-right}
 use native.Mathlib.Omega.{arith}
-use Rattle.sheets.specs.Model.{Shape, size, leaves, Pin, Cell, Library, Pattern, drawn, patternsFrom, patterns}
+use Rattle.sheets.specs.Model.{Leaf, arrivalOf, Shape, size, leaves, Pin, Cell, Library, Pattern, drawn, patternsFrom, patterns}
 use Rattle.covers.specs.Match.{Input, Match, IsMatch, pinAt, pinLoad, delay}
 use Rattle.covers.specs.Cover.{Point, Cover, IsCover, bare, matching, AreCovers, done, more, leafArrival, leafPoint, leafCover, nothing, beside, late, raised, together, delayed, topped, feeds, inputDelay}
 use Rattle.covers.specs.Enumeration.{covers}
@@ -56,14 +56,18 @@ module _ {l : Library} {a i d b : ℕ} (lim : Limited l a i d b) where
     abbrev slowest : ℕ
     slowest = i + d * b
 
-    -- A cover's point against the gates of its subtree, whose leaves arrive by t; and that of a match's inputs taken together.
+    -- A leaf that arrives by t, before the load that it drives counts, and drives as the pins do.
+    abbrev latest : ℕ
+    latest = t + d * b
+
+    -- A cover's point against the gates of its subtree, and that of a match's inputs taken together.
     record Within (g : ℕ) (p : Point) : Type 0 where
       area : p .area ≤ g * a
-      arrival : p .arrival ≤ g * slowest + t
+      arrival : p .arrival ≤ g * slowest + latest
 
     record InputsWithin (g : ℕ) (p : Point) : Type 0 where
       area : p .area ≤ g * a
-      arrival : p .arrival ≤ g * slowest + slowest + t
+      arrival : p .arrival ≤ g * slowest + slowest + latest
 
     within-topped : {c : ℕ} {g h : ℕ} {p : Point} → c ≤ a → g < h → InputsWithin g p → Within h (raised c p)
     unfolding raised
@@ -74,27 +78,27 @@ module _ {l : Library} {a i d b : ℕ} (lim : Limited l a i d b) where
     within-more {g} {h} {r} k le w v = record { area = omega (arith, w .area, v .area, mul-le-mul-right a le); arrival = omega (arith, w .arrival, v .arrival, mul-le-mul-right slowest le) }
 
     abbrev EachLeaf : Shape → Type 0
-    EachLeaf s = (x : ℕ) → List·Memᴰ x (leaves s) → x ≤ t
+    EachLeaf s = (x : Leaf) → List·Memᴰ x (leaves s) → (arrivalOf x ≤ t) × (x .drive ≤ d)
 
     mutual
       unfolding gates leaves leafCover leafPoint leafArrival nothing together delayed topped
 
       cover-within : {load n : ℕ} {s : Shape} {c : Cover} → IsCover l load n s c → load ≤ b → EachLeaf s → Within (gates s) (c .point)
-      cover-within (bare {x = x} e) h k = rw e record { area = omega arith; arrival = omega (arith, k x (List·Memᴰ·head refl)) }
+      cover-within (bare {x = x} e) h k = rw e record { area = omega arith; arrival = let y = k x (List·Memᴰ·head refl) in omega (arith, y .0, mul-le-mul (y .1) h) }
       cover-within (matching {n = n} {s = s} m f g e) h k = let u = match-inside f in rw e (within-topped (lim .areas (m .pattern .cell) (match-cell f)) (u .fewer) (inputs-within g h (match-cell f) (u .spread) (λ j q x y. k x (leaves-within n s (input-in f j q) y))))
 
       inputs-within : {cell : Cell} {load : ℕ} {is : List Input} {c : Cover} → AreCovers l cell load is c → load ≤ b → List·Memᴰ cell (l .cells) → {low high g : ℕ} → Spread low high g is → ((j : Input) → List·Memᴰ j is → EachLeaf (j .shape)) → InputsWithin g (c .point)
       inputs-within (done e) h m s k = rw e record { area = omega arith; arrival = omega arith }
       inputs-within (more {cell = cell} {i = j} f r e) h m (next u v w) k = rw e (within-more (delay-limit m h j) v (cover-within f (load-limit (feeds cell j)) (k j (List·Memᴰ·head refl))) (inputs-within r h m w (λ x y. k x (List·Memᴰ·tail y))))
 
--- For areas and intrinsic delays of 16 bits, drives and loads of 8, leaves that arrive by 1,000,000, and 64 nodes.
-module _ {l : Library} (lim : Limited l 65_535 65_535 255 255) {load n : ℕ} {s : Shape} {c : Cover} (legal : IsCover l load n s c) (light : load ≤ 255) (few : size s ≤ 64) (timely : (x : ℕ) → List·Memᴰ x (leaves s) → x ≤ 1_000_000) where
+-- For areas and intrinsic delays of 16 bits, drives and loads of 8, leaves with arrivals up to 1,000,000, and 64 nodes.
+module _ {l : Library} (lim : Limited l 65_535 65_535 255 255) {load n : ℕ} {s : Shape} {c : Cover} (legal : IsCover l load n s c) (light : load ≤ 255) (few : size s ≤ 64) (timely : (x : Leaf) → List·Memᴰ x (leaves s) → (arrivalOf x ≤ 1_000_000) × (x .drive ≤ 255)) where
   pub area-bound : c .point .area ≤ 4_128_705
   area-bound = omega (arith, cover-within lim 1_000_000 legal light timely .area, gates-lt-size s)
 
-  pub arrival-bound : c .point .arrival ≤ 9_225_280
+  pub arrival-bound : c .point .arrival ≤ 9_290_305
   arrival-bound = omega (arith, cover-within lim 1_000_000 legal light timely .arrival, gates-lt-size s)
 
--- So every cover of every node arrives before 9,225,281, and a search for a curve may begin there or later.
-pub arrive-before : {l : Library} → Limited l 65_535 65_535 255 255 → (root : Shape) → size root ≤ 64 → ((x : ℕ) → List·Memᴰ x (leaves root) → x ≤ 1_000_000) → {x : Node} → List·Memᴰ x (nodes 0 root) → {load : ℕ} → load ≤ 255 → (c : Cover) → List·Memᴰ c (covers l load (x .number) (x .shape)) → c .point .arrival < 9_225_281
+-- So every cover of every node arrives before 9,290,306, and a search for a curve may begin there or later.
+pub arrive-before : {l : Library} → Limited l 65_535 65_535 255 255 → (root : Shape) → size root ≤ 64 → ((x : Leaf) → List·Memᴰ x (leaves root) → (arrivalOf x ≤ 1_000_000) × (x .drive ≤ 255)) → {x : Node} → List·Memᴰ x (nodes 0 root) → {load : ℕ} → load ≤ 255 → (c : Cover) → List·Memᴰ c (covers l load (x .number) (x .shape)) → c .point .arrival < 9_290_306
 arrive-before {l} lim root few timely {x} m {load} light c k = omega (arith, arrival-bound lim (covers-are l load (x .number) (x .shape) k) light (omega (arith, node-ends 0 root m)) (λ a j. timely a (leaves-within 0 root m j)))

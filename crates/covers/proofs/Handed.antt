@@ -9,7 +9,7 @@ use native.Mathlib.Nat.{le-refl}
 use native.Mathlib.Omega.{arith}
 use lib.Dec.{leb}
 use borrow.Author.Tests.{le-leb, lt-leb}
-use Rattle.sheets.specs.Model.{Shape, leaf, inv, nand, size, Pin, Cell, Library}
+use Rattle.sheets.specs.Model.{Leaf, Shape, leaf, inv, nand, size, Pin, Cell, Library}
 use Rattle.covers.specs.Match.{Input, Match, matches, pinLoad}
 use Rattle.covers.specs.Cover.{Point, Cover, IsCover, bare, matching, AreCovers, done, more, leafArrival, leafCover, nothing, late, raised, together, delayed, topped, feeds, inputDelay}
 use Rattle.covers.specs.Enumeration.{inputCovers, matchCovers, gateCovers, under, coversStep, covers, allBelow}
@@ -135,7 +135,7 @@ module _ (l : Library) where
         go (absent a) = refl
         go (found {p = p} f) = at-match f (first-of (λ m. reaches p (matchCovers (allBelow l) load n m)) (matches l load n s))
 
-  leaf-point : (load n x time : ℕ) → costOf (choice l load n (leaf x) time) ≡ least (suc time) (covers l load n (leaf x))
+  leaf-point : (load n : ℕ) (x : Leaf) (time : ℕ) → costOf (choice l load n (leaf x) time) ≡ least (suc time) (covers l load n (leaf x))
   unfolding choiceStep coversStep least lesser
   leaf-point load n x time = ap (λ f. costOf (f time)) (choice-unroll l load n (leaf x)) ∙ go (lt-or-le a (suc time)) ∙ ap (least (suc time)) (sym (covers-unroll l load n (leaf x)))
     where
@@ -186,7 +186,7 @@ module _ (l : Library) where
   choice-legal : (load n : ℕ) (s : Shape) (time : ℕ) {c : Cover} → choice l load n s time ≡ some c → IsCover l load n s c
   choice-legal load n s time {c} e = by-size Legal step s load n time c e
     where
-      leaf-legal : (x : ℕ) → Legal (leaf x)
+      leaf-legal : (x : Leaf) → Legal (leaf x)
       leaf-legal x load n time c e = unfold choiceStep in go (leb (leafArrival x load) time) (ap (λ f. f time) (sym (choice-unroll l load n (leaf x))) ∙ e)
         where
           go : (b : Bool) → cond b (some (leafCover x load)) none ≡ some c → IsCover l load n (leaf x) c

@@ -9,7 +9,7 @@ use native.Mathlib.Nat.{zero-add, le-refl, le-add-left, le-add-right}
 use native.Mathlib.Omega.{arith}
 use lib.ListN.{getElem?, length}
 use lib.Dec.{leb, ltb, eqb}
-use Rattle.sheets.specs.Model.{Shape, leaf, inv, nand, size, nands, Library, Pattern, patterns}
+use Rattle.sheets.specs.Model.{pinOf, Shape, leaf, inv, nand, size, nands, Library, Pattern, patterns}
 use Rattle.covers.specs.Crossing.{crossingLimit, redrawn, isCrossing, counted, crossings}
 use Rattle.covers.specs.Match.{Input, joined, laid, matched, usable, legal, Match, IsMatch, putFirst, fittingUnder, fittingFrom, fitting, matches}
 use Rattle.covers.specs.Curve.{gates}
@@ -225,7 +225,7 @@ implied f (holds {is} h) = holds (f is h)
 
 laid-spread : (p : Shape) (n : ℕ) (s : Shape) → Whenever (Spread n (n + size s) (gates s)) (laid p n s)
 unfolding laid gates size
-laid-spread (leaf x) n s = holds (next {g = 0} {h = gates s} {i = record { pin = x; node = n; shape = s }} (le-refl n) (omega arith) (last (le-refl (n + size s))))
+laid-spread (leaf x) n s = holds (next {g = 0} {h = gates s} {i = record { pin = pinOf x; node = n; shape = s }} (le-refl n) (omega arith) (last (le-refl (n + size s))))
 laid-spread (inv p) n (leaf x) = never
 laid-spread (inv p) n (inv s) = implied (λ is. widened {low = suc n} {low′ = n} {high = suc n + size s} {high′ = n + suc (size s)} {g = gates s} {g′ = suc (gates s)} (omega arith) (omega arith) (omega arith)) (laid-spread p (suc n) s)
 laid-spread (inv p) n (nand s t) = never

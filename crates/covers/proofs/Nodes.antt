@@ -6,7 +6,7 @@ use mathlib.Core.List.{List, _++_, List·Memᴰ, List·Memᴰ·head, List·Mem�
 use mathlib.Core.Option.{Option, some, Option·none-ne-some}
 use native.Mathlib.Nat.{le-refl}
 use native.Mathlib.Omega.{arith}
-use Rattle.sheets.specs.Model.{Shape, leaf, inv, nand, size, leaves, Library}
+use Rattle.sheets.specs.Model.{Leaf, pinOf, Shape, leaf, inv, nand, size, leaves, Library}
 use Rattle.covers.specs.Crossing.{redrawn}
 use Rattle.covers.specs.Match.{Input, joined, laid, matched, Match, IsMatch}
 use Rattle.covers.specs.Tradeoff.{Node, nodes}
@@ -34,7 +34,7 @@ joined-in {xs} {ys} (holds {is} h) (holds {is = js} k) = holds (λ i m. ⊎-elim
 
 laid-in : (p : Shape) (n : ℕ) (s : Shape) → Whenever (AllIn (nodes n s)) (laid p n s)
 unfolding laid nodes
-laid-in (leaf x) n s = holds (λ i m. let e : i ≡ record { pin = x; node = n; shape = s } = List·Memᴰ·eq-of-singleton m in rw e (root-in n s))
+laid-in (leaf x) n s = holds (λ i m. let e : i ≡ record { pin = pinOf x; node = n; shape = s } = List·Memᴰ·eq-of-singleton m in rw e (root-in n s))
 laid-in (inv p) n (leaf x) = never
 laid-in (inv p) n (inv s) = implied (λ is h i m. List·Memᴰ·tail (h i m)) (laid-in p (suc n) s)
 laid-in (inv p) n (nand s t) = never
@@ -63,7 +63,7 @@ nodes-within n (nand s t) (List·Memᴰ·head e) k = rw e at k
 nodes-within n (nand s t) (List·Memᴰ·tail m) k = List·Memᴰ·tail (⊎-elim (λ j. Memᴰ·append-left (nodes (suc n + size s) t) (nodes-within (suc n) s j k)) (λ j. Memᴰ·append-right (nodes (suc n) s) (nodes-within (suc n + size s) t j k)) (List·Memᴰ·append-cases (nodes (suc n) s) m))
 
 -- The leaves of a node's subtree are leaves of the tree.
-pub leaves-within : {x : Node} (n : ℕ) (s : Shape) → List·Memᴰ x (nodes n s) → {a : ℕ} → List·Memᴰ a (leaves (x .shape)) → List·Memᴰ a (leaves s)
+pub leaves-within : {x : Node} (n : ℕ) (s : Shape) → List·Memᴰ x (nodes n s) → {a : Leaf} → List·Memᴰ a (leaves (x .shape)) → List·Memᴰ a (leaves s)
 unfolding nodes leaves
 leaves-within n (leaf z) (List·Memᴰ·head e) k = rw e at k
 leaves-within n (leaf z) (List·Memᴰ·tail m) k = absurd (List·Memᴰ·not-nil m)

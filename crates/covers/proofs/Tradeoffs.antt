@@ -9,7 +9,7 @@ use native.Mathlib.Omega.{arith}
 use lib.Dec.{leb, ltb}
 use lib.ListN.{length}
 use borrow.Author.Tests.{le-leb, not-true, not-false}
-use Rattle.sheets.specs.Model.{Shape, leaf, Library}
+use Rattle.sheets.specs.Model.{Leaf, Shape, leaf, Library}
 use Rattle.covers.specs.Lists.{keepIf, select}
 use Rattle.covers.specs.Cover.{Point, Cover, IsCover, leafPoint}
 use Rattle.covers.specs.Enumeration.{coversStep, covers}
@@ -142,7 +142,7 @@ one-point : (p : Point) → tradeoffsOf (p ∷ []) ≡ p ∷ []
 unfolding tradeoffsOf
 one-point p = ap (λ b. foldr insert [] (keepIf b p [])) (beaten-not (p ∷ []) p (λ q m a t. List·Memᴰ·eq-of-singleton m))
 
-pub leaf-tradeoffs : (l : Library) (load n x : ℕ) → tradeoffs l load n (leaf x) ≡ leafPoint x load ∷ []
+pub leaf-tradeoffs : (l : Library) (load n : ℕ) (x : Leaf) → tradeoffs l load n (leaf x) ≡ leafPoint x load ∷ []
 unfolding tradeoffs coversStep points
 leaf-tradeoffs l load n x = ap (λ cs. tradeoffsOf (points cs)) (covers-unroll l load n (leaf x)) ∙ one-point (leafPoint x load)
 

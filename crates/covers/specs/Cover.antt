@@ -1,8 +1,8 @@
 -- Covers, their area and arrival, and the relation "is a legal cover" of a node under a load.
-use Prim.Native.Nat.{ℕ, _+_, max}
+use Prim.Native.Nat.{ℕ, _+_, _*_, max}
 use mathlib.Core.Path.{_≡_}
 use mathlib.Core.List.{List, [], _∷_, _++_}
-use Rattle.sheets.specs.Model.{Shape, leaf, Pin, Cell, Library}
+use Rattle.sheets.specs.Model.{Leaf, arrivalOf, Shape, leaf, Pin, Cell, Library}
 use Rattle.covers.specs.Match.{Input, Match, IsMatch, pinAt, pinLoad, delay}
 
 -- What a cover costs: its area, and the arrival at its root.
@@ -21,9 +21,9 @@ pub record Cover : Type 0 where
   pub point : Point
   pub placed : List Placed
 
--- When a leaf with a stated arrival arrives under a load: always then.
-unfoldable pub leafArrival : ℕ → ℕ → ℕ
-leafArrival x load = x
+-- When a leaf arrives: at its stated arrival, later by its drive for each unit of the load that it drives.
+unfoldable pub leafArrival : Leaf → ℕ → ℕ
+leafArrival x load = arrivalOf x + x .drive * load
 
 -- Side by side: areas add up, and the later arrival counts.
 unfoldable pub beside : Point → Point → Point
@@ -38,12 +38,12 @@ unfoldable pub raised : ℕ → Point → Point
 raised a p = record { area = a + p .area; arrival = p .arrival }
 
 -- The point of a leaf.
-unfoldable pub leafPoint : ℕ → ℕ → Point
+unfoldable pub leafPoint : Leaf → ℕ → Point
 unfolding leafArrival
 leafPoint x load = record { area = 0; arrival = leafArrival x load }
 
 -- The cover of a leaf: no match at all.
-unfoldable pub leafCover : ℕ → ℕ → Cover
+unfoldable pub leafCover : Leaf → ℕ → Cover
 unfolding leafPoint
 leafCover x load = record { point = leafPoint x load; placed = [] }
 
@@ -79,7 +79,7 @@ inputDelay c load i = delay (feeds c i) load
 mutual
   -- A legal cover of the node n, over the subtree s, under a load.
   pub data IsCover (l : Library) : ℕ → ℕ → Shape → Cover → Type 0 where
-    bare : {load n x : ℕ} {c : Cover} →
+    bare : {load n : ℕ} {x : Leaf} {c : Cover} →
         c ≡ leafCover x load →
         IsCover l load n (leaf x) c
     matching : {load n : ℕ} {s : Shape} {c d : Cover} (m : Match) →

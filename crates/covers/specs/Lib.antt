@@ -14,4 +14,5 @@ pub mod Promise
 pub mod Demands
 pub mod Specimens
 pub mod Exchanges
+pub mod Drivers
 pub mod Curve

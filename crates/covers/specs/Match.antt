@@ -6,7 +6,7 @@ use mathlib.Core.List.{List, [], _∷_, _++_}
 use mathlib.Core.Option.{Option, none, some}
 use lib.ListN.{getD, getElem?}
 use lib.Dec.{leb}
-use Rattle.sheets.specs.Model.{Shape, leaf, inv, nand, size, Pin, binLoadOf, Cell, Library, Pattern, patterns, patternsFrom, drawn}
+use Rattle.sheets.specs.Model.{pinOf, Shape, leaf, inv, nand, size, Pin, binLoadOf, Cell, Library, Pattern, patterns, patternsFrom, drawn}
 use Rattle.covers.specs.Lists.{select}
 use Rattle.covers.specs.Crossing.{redrawn, isCrossing, crossings}
 
@@ -25,7 +25,7 @@ joined (some is) (some js) = some (is ++ js)
 -- The inputs, in drawn order, of a drawing laid over the subtree at node n; none if the shapes differ. A drawing's leaf stands on any node.
 unfoldable pub laid : Shape → ℕ → Shape → Option (List Input)
 unfolding joined size
-laid (leaf x) n s = some (record { pin = x; node = n; shape = s } ∷ [])
+laid (leaf x) n s = some (record { pin = pinOf x; node = n; shape = s } ∷ [])
 laid (inv p) n (leaf x) = none
 laid (inv p) n (inv s) = laid p (suc n) s
 laid (inv p) n (nand s t) = none

@@ -2,8 +2,8 @@
 use Prim.Native.Nat.{ℕ}
 use mathlib.Core.Path.{_≡_}
 use mathlib.Core.Bool.{false}
-use mathlib.Core.List.{List, [], _∷_, map}
-use Rattle.sheets.specs.Model.{Shape, leaf, inv, nand, Pin, Cell, Library, Tree}
+use mathlib.Core.List.{List, [], _∷_, _++_, map}
+use Rattle.sheets.specs.Model.{plainLeaf, Shape, inv, nand, Pin, Cell, Library, Tree}
 use Rattle.fields.specs.Answer.{Answer, refused, success}
 use Rattle.covers.specs.Capacity.{capacity}
 use Rattle.covers.specs.Cover.{Placed, Cover}
@@ -20,10 +20,10 @@ cell a h ps s = record { held = false; area = a; highest = h; pins = ps; drawing
 -- Cell number is pattern number.
 abbrev cells : List Cell
 cells =
-    cell 1 4 (pin 0 4 2 ∷ []) (inv (leaf 0))  -- inverter
-    ∷ cell 2 8 (pin 1 4 1 ∷ []) (inv (leaf 0))  -- fast inverter
-    ∷ cell 2 4 (pin 0 6 2 ∷ pin 0 6 2 ∷ []) (nand (leaf 0) (leaf 1))  -- NAND
-    ∷ cell 3 4 (pin 0 8 2 ∷ pin 0 8 2 ∷ []) (inv (nand (leaf 0) (leaf 1)))  -- AND
+    cell 1 4 (pin 0 4 2 ∷ []) (inv (plainLeaf 0))  -- inverter
+    ∷ cell 2 8 (pin 1 4 1 ∷ []) (inv (plainLeaf 0))  -- fast inverter
+    ∷ cell 2 4 (pin 0 6 2 ∷ pin 0 6 2 ∷ []) (nand (plainLeaf 0) (plainLeaf 1))  -- NAND
+    ∷ cell 3 4 (pin 0 8 2 ∷ pin 0 8 2 ∷ []) (inv (nand (plainLeaf 0) (plainLeaf 1)))  -- AND
     ∷ []
 
 -- The library, with bins 1 and 2.
@@ -57,17 +57,17 @@ case s load time r = record { tree = tree s load time; result = r }
 
 -- The trees of the table; leaf arrivals are 0 unless given.
 abbrev pub INV : Shape
-INV = inv (leaf 0)
+INV = inv (plainLeaf 0)
 
 abbrev INV-INV : Shape
 INV-INV = inv INV
 
 abbrev INV-NAND : Shape
-INV-NAND = inv (nand (leaf 0) (leaf 0))
+INV-NAND = inv (nand (plainLeaf 0) (plainLeaf 0))
 
 -- The cases, with any root load in l.
-abbrev pub cases : ℕ → List Case
-cases any =
+abbrev pub gateCases : List Case
+gateCases =
     case INV 1 6 (cover (at 0 0 ∷ []) 1 6)  -- a
     ∷ case INV 1 5 (cover (at 0 1 ∷ []) 2 5)  -- b
     ∷ case INV 1 4 noCover  -- c
@@ -78,10 +78,17 @@ cases any =
     ∷ case INV-NAND 8 22 (cover (at 0 1 ∷ at 1 2 ∷ []) 4 22)  -- h
     ∷ case INV-INV 1 12 (cover (at 0 0 ∷ at 1 0 ∷ []) 2 12)  -- i
     ∷ case INV-INV 1 11 (cover (at 0 0 ∷ at 1 1 ∷ []) 3 11)  -- j
-    ∷ case (nand (leaf 3) (leaf 0)) 1 11 (cover (at 0 2 ∷ []) 2 11)  -- k
-    ∷ case (leaf 7) any 7 (cover [] 0 7)  -- l
-    ∷ case (leaf 7) any 6 noCover  -- l
+    ∷ case (nand (plainLeaf 3) (plainLeaf 0)) 1 11 (cover (at 0 2 ∷ []) 2 11)  -- k
     ∷ []
+
+abbrev pub leafCases : ℕ → List Case
+leafCases any =
+    case (plainLeaf 7) any 7 (cover [] 0 7)  -- l
+    ∷ case (plainLeaf 7) any 6 noCover  -- l
+    ∷ []
+
+abbrev pub cases : ℕ → List Case
+cases any = gateCases ++ leafCases any
 
 -- What is claimed: every case's result is what map hands over.
 abbrev pub Specimens : Type 0

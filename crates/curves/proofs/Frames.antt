@@ -19,8 +19,9 @@ use Rattle.covers.proofs.Basics.{lt-or-le}
 use Rattle.covers.specs.Curve.{base, both, byDeadline, chained, lookup, pointOf, wordOf}
 use Rattle.curves.specs.Words.{absent, pointLimit, matchLimit, stored, slot, curveAt, Small, AgreeFrom}
 use Rattle.curves.specs.Best.{rowOf, patternOf, rowArea, rowLegal, rowCount, inputNode, inputBin, inputLoad, rowDelay, inputBest, inputLate, inputsBest, rowBest, legalBest, rowsBest, Above}
-use Rattle.curves.specs.Promises.{Worth, matchBefore, Rising, AllRising, bestBefore, nodePoints, PointsFit, Kept, Least, CurveStored, Fit}
+use Rattle.curves.specs.Promises.{Worth, matchBefore, AllRising, bestBefore, nodePoints, PointsFit, Kept, Least, CurveStored, Fit}
 use Rattle.curves.proofs.Laws.{word-point, point-word, apart, part-word}
+use Rattle.overlay.specs.Held.{leafOf}
 
 -- ---- the other curves
 
@@ -50,7 +51,7 @@ module _ (most : ℕ) (symbols work work′ : List ℕ) (m : ℕ) (a : AgreeFrom
   input-same : (node bin load end : ℕ) → m ≤ 4 * node → inputBest most symbols work node bin load end ≡ inputBest most symbols work′ node bin load end
   unfolding inputBest
   input-same node bin load end h =
-      ap (λ (ws : List ℕ). cond (leb 2 (getD symbols node 0)) (before end (leafPoint (getD symbols node 0 - 2) load)) (lookup end (stored ws))) (a (4 * node + bin) (omega arith))
+      ap (λ (ws : List ℕ). cond (leb 2 (getD symbols node 0)) (before end (leafPoint (leafOf (getD symbols node 0)) load)) (lookup end (stored ws))) (a (4 * node + bin) (omega arith))
 
   inputs-same : (pattern row : List ℕ) (load end n k : ℕ) → ((i : ℕ) → i < k + n → m ≤ 4 * inputNode pattern row i) →
       inputsBest most symbols work pattern row load end k n ≡ inputsBest most symbols work′ pattern row load end k n

@@ -20,6 +20,7 @@ use Rattle.curves.specs.Best.{rowOf, patternOf, rowArea, rowLegal, rowCo
 use Rattle.curves.specs.Promises.{Worth, matchBefore, Rising, Kept}
 use Rattle.curves.proofs.Laws.{word-point, point-word, word-arrival, worth-point, worth-none}
 use Rattle.curves.proofs.Frames.{set-each}
+use Rattle.overlay.specs.Held.{leafOf}
 
 -- From a least point to that before an earlier instant: it is the same if it is still in time, and none stays none.
 data Stays (end : ℕ) : Option Point → Option Point → Type 0 where
@@ -53,7 +54,7 @@ module _ {end : ℕ} where
 module _ (most : ℕ) (symbols work : List ℕ) where
   input-stays : {end end′ : ℕ} → end′ ≤ end → (node bin load : ℕ) → Stays end′ (inputBest most symbols work node bin load end) (inputBest most symbols work node bin load end′)
   unfolding inputBest before lookup
-  input-stays h node bin load = cond-stays (leb 2 (getD symbols node 0)) (lookup-stays h (leafPoint (getD symbols node 0 - 2) load ∷ [])) (lookup-stays h (tableOf most work node bin))
+  input-stays h node bin load = cond-stays (leb 2 (getD symbols node 0)) (lookup-stays h (leafPoint (leafOf (getD symbols node 0)) load ∷ [])) (lookup-stays h (tableOf most work node bin))
 
   module _ (pattern row : List ℕ) (load : ℕ) {end end′ : ℕ} (h : end′ ≤ end) where
     inputs-stay : (n k : ℕ) → Stays end′ (inputsBest most symbols work pattern row load end k n) (inputsBest most symbols work pattern row load end′ k n)

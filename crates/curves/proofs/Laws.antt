@@ -22,6 +22,7 @@ use Rattle.sheets.specs.Layout.{heldAt, highestAt}
 use Rattle.matching.specs.Found.{matchBytes}
 use Rattle.curves.specs.Best.{rowOf, patternOf, rowArea, rowCount, rowLegal, inputNode, inputBin, inputLoad, inputIntrinsic, inputDrive, rowDelay, inputBest, inputLate, inputsBest, rowBest, legalBest, rowsBest, Sources, Tables, RowKnown, Matches}
 use Rattle.curves.specs.Promises.{Worth, matchBefore, Kept}
+use Rattle.overlay.specs.Held.{leafOf}
 
 -- ---- words
 
@@ -124,7 +125,7 @@ one-less n k h = omega arith
 -- ---- an input
 
 module _ (most : ℕ) (symbols work : List ℕ) (node bin load end : ℕ) where
-  pub leaf-timely : (x : ℕ) → 2 ≤ getD symbols node 0 → x ≡ leafArrival (getD symbols node 0 - 2) load → x < base → x < end →
+  pub leaf-timely : (x : ℕ) → 2 ≤ getD symbols node 0 → x ≡ leafArrival (leafOf (getD symbols node 0)) load → x < base → x < end →
       Worth pointLimit end x (inputBest most symbols work node bin load end)
   unfolding inputBest before pointOf leafPoint
   leaf-timely x h e l t =
@@ -133,7 +134,7 @@ module _ (most : ℕ) (symbols work : List ℕ) (node bin load end : ℕ) where
       worth-point pointLimit end x _ (omega arith) (omega arith) (omega arith)
       (rw (le-leb 2 (getD symbols node 0) h, ← e, lt-ltb x end t) (ap {B = Option Point} some (sym (point-path high low))))
 
-  pub leaf-late : (x : ℕ) → 2 ≤ getD symbols node 0 → x ≡ leafArrival (getD symbols node 0 - 2) load → end ≤ x → inputBest most symbols work node bin load end ≡ none
+  pub leaf-late : (x : ℕ) → 2 ≤ getD symbols node 0 → x ≡ leafArrival (leafOf (getD symbols node 0)) load → end ≤ x → inputBest most symbols work node bin load end ≡ none
   unfolding inputBest before leafPoint
   leaf-late x h e t = rw (le-leb 2 (getD symbols node 0) h, ← e, le-ltb x end t)
 

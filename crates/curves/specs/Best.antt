@@ -11,7 +11,7 @@ use Rattle.covers.specs.Cover.{late, raised, leafPoint, Point}
 use Rattle.covers.specs.Choice.{lesser, before}
 use Rattle.covers.specs.Curve.{both, lookup}
 use Rattle.sheets.specs.Layout.{heldAt, areaAt, highestAt}
-use Rattle.overlay.specs.Held.{symbolLimit}
+use Rattle.overlay.specs.Held.{leafOf, symbolLimit}
 use Rattle.matching.specs.Found.{matchBytes, inputPlace}
 use Rattle.curves.specs.Words.{tableOf, WorkArea}
 
@@ -69,7 +69,7 @@ module _ (most : ℕ) (symbols work : List ℕ) where
   -- A leaf arrives under the load of the input's pin; a gate has a curve.
   unfoldable pub inputBest : ℕ → ℕ → ℕ → ℕ → Option Point
   inputBest node bin load end =
-      cond (leb 2 (getD symbols node 0)) (before end (leafPoint (getD symbols node 0 - 2) load)) (lookup end (tableOf most work node bin))
+      cond (leb 2 (getD symbols node 0)) (before end (leafPoint (leafOf (getD symbols node 0)) load)) (lookup end (tableOf most work node bin))
 
   module _ (pattern row : List ℕ) (load end : ℕ) where
     -- Input k of a match, as the match sees it.

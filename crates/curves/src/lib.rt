@@ -175,13 +175,14 @@ fn input_word(
         pattern[figures + PatternRow::DRIVE],
         load,
     );
+    let own = pattern[figures + PatternRow::LOAD];
     let w = input_best(
         symbols,
         work,
         most,
         row[place + Row::NODE] as usize,
         pattern[figures] as usize,
-        pattern[figures + PatternRow::LOAD],
+        own,
         less(end, d),
     );
     if w == Words::ABSENT {

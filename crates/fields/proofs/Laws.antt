@@ -80,7 +80,7 @@ module _ (s : List ℕ) (w : ℕ) (verdict : ℕ → Verdict) where
       go f ends = omega arith
       go f (reads l) = settled-small (placeOf c) w most (valueAt s (placeOf c) w) (verdict (valueAt s (placeOf c) w)) (At (cursorAt (placeOf c + w))) (h (valueAt s (placeOf c) w) l)
 
-  field-near : (scan : Scan) → place (field s w verdict scan .1) ≤ place scan + w
+  pub field-near : (scan : Scan) → place (field s w verdict scan .1) ≤ place scan + w
   field-near (Refused f p) = omega arith
   field-near (At c) = go (fieldAt s (placeOf c) w) (read s (placeOf c) w)
     where

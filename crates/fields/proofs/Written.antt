@@ -16,7 +16,9 @@ use Rattle.bits.specs.declared.FieldRead.the-variants.{Value}
 use Rattle.fields.specs.declared.Scan.{Scan}
 use Rattle.fields.specs.declared.Scan.the-variants.{At, Refused}
 use Rattle.fields.specs.declared.Fault.the-variants.{Tail}
-use Rattle.fields.specs.Reading.{Reader, done, _>>=_, times, start, free, taken, field, ended}
+use Rattle.fields.specs.declared.Verdict.{Verdict}
+use Rattle.fields.specs.declared.Verdict.the-variants.{Sound}
+use Rattle.fields.specs.Reading.{Reader, done, _>>=_, times, start, free, settled, taken, field, ended}
 use Rattle.fields.specs.Written.{Field, widths, written, packed}
 use Rattle.bits.proofs.Words.{zeros-at}
 use Rattle.fields.proofs.Laws.{times-more}
@@ -100,18 +102,23 @@ stands-next fs {gs} h = record {
 pub record Says (all : List Field) {A : Type 0} (r : Reader A) (fs rest : List Field) (a : A) : Type 0 where
   pub reads : (i : ℕ) → Stands all i (fs ++ rest) → r (At (cursorAt i)) ≡ (a, At (cursorAt (i + widths fs)))
 
--- A field, with a value that fits.
-pub says-field : {all rest : List Field} {v : ℕ} (w : ℕ) → v < 2 ^ w → Says all (field (packed all) w free) (record { value = v; width = w } ∷ []) rest v
+-- A field, with a value that fits and that the verdict lets pass.
+pub says-sound : {all rest : List Field} {v : ℕ} (w : ℕ) (verdict : ℕ → Verdict) → v < 2 ^ w → verdict v ≡ Sound →
+    Says all (field (packed all) w verdict) (record { value = v; width = w } ∷ []) rest v
 unfolding fieldAt widths
-says-field {all} {rest} {v} w fits = record {
+says-sound {all} {rest} {v} w verdict fits sound = record {
   reads = λ i h.
       let f : Field = record { value = v; width = w } in
       let long : widths all ≡ widths (h .before) + (w + widths rest) = ap widths (h .whole) ∙ widths-append (h .before) (f ∷ rest) in
       let room : i + w ≤ 8 * length (packed all) = omega (arith, length-packed all, h .place-is) in
       let value : valueAt (packed all) i w ≡ v = rw (h .whole, h .place-is) (packed-reads (h .before) f rest ∙ mod-eq-of-lt fits) in
       let found : fieldAt (packed all) i w ≡ Value v (cursorAt (i + w)) = rw (le-leb (i + w) (8 * length (packed all)) room) (ap (λ (x : ℕ). Value x (cursorAt (i + w))) value) in
-      ap (λ (p : ℕ). taken p free (fieldAt (packed all) p w)) (place-at i) ∙ ap (taken i free) found ∙ ap (λ (j : ℕ). (v, At (cursorAt (i + j)))) (sym (add-zero w));
+      ap (λ (p : ℕ). taken p verdict (fieldAt (packed all) p w)) (place-at i) ∙ ap (taken i verdict) found ∙ ap (λ (d : Verdict). settled i d v (At (cursorAt (i + w)))) sound
+      ∙ ap (λ (j : ℕ). (v, At (cursorAt (i + j)))) (sym (add-zero w));
 }
+
+pub says-field : {all rest : List Field} {v : ℕ} (w : ℕ) → v < 2 ^ w → Says all (field (packed all) w free) (record { value = v; width = w } ∷ []) rest v
+says-field w fits = says-sound w free fits refl
 
 -- A value made of what was read before.
 pub says-done : {all rest : List Field} {A : Type 0} (a : A) → Says all (done a) [] rest a

@@ -4,18 +4,17 @@ use mathlib.Core.Logic.{_⊎_, inl, inr, ⊎-elim}
 use mathlib.Core.Bool.{Bool, true, false, cond}
 use mathlib.Core.List.{List, [], map, List·Memᴰ}
 use mathlib.Core.Option.{Option, none, some, Option·none-ne-some}
-use Prim.Native.Nat.{ℕ, suc, _+_, _-_, _*_, _≤_, _<_}
+use Prim.Native.Nat.{ℕ, suc, _+_, _*_, _≤_, _<_}
 use native.Mathlib.Omega.{arith}
 use lib.ListN.{length, getD, take, drop}
-use Rattle.sheets.specs.Model.{Shape, leaf, inv, nand, size, leaves, Pin, Cell, Library, Tree, patterns}
+use Rattle.sheets.specs.Model.{plainLeaf, Shape, leaf, inv, nand, size, leaves, Pin, Cell, Library, Tree, patterns}
 use Rattle.sheets.specs.Layout.{tableFrom, rowWords, figuresAt, pinWords}
 use Rattle.sheets.specs.Sound.{SoundCell, SoundLibrary}
 use Rattle.covers.specs.Crossing.{redrawn}
 use Rattle.covers.specs.Match.{Input, Match, legal, fitting, matches, pinAt, pinLoad}
-use Rattle.covers.specs.Cover.{Point, Cover, feeds, raised, topped, IsCover, bare, matching}
+use Rattle.covers.specs.Cover.{Point, Cover, raised, topped, IsCover, bare, matching}
 use Rattle.covers.specs.Enumeration.{matchCovers, gateCovers, covers, allBelow}
 use Rattle.covers.specs.Choice.{least}
-use Rattle.covers.specs.Tradeoff.{Node}
 use Rattle.covers.specs.Curve.{Filled, base, byDeadline, curve, gates, wordOf}
 use Rattle.covers.proofs.Basics.{at-below, at-value, at-all, in-select, in-flatMap}
 use Rattle.covers.proofs.Least.{In, IsLeast, least-is, least-some, least-rises}
@@ -32,7 +31,7 @@ use Rattle.fields.proofs.Lists.{at-mem}
 use Rattle.overlay.specs.Standing.{Stands, Subject}
 use Rattle.overlay.specs.Held.{PinHeld, CellHeld}
 use Rattle.overlay.proofs.Patterns.{noInput, noPattern, patternAt, rows-long, row-held}
-use Rattle.overlay.proofs.Standing.{stands-everywhere, subject-everywhere}
+use Rattle.overlay.proofs.Standing.{opens-everywhere, subject-everywhere}
 use Rattle.matching.specs.Found.{matchMost, matchBytes, inputPlace, matchRow}
 use Rattle.matching.specs.Promises.{Ready}
 use Rattle.matching.proofs.Written.{length-row, row-pin, row-node}
@@ -43,12 +42,12 @@ use Rattle.curves.specs.Best.{rowOf, patternOf, rowCount, InputSafe, RowKnown, 
 use Rattle.curves.specs.Promises.{matchBefore, Rising, bestBefore, nodePoints, PointsFit, Fit}
 use Rattle.curves.proofs.Laws.{part-word, point-order}
 use Rattle.overlay.proofs.Symbols.{symbols-small}
-use Rattle.filling.proofs.Rows.{Heads, Headed, Holds, Found, legal-row, rows-are-best}
+use Rattle.filling.proofs.Rows.{Headed, Holds, Found, legal-row, rows-are-best}
 
 -- ---- a node
 
 abbrev pub noMatch : Match
-noMatch = record { number = 0; crossing = 0; pattern = record { cellNumber = 0; cell = record { held = false; area = 0; highest = 0; pins = []; drawings = [] }; drawing = leaf 0 }; inputs = [] }
+noMatch = record { number = 0; crossing = 0; pattern = record { cellNumber = 0; cell = record { held = false; area = 0; highest = 0; pins = []; drawings = [] }; drawing = plainLeaf 0 }; inputs = [] }
 
 -- A gate's cover has some area.
 cover-area : {l : Library} {load n : ℕ} {s : Shape} {c : Cover} → SoundLibrary l → IsCover l load n s c → 0 < gates s → 1 ≤ c .point .area
@@ -88,16 +87,8 @@ module _ {l : Library} {t : Tree} {rows ss zs : List ℕ} {n room : ℕ} {s : Sh
   sound-match : {m : Match} → List·Memᴰ m (fitting l n s) → SoundMatch l n s m
   sound-match = fitting-sound l n s (g .decoded .library)
 
-  heads-of : (x : Node) → Stands ss zs (x .number) (x .shape) → Heads (getD ss (x .number) 0) (x .shape)
-  heads-of x = go (x .shape)
-    where
-      go : (q : Shape) → Stands ss zs (x .number) q → Heads (getD ss (x .number) 0) q
-      go (leaf y) h = h .0
-      go (inv a) h = h .0
-      go (nand a b) h = h .0
-
   pub headed : {m : Match} → List·Memᴰ m (fitting l n s) → Headed ss (m .inputs)
-  headed {m} k i j = heads-of (nodeOf i) (stands-everywhere (g .decoded) (nodeOf i) (nodes-within 0 (t .shape) (g .here) (fits-in (redrawn (m .crossing) (m .pattern .drawing)) n s (m .inputs) (fitting-are l n s k .fits) i j)))
+  headed {m} k i j = opens-everywhere (g .decoded) (nodeOf i) (nodes-within 0 (t .shape) (g .here) (fits-in (redrawn (m .crossing) (m .pattern .drawing)) n s (m .inputs) (fitting-are l n s k .fits) i j))
 
   -- Where an input stands.
   place-of : {m : Match} → List·Memᴰ m (fitting l n s) → (i : Input) → List·Memᴰ i (m .inputs) → (n < i .node) × (i .node < 64)

@@ -2,7 +2,7 @@
 use mathlib.Core.Path.{_≡_, refl, sym, ap, subst, _∙_}
 use mathlib.Core.Logic.{_⊎_, inl, inr, ⊎-elim}
 use mathlib.Core.Bool.{Bool, true, false, false≢true}
-use mathlib.Core.List.{List, [], _∷_, List·Memᴰ, List·Memᴰ·head, List·Memᴰ·tail, List·Memᴰ·not-nil, List·Memᴰ·eq-of-singleton, Memᴰ·append-left, Memᴰ·append-right}
+use mathlib.Core.List.{List, [], _∷_, List·Memᴰ, List·Memᴰ·head, List·Memᴰ·tail, List·Memᴰ·not-nil, List·Memᴰ·eq-of-singleton}
 use mathlib.Core.Option.{Option, none, some}
 use Prim.Native.Nat.{ℕ, zero, suc, min, _+_, _*_, _≤_, _<_}
 use native.Mathlib.Omega.{arith}
@@ -12,7 +12,7 @@ use lib.ListN.{length, getD, length-take, length-reverse}
 use borrow.Author.Tests.{lt-ltb, le-ltb}
 use Rattle.sheets.specs.declared.library.Bins.{Bins}
 use Rattle.sheets.specs.declared.tree.TreeRecord.{TreeRecord}
-use Rattle.sheets.specs.Model.{Shape, leaf, inv, nand, size, Library, Tree}
+use Rattle.sheets.specs.Model.{Leaf, Shape, leaf, inv, nand, size, Library, Tree}
 use Rattle.sheets.specs.Layout.{libraryLaid, treeLaid}
 use Rattle.covers.specs.Enumeration.{covers}
 use Rattle.covers.specs.Tradeoff.{Node, nodes, tradeoffs, tradeoffsOf, points, considered, overfull, overfullNode}
@@ -42,7 +42,7 @@ index-of (y ∷ l) (List·Memᴰ·head e) = (0, omega arith, sym e)
 index-of (y ∷ l) (List·Memᴰ·tail m) = let r = index-of l m in (suc (r .0), omega (arith, r .1), r .2)
 
 -- A leaf has one trade-off.
-leaf-few : (l : Library) (load n x : ℕ) → length (tradeoffs l load n (leaf x)) ≤ 1
+leaf-few : (l : Library) (load n : ℕ) (x : Leaf) → length (tradeoffs l load n (leaf x)) ≤ 1
 leaf-few l load n x = omega (arith, ap length (leaf-tradeoffs l load n x))
 
 -- ---- what a node's counts say

@@ -10,7 +10,7 @@ use lib.ListN.{length, getD, take}
 use lib.Dec.{leb, eqb}
 use lib.Seq.{take-suc, take-all}
 use borrow.Author.Tests.{le-leb, lt-leb}
-use Rattle.sheets.specs.Model.{Shape, leaf, inv, nand, Pin, Cell, Library}
+use Rattle.sheets.specs.Model.{Leaf, Shape, leaf, inv, nand, Pin, Cell, Library}
 use Rattle.covers.proofs.Basics.{select-append}
 use Rattle.covers.specs.Lists.{keepIf, select}
 use Rattle.sheets.specs.Layout.{pinWords, figuresAt}
@@ -21,21 +21,18 @@ use Rattle.covers.specs.Curve.{both, lookup}
 use Rattle.covers.proofs.Points.{lesser-assoc, lesser-none}
 use Rattle.covers.proofs.Deadline.{bestInputs, bestMatch, bestOf}
 use Rattle.covers.proofs.Filling.{fromCurve, fromTable}
-use Rattle.overlay.specs.Held.{PinHeld, CellHeld}
+use Rattle.overlay.specs.Held.{leafOf, PinHeld, CellHeld}
 use Rattle.overlay.proofs.Patterns.{noInput}
 use Rattle.matching.specs.Found.{inputPlace, matchRow}
 use Rattle.matching.proofs.Written.{length-row, row-pin, row-node}
 use Rattle.curves.specs.Words.{tableOf}
 use Rattle.curves.specs.Best.{rowOf, patternOf, rowLegal, inputNode, inputBin, inputLoad, inputIntrinsic, inputDrive, inputBest, inputLate, rowDelay, inputsBest, rowBest, legalBest, rowsBest}
+use Rattle.overlay.specs.Standing.{Opens}
+use Rattle.overlay.proofs.Symbols.{leaf-told}
 
 -- What stands at an input's node is the head of its shape.
-abbrev pub Heads : ℕ → Shape → Type 0
-Heads symbol (leaf x) = symbol ≡ 2 + x
-Heads symbol (inv s) = symbol ≡ 0
-Heads symbol (nand s t) = symbol ≡ 1
-
 abbrev pub Headed : List ℕ → List Input → Type 0
-Headed symbols is = (i : Input) → List·Memᴰ i is → Heads (getD symbols (i .node) 0) (i .shape)
+Headed symbols is = (i : Input) → List·Memᴰ i is → Opens (getD symbols (i .node) 0) (i .shape)
 
 -- A row holds a match.
 abbrev pub Holds : List ℕ → Match → Type 0
@@ -71,18 +68,17 @@ module _ (most : ℕ) (l : Library) (symbols work : List ℕ) where
   table = tableOf most work
 
   abbrev from : Input → Pin → ℕ → Bool → Option Point
-  from i p end b = cond b (before end (leafPoint (getD symbols (i .node) 0 - 2) (pinLoad l p))) (lookup end (table (i .node) (p .bin)))
+  from i p end b = cond b (before end (leafPoint (leafOf (getD symbols (i .node) 0)) (pinLoad l p))) (lookup end (table (i .node) (p .bin)))
 
-  input-is : (i : Input) (p : Pin) (end : ℕ) → Heads (getD symbols (i .node) 0) (i .shape) →
+  input-is : (i : Input) (p : Pin) (end : ℕ) → Opens (getD symbols (i .node) 0) (i .shape) →
       inputBest most symbols work (i .node) (p .bin) (pinLoad l p) end ≡ fromTable l table p i end
   unfolding inputBest fromTable
   input-is i p end h = go (i .shape) h
     where
-      go : (s : Shape) → Heads (getD symbols (i .node) 0) s → from i p end (leb 2 (getD symbols (i .node) 0)) ≡ fromCurve s (pinLoad l p) (table (i .node) (p .bin)) end
+      go : (s : Shape) → Opens (getD symbols (i .node) 0) s → from i p end (leb 2 (getD symbols (i .node) 0)) ≡ fromCurve s (pinLoad l p) (table (i .node) (p .bin)) end
       go (leaf x) e =
           unfold fromCurve in
-          let less : getD symbols (i .node) 0 - 2 ≡ x = omega arith in
-          ap (from i p end) (le-leb 2 (getD symbols (i .node) 0) (omega arith)) ∙ ap (λ (a : ℕ). before end (leafPoint a (pinLoad l p))) less
+          ap (from i p end) (le-leb 2 (getD symbols (i .node) 0) (omega arith)) ∙ ap (λ (a : Leaf). before end (leafPoint a (pinLoad l p))) (leaf-told (getD symbols (i .node) 0) x e)
       go (inv s) e = unfold fromCurve in ap (from i p end) (lt-leb 2 (getD symbols (i .node) 0) (omega arith))
       go (nand s t) e = unfold fromCurve in ap (from i p end) (lt-leb 2 (getD symbols (i .node) 0) (omega arith))
 

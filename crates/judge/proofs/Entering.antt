@@ -1,5 +1,5 @@
 -- A match's inputs, come to from the last to the first.
-use Prim.Native.Nat.{ℕ, _+_, _-_, _*_, _≤_, _<_}
+use Prim.Native.Nat.{ℕ, _+_, _*_, _≤_, _<_}
 use mathlib.Core.Path.{_≡_, sym, ap, subst, _∙_}
 use mathlib.Core.List.{List, _∷_, List·Memᴰ}
 use native.Mathlib.Nat.{mul-le-mul}
@@ -18,7 +18,8 @@ use Rattle.overlay.specs.Held.{symbolLimit, PinHeld}
 use Rattle.overlay.proofs.Patterns.{noInput, noted}
 use Rattle.judgement.specs.Walk.{Walk, comeTo, comeToInputs}
 use Rattle.judge.specs.declared.WalkRecord.{WalkRecord}
-use Rattle.judge.specs.Inside.{Kept, Opens, Entering}
+use Rattle.judge.specs.Inside.{Kept, Entering}
+use Rattle.overlay.specs.Standing.{Opens}
 
 module _ {l : Library} {row ss : List ℕ} {walked : Walked} {load delay₀ : ℕ} {r : WalkRecord} {m : Match} {w : Walk} (h : Entering l row ss walked load delay₀ r m w) where
   abbrev cell : Cell

@@ -9,7 +9,7 @@ use lib.Seq.{getD-set-same, getD-set-other}
 use lib.Dec.{leb, eqb}
 use lib.Pow.{pow-pos}
 use borrow.Author.Tests.{lt-ltb, le-ltb}
-use Rattle.sheets.specs.Model.{Shape, leaf, inv, nand, nands, Cell}
+use Rattle.sheets.specs.Model.{Leaf, Shape, leaf, inv, nand, nands, Cell}
 use Rattle.covers.specs.Crossing.{crossingLimit, isCrossing}
 use Rattle.covers.specs.Match.{usable, legal}
 use Rattle.covers.specs.Cover.{Point, beside, late, raised, leafArrival, leafPoint}
@@ -22,7 +22,10 @@ use Rattle.judge.specs.declared.CoverJudged.{CoverJudged}
 use Rattle.judge.specs.declared.CoverJudged.the-variants.{Accepted}
 use Rattle.judge.specs.Public.{ofCoverJudged}
 use Rattle.judge.specs.declared.WalkRecord.{WalkRecord}
-use Rattle.judge.specs.Inside.{nothingYet, arrived, pushed, popped, lastOf, Stacked, Kept, Opens}
+use Rattle.judge.specs.Inside.{nothingYet, arrived, pushed, popped, lastOf, Stacked, Kept}
+use Rattle.overlay.specs.Held.{leafOf}
+use Rattle.overlay.specs.Standing.{Opens}
+use Rattle.overlay.proofs.Symbols.{leaf-told}
 
 pub kept-nothing : Kept (record { left = []; point = record { area = 0; arrival = 0 } }) nothingYet
 kept-nothing = record {
@@ -66,11 +69,11 @@ module _ {w : Walk} {r : WalkRecord} (k : Kept w r) where
   }
 
   -- A node with a symbol: a leaf arrives, an inverter or NAND is to be covered.
-  pub come-arrived : (symbol load delay n t : ℕ) (s : Shape) → Opens symbol s → 2 ≤ symbol → t ≡ leafArrival (symbol - 2) load + delay → Kept (comeTo load delay n s w) (arrived r t)
+  pub come-arrived : (symbol load delay n t : ℕ) (s : Shape) → Opens symbol s → 2 ≤ symbol → t ≡ leafArrival (leafOf symbol) load + delay → Kept (comeTo load delay n s w) (arrived r t)
   unfolding comeTo beside late leafPoint
   come-arrived symbol load delay n t (leaf x) e h f = record {
     area-is = omega (arith, k .area-is);
-    arrival-is = let same : symbol - 2 ≡ x = omega arith in ap (λ (i : ℕ). max i (r .arrival)) (f ∙ ap (λ (i : ℕ). leafArrival i load + delay) same) ∙ ap (max (leafArrival x load + delay)) (k .arrival-is);
+    arrival-is = ap (λ (i : ℕ). max i (r .arrival)) (f ∙ ap (λ (y : Leaf). leafArrival y load + delay) (leaf-told symbol x e)) ∙ ap (max (leafArrival x load + delay)) (k .arrival-is);
     count-is = k .count-is;
     stacked = k .stacked;
     nodes-long = k .nodes-long;

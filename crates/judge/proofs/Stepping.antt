@@ -1,5 +1,5 @@
 -- One listed match: where it may stand, and which pattern it may name.
-use Prim.Native.Nat.{ℕ, zero, suc, _+_, _-_, _*_, _≤_, _<_}
+use Prim.Native.Nat.{ℕ, zero, suc, _+_, _*_, _≤_, _<_}
 use mathlib.Core.Path.{_≡_, refl, sym, ap, subst, _∙_}
 use mathlib.Core.Logic.{_≢_}
 use mathlib.Core.Bool.{false}
@@ -10,7 +10,7 @@ use lib.ListN.{length, getD, getElem?, take, drop}
 use Rattle.sheets.specs.Model.{Shape, size, Library, Pattern, Tree, patterns}
 use Rattle.sheets.specs.Layout.{rowWords}
 use Rattle.covers.specs.Cover.{Placed}
-use Rattle.overlay.proofs.Standing.{stands-everywhere}
+use Rattle.overlay.proofs.Standing.{opens-everywhere}
 use Rattle.overlay.proofs.Symbols.{symbols-small}
 use Rattle.overlay.proofs.Patterns.{noPattern, patternAt, rows-long, at-hand, row-held, walkable}
 use Rattle.judgement.specs.Walk.{Uncovered, Walk, lowestAt, matchAt, taken, placedAt, step}
@@ -119,7 +119,7 @@ module _ {l : Library} {t : Tree} {rows ss zs : List ℕ} {k : ℕ} {w : Walk} {
                   cell = held .cell;
                   sound = sound .cell;
                   drawing = sound .drawing;
-                  stands = stands-everywhere (h .decoded);
+                  opens = opens-everywhere (h .decoded);
                   tree = h .decoded .tree;
                   symbols-small = symbols-small ss (t .shape) (h .decoded .symbols-are) (h .decoded .tree .leaves);
                   loads-small = h .decoded .library .loads;

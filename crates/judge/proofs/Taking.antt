@@ -1,5 +1,5 @@
 -- One match at the first of what is to be covered.
-use Prim.Native.Nat.{ℕ, zero, suc, _+_, _-_, _/_, _≤_, _<_}
+use Prim.Native.Nat.{ℕ, zero, suc, _+_, _/_, _≤_, _<_}
 use mathlib.Core.Path.{_≡_, refl, sym, ap, subst, _∙_}
 use mathlib.Core.Bool.{Bool, true, false, _&&_, and-false, cond}
 use mathlib.Core.List.{List, _∷_, List·Memᴰ, List·Memᴰ·head}
@@ -7,7 +7,7 @@ use mathlib.Core.Option.{Option, none, some, Option·map}
 use native.Mathlib.Numerals.{add-one}
 use native.Mathlib.Omega.{arith}
 use lib.ListN.{length, getD, drop}
-use Rattle.sheets.specs.Model.{Shape, leaf, inv, nand, size, nands, Cell, Library, Pattern, Tree}
+use Rattle.sheets.specs.Model.{Shape, size, nands, Cell, Library, Pattern, Tree}
 use Rattle.covers.specs.Crossing.{crossingLimit, redrawn, isCrossing}
 use Rattle.covers.specs.Match.{Input, Match, matched, legal}
 use Rattle.covers.specs.Cover.{raised}
@@ -17,7 +17,7 @@ use Rattle.covers.proofs.Matching.{Spread, crossing-small, fits-inside, size-po
 use Rattle.covers.proofs.Matching as matching
 use Rattle.covers.proofs.Nodes.{nodeOf, root-in, fits-in, nodes-within, node-ends}
 use Rattle.overlay.specs.declared.Walked.{Walked}
-use Rattle.overlay.specs.Standing.{Stands, DrawingHeld, extent, Measured}
+use Rattle.overlay.specs.Standing.{DrawingHeld, extent, Measured}
 use Rattle.sheets.specs.Layout.{heldAt, areaAt, highestAt}
 use Rattle.overlay.specs.Held.{Walkable, Walks, WalkIs}
 use Rattle.overlay.proofs.Patterns.{redrawn-sound, missed, hit}
@@ -26,14 +26,8 @@ use Rattle.judgement.specs.Order.{Apart, last, next}
 use Rattle.judgement.proofs.Order.{inputs-apart, apart-few, others-first}
 use Rattle.judge.specs.declared.WalkRecord.{WalkRecord}
 use Rattle.judge.specs.declared.Stepped.{Stepped}
-use Rattle.judge.specs.Inside.{popped, lastOf, Kept, Opens, Entering, Within, Taking, SteppedIs}
+use Rattle.judge.specs.Inside.{popped, lastOf, Kept, Entering, Within, Taking, SteppedIs}
 use Rattle.judge.proofs.Kept.{kept-popped}
-
--- The symbol where a shape stands.
-pub stands-opens : (ss zs : List ℕ) (n : ℕ) (s : Shape) → Stands ss zs n s → Opens (getD ss n 0) s
-stands-opens ss zs n (leaf x) h = h .0
-stands-opens ss zs n (inv s) h = h .0
-stands-opens ss zs n (nand s t) h = h .0
 
 -- The inputs after one of them, from where its subtree ends.
 pub record SpreadAfter (low high : ℕ) (is : List Input) (k : ℕ) : Type 0 where
@@ -184,7 +178,7 @@ module _ {l : Library} {t : Tree} {row ss zs : List ℕ} {k : ℕ} {p : Pattern}
         entering walks few pinned = record {
           kept = kept-popped kept (p .cell .area);
           held = record { walks = walks; cell = h .cell; sound = h .sound; few = omega (arith, few, h .sound .few-pins); pinned = pinned };
-          opens = λ i a. (stands-opens ss zs (i .node) (i .shape) (h .stands (nodeOf i) (in-tree i a)), omega (arith, node-ends 0 (t .shape) (in-tree i a), size-pos (i .shape), h .tree .size));
+          opens = λ i a. (h .opens (nodeOf i) (in-tree i a), omega (arith, node-ends 0 (t .shape) (in-tree i a), size-pos (i .shape), h .tree .size));
           symbols-long = h .walkable (measured measures) .subject .symbols-long;
           symbols-small = h .symbols-small;
           loads-small = h .loads-small;

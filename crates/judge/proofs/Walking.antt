@@ -1,5 +1,5 @@
 -- The walk over all listed matches: after each step it is again a walk over the tree.
-use Prim.Native.Nat.{ℕ, zero, suc, _+_, _-_, _*_, _≤_, _<_}
+use Prim.Native.Nat.{ℕ, zero, suc, _+_, _*_, _≤_, _<_}
 use mathlib.Core.Path.{_≡_, refl, sym, ap, subst, _∙_}
 use mathlib.Core.Bool.{true, false, false≢true}
 use mathlib.Core.List.{List, [], _∷_, List·Memᴰ, List·Memᴰ·head, List·Memᴰ·tail, List·Memᴰ·not-nil}
@@ -22,8 +22,8 @@ use Rattle.covers.proofs.Bounds.{match-cell}
 use Rattle.sheets.specs.declared.tree.TreeRecord.{TreeRecord}
 use Rattle.sheets.specs.Layout.{treeLaid}
 use Rattle.overlay.specs.Held.{symbolLimit}
-use Rattle.overlay.specs.Standing.{Subject}
-use Rattle.overlay.proofs.Standing.{subject-everywhere}
+use Rattle.overlay.specs.Standing.{Opens, Subject}
+use Rattle.overlay.proofs.Standing.{opens-everywhere, subject-everywhere}
 use Rattle.overlay.proofs.Symbols.{symbols-small}
 use Rattle.judgement.specs.Walk.{Uncovered, Walk, comeTo, comeToInputs, started, step, matchNumber, ended, onward, walk}
 use Rattle.judgement.specs.Order.{Apart}
@@ -31,9 +31,8 @@ use Rattle.judgement.proofs.Order.{after, StepIs, wrong, right, step-is, step-p
 use Rattle.judgement.proofs.Walking.{after-apart, started-apart}
 use Rattle.judge.specs.declared.WalkRecord.{WalkRecord}
 use Rattle.judge.specs.declared.Stepped.{Stepped}
-use Rattle.judge.specs.Inside.{slowest, nothingYet, Kept, Opens, SteppedIs, Within, Walking, Judging}
+use Rattle.judge.specs.Inside.{slowest, nothingYet, Kept, SteppedIs, Within, Walking, Judging}
 use Rattle.judge.proofs.Kept.{kept-nothing}
-use Rattle.judge.proofs.Taking.{stands-opens}
 
 -- ---- what is to be covered stays within bounds
 
@@ -226,4 +225,4 @@ module _ {l : Library} {t : Tree} {rows : List ℕ} {tree : TreeRecord} (h : Jud
   started-kept b r e f =
       let none : Walk = record { left = []; point = record { area = 0; arrival = 0 } } in
       subst (λ (load : ℕ). Kept (comeTo load 0 0 (t .shape) none) r) load-is
-      (f none (t .shape) (subst (Kept none) (sym e) kept-nothing) (stands-opens (tree .symbols) (tree .sizes) 0 (t .shape) (root-held .stands)))
+      (f none (t .shape) (subst (Kept none) (sym e) kept-nothing) (opens-everywhere (h .decoded) (record { number = 0; shape = t .shape }) (root-in 0 (t .shape))))

@@ -5,16 +5,15 @@ use mathlib.Core.Bool.{true, false}
 use mathlib.Core.List.{List, [], _∷_, List·Memᴰ}
 use mathlib.Core.Option.{Option, none, some}
 use lib.ListN.{length, getD, set, drop, replicate}
-use Rattle.shapes.specs.Shape.{invSymbol, nandSymbol, leafSymbol}
 use Rattle.sheets.specs.declared.tree.TreeRecord.{TreeRecord}
-use Rattle.sheets.specs.Model.{Shape, leaf, inv, nand, size, Library, Pattern, Tree}
+use Rattle.sheets.specs.Model.{Shape, size, Library, Pattern, Tree}
 use Rattle.sheets.specs.Sound.{SoundCell, SoundDrawing, SoundTree}
 use Rattle.sheets.specs.Layout.{treeLaid}
 use Rattle.covers.specs.Match.{Input, Match}
 use Rattle.covers.specs.Curve.{base}
 use Rattle.covers.specs.Tradeoff.{Node, nodes}
 use Rattle.overlay.specs.declared.Walked.{Walked}
-use Rattle.overlay.specs.Standing.{Stands, DrawingHeld, Measured}
+use Rattle.overlay.specs.Standing.{Opens, DrawingHeld, Measured}
 use Rattle.overlay.specs.Held.{symbolLimit, CellHeld, Walkable, MatchHeld, Decoded}
 use Rattle.judgement.specs.Walk.{Uncovered, Walk, comeToInputs}
 use Rattle.judgement.specs.Order.{Apart}
@@ -57,12 +56,6 @@ pub record Kept (w : Walk) (r : WalkRecord) : Type 0 where
   pub delays-long : length (r .delays) ≡ 64
 
 -- ---- coming to nodes
-
--- The symbol of a shape's first node.
-abbrev pub Opens : ℕ → Shape → Type 0
-Opens symbol (leaf x) = symbol ≡ leafSymbol x
-Opens symbol (inv s) = symbol ≡ invSymbol
-Opens symbol (nand s t) = symbol ≡ nandSymbol
 
 -- What a pin adds at the most: an intrinsic delay of 16 bits, and a drive times a load of 8 bits each.
 abbrev pub slowest : ℕ
@@ -112,7 +105,7 @@ pub record Taking (l : Library) (t : Tree) (row ss zs : List ℕ) (k : ℕ) (p :
   pub cell : CellHeld l row (p .cell)
   pub sound : SoundCell (length (l .bins)) (p .cell)
   pub drawing : SoundDrawing (length (p .cell .pins)) (p .drawing)
-  pub stands : (x : Node) → List·Memᴰ x (nodes 0 (t .shape)) → Stands ss zs (x .number) (x .shape)
+  pub opens : (x : Node) → List·Memᴰ x (nodes 0 (t .shape)) → Opens (getD ss (x .number) 0) (x .shape)
   pub tree : SoundTree t
   pub symbols-small : (j : ℕ) → getD ss j 0 ≤ symbolLimit
   pub loads-small : (x : ℕ) → List·Memᴰ x (l .bins) → x ≤ 255

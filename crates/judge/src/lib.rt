@@ -20,12 +20,13 @@ ghost use Rattle.covers.specs.Curve.{base};
 ghost use Rattle.covers.specs.CoverSheet.{coverRead};
 ghost use Rattle.covers.specs.Outcome.{withTree};
 ghost use Rattle.results.specs.Public.{coverOf};
+ghost use Rattle.overlay.specs.Standing.{Opens};
 ghost use Rattle.overlay.specs.Held.{symbolLimit, LibraryHeld, SheetsHeld};
 ghost use Rattle.judgement.specs.Walk.{Walk, comeTo, comeToInputs, matchAt, taken, step as stepOf, started, walk as walkOf};
 ghost use Rattle.judgement.specs.Judgement.{figures, coverJudged, judgement, PointBounded};
 ghost use Rattle.judgement.specs.Demands.{JudgedWhereSound};
 ghost use Rattle.judge.specs.Public.{ofCoverJudged};
-ghost use Rattle.judge.specs.Inside.{nothingYet, arrived, pushed, popped, lastOf, Kept, Opens, Entering, Taking, SteppedIs, Stepping, Judging};
+ghost use Rattle.judge.specs.Inside.{nothingYet, arrived, pushed, popped, lastOf, Kept, Entering, Taking, SteppedIs, Stepping, Judging};
 
 // What the judge of covers answers: area and arrival, or document 02's number and the place.
 pub enum CoverJudged {

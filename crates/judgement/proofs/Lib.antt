@@ -3,3 +3,4 @@ pub mod Order
 pub mod Walking
 pub mod Sheet
 pub mod Demands
+pub mod DriveZero

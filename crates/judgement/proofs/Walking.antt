@@ -8,7 +8,7 @@ use native.Mathlib.Nat.{le-refl}
 use native.Mathlib.Omega.{arith}
 use lib.ListN.{length, length-append}
 use Rattle.fields.specs.Answer.{Answer, refused, success}
-use Rattle.sheets.specs.Model.{Shape, leaf, inv, nand, size, Cell, Library, Tree}
+use Rattle.sheets.specs.Model.{Leaf, pinOf, Shape, leaf, inv, nand, size, Cell, Library, Tree}
 use Rattle.covers.specs.Crossing.{redrawn}
 use Rattle.covers.specs.Match.{Input, Match, IsMatch, joined, laid, matched, pinLoad}
 use Rattle.covers.specs.Cover.{Point, Placed, Cover, IsCover, bare, matching, AreCovers, done, more, beside, late, raised, leafPoint, leafCover, nothing, together, delayed, topped, feeds, inputDelay}
@@ -25,7 +25,7 @@ use Rattle.judgement.proofs.Order.{come-apart, inputs-apart, Named, mat
 -- A match has an input.
 laid-some : (d : Shape) (n : ℕ) (s : Shape) → Whenever (λ is. 0 < length is) (laid d n s)
 unfolding laid
-laid-some (leaf x) n s = holds {is = record { pin = x; node = n; shape = s } ∷ []} (omega arith)
+laid-some (leaf x) n s = holds {is = record { pin = pinOf x; node = n; shape = s } ∷ []} (omega arith)
 laid-some (inv d) n (leaf x) = never
 laid-some (inv d) n (inv s) = laid-some d (suc n) s
 laid-some (inv d) n (nand s t) = never
@@ -63,7 +63,7 @@ come-plus load delay n (inv s) a w = refl
 come-plus load delay n (nand s t) a w = refl
 
 module _ (l : Library) where
-  leaf-cover : {load n x : ℕ} {c : Cover} → IsCover l load n (leaf x) c → c ≡ leafCover x load
+  leaf-cover : {load n : ℕ} {x : Leaf} {c : Cover} → IsCover l load n (leaf x) c → c ≡ leafCover x load
   unfolding gates
   leaf-cover (bare e) = e
   leaf-cover (matching m f g e) = absurd (omega (arith, match-inside f .fewer))

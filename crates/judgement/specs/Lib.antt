@@ -2,4 +2,5 @@
 pub mod Walk
 pub mod Judgement
 pub mod Demands
+pub mod DriveZero
 pub mod Order

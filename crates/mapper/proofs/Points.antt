@@ -1,31 +1,26 @@
 -- The root's curve as the words at the front of the work area, and its trade-offs.
-use Prim.Native.Nat.{ℕ, zero, suc, _+_, _-_, _≤_, _<_}
+use Prim.Native.Nat.{ℕ, zero, suc, _+_, _≤_, _<_}
 use mathlib.Core.Path.{_≡_, refl, sym, ap, _∙_}
 use mathlib.Core.Logic.{⊎-elim}
 use mathlib.Core.Bool.{false≢true}
 use mathlib.Core.List.{List, [], _∷_, _++_, map, map-append, append-assoc, append-nil, reverse, reverse-reverse, List·Memᴰ·head}
 use mathlib.Core.Option.{Option, none, some, Option·none-ne-some}
 use native.Mathlib.Numerals.{add-one}
-use native.Mathlib.Nat.{le-refl}
 use native.Mathlib.Nat.{mul-zero}
 use native.Mathlib.Omega.{arith}
-use borrow.Author.Tests.{eq-eqb, le-leb}
 use lib.ListN.{length, getD, take, drop, set, length-map, length-reverse}
 use lib.Seq.{take-suc, take-take, length-take-le, drop-length, getD-set-same}
 use Rattle.fields.specs.Answer.{success}
 use Rattle.sheets.specs.declared.tree.TreeRecord.{TreeRecord}
 use Rattle.sheets.specs.Model.{leaf, Library, Tree}
-use Rattle.covers.specs.Lists.{any, select}
-use Rattle.covers.specs.Cover.{Point, Cover, leafArrival, leafPoint, leafCover}
-use Rattle.covers.specs.Enumeration.{coversStep}
-use Rattle.covers.specs.Tradeoff.{same, beats, beaten, insert, tradeoffsOf, points, tradeoffs, Node, nodes, considered, overfull}
+use Rattle.covers.specs.Cover.{Point, leafArrival, leafPoint}
+use Rattle.covers.specs.Tradeoff.{points, tradeoffs, Node, nodes, considered, overfull}
 use Rattle.covers.specs.Answer.{answered, nonempty, listed}
 use Rattle.covers.proofs.Basics.{lt-or-le}
 use Rattle.covers.specs.Curve.{base, curve, pointOf}
 use Rattle.covers.proofs.Nodes.{root-in}
 use Rattle.covers.proofs.Overfull.{LastOf, nowhere, at, overfull-listed, overfull-named}
 use Rattle.covers.proofs.Points.{point-path}
-use Rattle.covers.proofs.Unroll.{covers-unroll}
 use Rattle.curves.specs.Words.{pointLimit, stored}
 use Rattle.curves.proofs.Laws.{stored-end, stored-more}
 use Rattle.results.specs.Public.{pointsOf}
@@ -33,6 +28,8 @@ use Rattle.mapper.specs.declared.Finding.the-variants.{Refused, Found}
 use Rattle.mapper.specs.Found.{ofFinding, ofListed}
 use Rattle.mapper.specs.Promises.{Curved, ListedIs}
 use Rattle.mapper.proofs.Root.{load-is, gate-root, leaf-root}
+use Rattle.covers.proofs.Tradeoffs.{leaf-tradeoffs}
+use Rattle.overlay.specs.Held.{leafOf}
 
 -- ---- counting
 
@@ -55,14 +52,6 @@ unfolding stored
 counted-all ws k e c = c ∙ ap (λ (vs : List ℕ). map pointOf (take k ws) ++ stored vs) (ap (λ (j : ℕ). drop j ws) (sym e) ∙ drop-length ws) ∙ append-nil (map pointOf (take k ws))
 
 -- ---- a leaf
-
-one-point : (p : Point) → tradeoffsOf (p ∷ []) ≡ p ∷ []
-unfolding tradeoffsOf select beaten any beats same insert
-one-point p = rw (le-leb (p .area) (p .area) (le-refl (p .area)), le-leb (p .arrival) (p .arrival) (le-refl (p .arrival)), eq-eqb (p .area) (p .area) refl, eq-eqb (p .arrival) (p .arrival) refl) refl
-
-leaf-tradeoffs : (l : Library) (load x : ℕ) → tradeoffs l load 0 (leaf x) ≡ leafPoint x load ∷ []
-unfolding tradeoffs points coversStep leafCover
-leaf-tradeoffs l load x = ap (λ (cs : List Cover). tradeoffsOf (points cs)) (covers-unroll l load 0 (leaf x)) ∙ one-point (leafPoint x load)
 
 -- A time as the word of a point of no area.
 leaf-word : (a : ℕ) → a < base → pointOf a ≡ record { area = 0; arrival = a }
@@ -94,13 +83,13 @@ module _ {most : ℕ} {l : Library} {t : Tree} {rows : List ℕ} {tree : TreeRec
           false≢true (sym (a root (root-in 0 (t .shape))) ∙ overfull-listed most l t root .1 (t .load, List·Memᴰ·head refl, m))
       go e (at {k = k} h) m = Option·none-ne-some k (sym e)
 
-  pub leaf-listed : 2 ≤ getD (tree .symbols) 0 0 → (a : ℕ) → a ≡ leafArrival (getD (tree .symbols) 0 0 - 2) (tree .load) → a < base → ListedIs most l t (set work 0 a) (record { finding = Found; count = 1 })
+  pub leaf-listed : 2 ≤ getD (tree .symbols) 0 0 → (a : ℕ) → a ≡ leafArrival (leafOf (getD (tree .symbols) 0 0)) (tree .load) → a < base → ListedIs most l t (set work 0 a) (record { finding = Found; count = 1 })
   unfolding ofListed ofFinding answered nonempty pointsOf leafPoint
   leaf-listed h a e small =
       let there : 0 < length work = omega (arith, given .prepared .area .room) in
       let one : all ≡ record { area = 0; arrival = a } ∷ [] =
-      ap (tradeoffs l (t .load) 0) (leaf-root given h) ∙ leaf-tradeoffs l (t .load) (getD (tree .symbols) 0 0 - 2)
-      ∙ ap (λ (b : ℕ). record { area = 0; arrival = b } ∷ []) (ap (leafArrival (getD (tree .symbols) 0 0 - 2)) (sym (load-is given)) ∙ sym e) in
+      ap (tradeoffs l (t .load) 0) (leaf-root given h) ∙ leaf-tradeoffs l (t .load) 0 (leafOf (getD (tree .symbols) 0 0))
+      ∙ ap (λ (b : ℕ). record { area = 0; arrival = b } ∷ []) (ap (leafArrival (leafOf (getD (tree .symbols) 0 0))) (sym (load-is given)) ∙ sym e) in
       record {
         answer-is =
             ap (λ (ws : List ℕ). success (reverse (map pointOf ws))) (first-set work a there)

@@ -1,8 +1,8 @@
 -- The root's cover.
-use Prim.Native.Nat.{ℕ, suc, _+_, _-_, _/_, _%_, _≤_, _<_}
+use Prim.Native.Nat.{ℕ, suc, _+_, _/_, _%_, _≤_, _<_}
 use mathlib.Core.Path.{_≡_, refl, sym, ap, ap₂, subst, _∙_}
 use mathlib.Core.Bool.{Bool, cond}
-use mathlib.Core.List.{List, [], List·Memᴰ, List·Memᴰ·head}
+use mathlib.Core.List.{List, []}
 use mathlib.Core.Option.{Option, none, some, Option·map, Option·none-ne-some, Option·some-injective}
 use native.Mathlib.Numerals.{add-one}
 use native.Mathlib.Omega.{arith}
@@ -11,7 +11,7 @@ use lib.ListN.{length, getD}
 use Rattle.fields.specs.Answer.{success}
 use Rattle.shapes.specs.Shape.{symbols, sizes}
 use Rattle.sheets.specs.declared.tree.TreeRecord.{TreeRecord}
-use Rattle.sheets.specs.Model.{Shape, leaf, inv, nand, leaves, Library, Tree}
+use Rattle.sheets.specs.Model.{Leaf, Shape, leaf, inv, nand, Library, Tree}
 use Rattle.sheets.specs.Layout.{treeLaid}
 use Rattle.covers.specs.Cover.{Point, Cover, leafArrival, leafPoint, leafCover}
 use Rattle.covers.specs.Enumeration.{covers}
@@ -24,9 +24,9 @@ use Rattle.covers.proofs.Listing.{few-matches}
 use Rattle.covers.proofs.Matching.{gates-lt-size}
 use Rattle.covers.proofs.Nodes.{root-in}
 use Rattle.covers.proofs.Unroll.{choice-unroll}
-use Rattle.overlay.specs.Standing.{Stands}
-use Rattle.overlay.specs.Held.{symbolLimit}
-use Rattle.overlay.proofs.Standing.{stands-everywhere, subject-everywhere}
+use Rattle.overlay.specs.Standing.{Opens, Stands}
+use Rattle.overlay.specs.Held.{leafOf, symbolLimit}
+use Rattle.overlay.proofs.Standing.{opens-everywhere, stands-everywhere, subject-everywhere}
 use Rattle.curves.specs.Words.{absent, pointLimit, stored, curveAt}
 use Rattle.curves.specs.Promises.{Worth}
 use Rattle.choosing.specs.Promises.{at-root, Chooses, appended}
@@ -38,11 +38,12 @@ use Rattle.mapper.specs.declared.Finding.the-variants.{Found}
 use Rattle.mapper.specs.declared.Mapped.{Mapped}
 use Rattle.mapper.specs.Found.{ofFinding, ofMapped, bareCover, refusedWith}
 use Rattle.mapper.specs.Promises.{Curved, MappedIs}
+use Rattle.overlay.proofs.Symbols.{symbols-small, leaf-told}
 
 -- ---- a leaf
 
 -- The answer to a leaf, which is in time or not.
-module _ (l : Library) (load x time : ℕ) where
+module _ (l : Library) (load : ℕ) (x : Leaf) (time : ℕ) where
   leaf-is : choice l load 0 (leaf x) time ≡ choiceStep l (choice l) load 0 (leaf x) time
   leaf-is = ap (λ (f : ℕ → Option Cover). f time) (choice-unroll l load 0 (leaf x))
 
@@ -73,6 +74,9 @@ module _ {most : ℕ} {l : Library} {t : Tree} {rows : List ℕ} {tree : TreeRec
   abbrev Root : Shape → Type 0
   Root = Stands (tree .symbols) (tree .sizes) 0
 
+  root-opens : Opens first (t .shape)
+  root-opens = opens-everywhere (given .prepared .decoded) (record { number = 0; shape = t .shape }) (root-in 0 (t .shape))
+
   root-stands : Root (t .shape)
   root-stands = stands-everywhere (given .prepared .decoded) (record { number = 0; shape = t .shape }) (root-in 0 (t .shape))
 
@@ -87,19 +91,16 @@ module _ {most : ℕ} {l : Library} {t : Tree} {rows : List ℕ} {tree : TreeRec
       go (inv a) h g = unfold gates in omega arith
       go (nand a b) h g = unfold gates in omega arith
 
-  pub leaf-root : 2 ≤ first → t .shape ≡ leaf (first - 2)
-  leaf-root = go (t .shape) root-stands
+  pub leaf-root : 2 ≤ first → t .shape ≡ leaf (leafOf first)
+  leaf-root = go (t .shape) root-opens
     where
-      go : (x : Shape) → Root x → 2 ≤ first → x ≡ leaf (first - 2)
-      go (leaf y) h g = ap leaf (omega (arith, h .0))
-      go (inv a) h g = absurd (omega (arith, h .0))
-      go (nand a b) h g = absurd (omega (arith, h .0))
+      go : (x : Shape) → Opens first x → 2 ≤ first → x ≡ leaf (leafOf first)
+      go (leaf y) h g = ap leaf (sym (leaf-told first y h))
+      go (inv a) h g = absurd (omega arith)
+      go (nand a b) h g = absurd (omega arith)
 
-  pub leaf-small : 2 ≤ first → first ≤ symbolLimit
-  leaf-small h = omega (arith, at-leaf (t .shape) (leaf-root h) (given .prepared .decoded .tree .leaves))
-    where
-      at-leaf : (s : Shape) → s ≡ leaf (first - 2) → ((x : ℕ) → List·Memᴰ x (leaves s) → x ≤ 1000000) → first - 2 ≤ 1000000
-      at-leaf s e h = subst (λ (q : Shape). ((x : ℕ) → List·Memᴰ x (leaves q) → x ≤ 1000000) → first - 2 ≤ 1000000) (sym e) (λ k. k (first - 2) (unfold leaves in List·Memᴰ·head refl)) h
+  pub leaf-small : first ≤ symbolLimit
+  leaf-small = symbols-small (tree .symbols) (t .shape) (given .prepared .decoded .symbols-are) (given .prepared .decoded .tree .leaves) 0
 
   -- No node is overfull, so the answer is the choice.
   chosen-is : (o : Option Cover) → choice l (tree .load) 0 (t .shape) (tree .required) ≡ o → answered none o ≡ mapped most l t
@@ -108,7 +109,7 @@ module _ {most : ℕ} {l : Library} {t : Tree} {rows : List ℕ} {tree : TreeRec
       ap (answered none) (sym e ∙ ap₂ (λ (a b : ℕ). choice l a 0 (t .shape) b) load-is time-is)
       ∙ ap (λ (q : Option ℕ). answered q (choice l (t .load) 0 (t .shape) (t .required))) (sym (given .not-overfull))
 
-  pub leaf-mapped : 2 ≤ first → (r : Mapped) → ofMapped r ≡ answered none (choice l (tree .load) 0 (leaf (first - 2)) (tree .required)) → ofMapped r ≡ mapped most l t
+  pub leaf-mapped : 2 ≤ first → (r : Mapped) → ofMapped r ≡ answered none (choice l (tree .load) 0 (leaf (leafOf first)) (tree .required)) → ofMapped r ≡ mapped most l t
   leaf-mapped h r e = e ∙ ap (λ (s : Shape). answered none (choice l (tree .load) 0 s (tree .required))) (sym (leaf-root h)) ∙ chosen-is _ refl
 
   module _ (gate : first < 2) (w : ℕ) (worth : Worth pointLimit (tree .required + 1) w (lookup (tree .required + 1) (stored (curveAt most work 0)))) where

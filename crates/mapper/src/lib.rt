@@ -17,7 +17,7 @@ ghost use Rattle.sheets.specs.Model.{leaf, Library, Tree};
 ghost use Rattle.covers.specs.Answer.{answered};
 ghost use Rattle.covers.specs.Choice.{choice};
 ghost use Rattle.covers.specs.Curve.{pointOf};
-ghost use Rattle.overlay.specs.Held.{symbolLimit};
+ghost use Rattle.overlay.specs.Held.{leafOf, symbolLimit};
 ghost use Rattle.matching.specs.Found.{matchTable};
 ghost use Rattle.curves.specs.Words.{stored};
 ghost use Rattle.filling.specs.Promises.{FillStart};
@@ -81,7 +81,7 @@ fn refuse(number: u32, place: usize) -> Mapped
 // A leaf's own cover, which has no match, if it arrives in time.
 fn map_leaf(symbol: u32, load: u32, time: u32) -> Mapped
     requires { ⌜ (2 ≤ symbol) × (symbol ≤ symbolLimit) × (load ≤ 255) ⌝ }
-    ensures { λ r. ⌜ ((l : Library) → ofMapped r ≡ answered none (choice l load 0 (leaf (symbol - 2)) time)) ⌝ }
+    ensures { λ r. ⌜ ((l : Library) → ofMapped r ≡ answered none (choice l load 0 (leaf (leafOf symbol)) time)) ⌝ }
     ensures { λ r. ⌜ r .cover .count ≡ 0 ⌝ }
 {
     let arrival = overlay::leaf_arrival(symbol, load) as u32;

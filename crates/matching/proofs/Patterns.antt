@@ -1,5 +1,5 @@
 -- The patterns of a sound library, tried one after another at a node, each under its crossings.
-use Prim.Native.Nat.{ℕ, suc, _+_, _-_, _*_, _/_, _^_, _≤_, _<_}
+use Prim.Native.Nat.{ℕ, suc, _+_, _-_, _*_, _/_, _≤_, _<_}
 use mathlib.Core.Path.{_≡_, refl, sym, ap, ap₂, subst, _∙_}
 use mathlib.Core.Bool.{Bool, true, false, cond, true≢false, false≢true}
 use mathlib.Core.List.{List, [], _∷_, _++_, map, map-append, append-assoc, append-nil, List·Memᴰ, List·Memᴰ·head, List·Memᴰ·tail, List·Memᴰ·not-nil, Memᴰ·of-map}
@@ -16,7 +16,7 @@ use Rattle.sheets.specs.Layout.{tableFrom, rowWords}
 use Rattle.sheets.specs.Sound.{SoundDrawing, SoundCell, SoundLibrary}
 use Rattle.sheets.proofs.Laws.{table-append}
 use Rattle.sheets.proofs.Tables.{row-at}
-use Rattle.sheets.proofs.Patterns.{SoundPattern, sound-pattern}
+use Rattle.sheets.proofs.Patterns.{sound-pattern}
 use Rattle.covers.specs.Lists.{keepIf, select}
 use Rattle.covers.specs.Crossing.{crossingLimit, redrawn, isCrossing, counted, crossings}
 use Rattle.covers.specs.Match.{Input, Match, laid, matched, putFirst, fittingUnder, fittingFrom, fitting}
@@ -26,7 +26,7 @@ use Rattle.covers.proofs.Nodes.{root-in}
 use Rattle.overlay.specs.declared.Walked.{Walked}
 use Rattle.overlay.specs.Standing.{extent, Measured}
 use Rattle.overlay.specs.Held.{WalkedIs, WalkIs}
-use Rattle.overlay.proofs.Patterns.{redrawn-sound, FromDrawing, laid-from, matched-laid, noPattern, patternAt, at-hand, row-held, walkable}
+use Rattle.overlay.proofs.Patterns.{pinned, redrawn-sound, FromDrawing, laid-from, matched-laid, noPattern, patternAt, at-hand, row-held, walkable}
 use Rattle.matching.specs.Found.{matchBytes, matchTable, inputsAt, inputsBytes, matchRow}
 use Rattle.matching.specs.Promises.{Few, Writable, Trying, Ready}
 use Rattle.matching.proofs.Written.{length-row}
@@ -47,7 +47,7 @@ module _ {pins : ℕ} {d : Shape} (sound : SoundDrawing pins d) (few-pins : pins
   inputs-sound e =
       let again = redrawn-sound x sound in
       let f : FromDrawing (redrawn x d) _ = whenever (laid-from (redrawn x d) n s) (sym gate ∙ e) in
-      record { few = omega (arith, f .few, again .nands); pinned = λ i m. again .leaves (i .pin) (f .pins i m) }
+      record { few = omega (arith, f .few, again .nands); pinned = λ i m. pinned again f i m }
 
   pub writable : {walked : Walked} → WalkIs d s n x walked → Writable (matched (redrawn x d) n s) walked
   writable {walked} w = record { walked-is = subst (λ o. WalkedIs o walked) (sym gate) (w .found-is); few = go (matched (redrawn x d) n s) refl }

@@ -9,7 +9,7 @@ use native.Mathlib.Nat.{add-zero}
 use native.Mathlib.Omega.{arith}
 use lib.ListN.{length, getD, take, drop, length-append, length-map}
 use Rattle.fields.proofs.Lists.{at-mem, at-map}
-use Rattle.sheets.specs.Model.{Shape, leaf, inv, nand, size, leaves, nands, Library, Pattern, Tree, patterns}
+use Rattle.sheets.specs.Model.{Leaf, pinOf, plainLeaf, Shape, leaf, inv, nand, size, leaves, nands, Library, Pattern, Tree, patterns}
 use Rattle.sheets.specs.Layout.{padded, pinsMost, pinWords, figuresAt, rowWords}
 use Rattle.sheets.specs.Sound.{IsGate, SoundDrawing}
 use Rattle.sheets.proofs.Laws.{in-padded}
@@ -29,13 +29,13 @@ use Rattle.overlay.proofs.Measuring.{drawn}
 -- There is an input for each leaf, one more than NANDs, and each pin stands at a leaf of the drawing.
 pub record FromDrawing (d : Shape) (is : List Input) : Type 0 where
   pub few : length is ≤ suc (nands d)
-  pub pins : (i : Input) → List·Memᴰ i is → List·Memᴰ (i .pin) (leaves d)
+  pub pins : (i : Input) → List·Memᴰ i is → (x : Leaf) × List·Memᴰ x (leaves d) × (i .pin ≡ pinOf x)
 
 pub laid-from : (d : Shape) (n : ℕ) (s : Shape) → Whenever (FromDrawing d) (laid d n s)
 unfolding laid nands leaves
-laid-from (leaf x) n s = holds {is = record { pin = x; node = n; shape = s } ∷ []} (record {
+laid-from (leaf x) n s = holds {is = record { pin = pinOf x; node = n; shape = s } ∷ []} (record {
   few = omega arith;
-  pins = λ i m. List·Memᴰ·head (ap (λ (j : Input). j .pin) (List·Memᴰ·eq-of-singleton m));
+  pins = λ i m. (x, List·Memᴰ·head refl, ap (λ (j : Input). j .pin) (List·Memᴰ·eq-of-singleton m));
 })
 laid-from (inv d) n (leaf x) = never
 laid-from (inv d) n (inv s) = go (laid-from d (suc n) s)
@@ -53,8 +53,14 @@ laid-from (nand d e) n (nand s t) = go (laid-from d (suc n) s) (laid-from e (suc
     go (holds f) never = unfold joined in never
     go (holds {is} f) (holds {is = js} g) = unfold joined in holds {is = is ++ js} (record {
       few = omega (arith, f .few, g .few, length-append is js);
-      pins = λ i m. ⊎-elim (λ k. Memᴰ·append-left (leaves e) (f .pins i k)) (λ k. Memᴰ·append-right (leaves d) (g .pins i k)) (List·Memᴰ·append-cases is m);
+      pins = λ i m.
+          ⊎-elim (λ k. let p = f .pins i k in (p .0, Memᴰ·append-left (leaves e) (p .1), p .2)) (λ k. let p = g .pins i k in (p .0, Memᴰ·append-right (leaves d) (p .1), p .2))
+          (List·Memᴰ·append-cases is m);
     })
+
+-- Each input of a sound drawing feeds a pin of its cell.
+pub pinned : {pins : ℕ} {d : Shape} {is : List Input} → SoundDrawing pins d → FromDrawing d is → (i : Input) → List·Memᴰ i is → i .pin < pins
+pinned sound f i m = let p = f .pins i m in omega (arith, p .2, sound .leaves (p .0) (p .1))
 
 pub matched-laid : (d : Shape) (n : ℕ) (s : Shape) → IsGate d → matched d n s ≡ laid d n s
 unfolding matched
@@ -73,7 +79,7 @@ unfolding ordered nands
 ordered-nands false p q = refl
 ordered-nands true p q = omega arith
 
-ordered-leaves : (b : Bool) (p q : Shape) {y : ℕ} → List·Memᴰ y (leaves (ordered b p q)) → List·Memᴰ y (leaves p) ⊎ List·Memᴰ y (leaves q)
+ordered-leaves : (b : Bool) (p q : Shape) {y : Leaf} → List·Memᴰ y (leaves (ordered b p q)) → List·Memᴰ y (leaves p) ⊎ List·Memᴰ y (leaves q)
 unfolding ordered leaves
 ordered-leaves false p q m = List·Memᴰ·append-cases (leaves p) m
 ordered-leaves true p q m = ⊎-elim (λ i. inr i) (λ i. inl i) (List·Memᴰ·append-cases (leaves q) m)
@@ -97,7 +103,7 @@ module _ (x : ℕ) where
   redrawn-nands j (inv d) = redrawn-nands j d
   redrawn-nands j (nand d e) = omega (arith, ordered-nands (exchanged x j) (redrawnFrom x (suc j) d) (redrawnFrom x (suc j + nands d) e), redrawn-nands (suc j) d, redrawn-nands (suc j + nands d) e)
 
-  redrawn-leaves : (j : ℕ) (d : Shape) {y : ℕ} → List·Memᴰ y (leaves (redrawnFrom x j d)) → List·Memᴰ y (leaves d)
+  redrawn-leaves : (j : ℕ) (d : Shape) {y : Leaf} → List·Memᴰ y (leaves (redrawnFrom x j d)) → List·Memᴰ y (leaves d)
   unfolding redrawnFrom leaves
   redrawn-leaves j (leaf z) m = m
   redrawn-leaves j (inv d) m = redrawn-leaves j d m
@@ -143,10 +149,10 @@ module _ {pins : ℕ} {d : Shape} (n : ℕ) (s : Shape) (walked : Walked) (sound
       go none q w = absurd (false≢true (sym w ∙ e))
       go (some is) q w =
           let f : FromDrawing d is = whenever (laid-from d n s) q in
-          record { inputs = is; fits = matched-laid d n s (sound .gate) ∙ q; walks = w; few = omega (arith, f .few, sound .nands); pinned = λ i m. sound .leaves (i .pin) (f .pins i m) }
+          record { inputs = is; fits = matched-laid d n s (sound .gate) ∙ q; walks = w; few = omega (arith, f .few, sound .nands); pinned = λ i m. pinned sound f i m }
 
 abbrev pub noInput : Input
-noInput = record { pin = 0; node = 0; shape = leaf 0 }
+noInput = record { pin = 0; node = 0; shape = plainLeaf 0 }
 
 -- What a walk noted of the input k.
 pub noted : (f : Input → ℕ) (ws : List ℕ) (is : List Input) (k : ℕ) → ws ≡ padded 6 0 (map f is) → length is ≤ 6 → k < length is → getD ws k 0 ≡ f (getD is k noInput)
@@ -158,7 +164,7 @@ noted f ws is k e h g =
 -- ---- the patterns of a decoded library
 
 abbrev pub noPattern : Pattern
-noPattern = record { cellNumber = 0; cell = record { held = false; area = 0; highest = 0; pins = []; drawings = [] }; drawing = leaf 0 }
+noPattern = record { cellNumber = 0; cell = record { held = false; area = 0; highest = 0; pins = []; drawings = [] }; drawing = plainLeaf 0 }
 
 abbrev pub patternAt : Library → ℕ → Pattern
 patternAt l j = getD (patterns l) j noPattern
@@ -213,6 +219,6 @@ module _ {l : Library} {t : Tree} {rows ss zs : List ℕ} (decoded : Decoded l t
         drawn = drawn (row-held .drawing) measured;
         small = at-hand .drawing .size;
         few = omega (arith, at-hand .drawing .nands, at-hand .cell .few-pins);
-        pinned = λ x i. omega (arith, at-hand .drawing .leaves x i, at-hand .cell .few-pins);
+        pinned = λ x i. let p = at-hand .drawing .leaves x i in (omega (arith, p .0, at-hand .cell .few-pins), p .1);
         subject = subject-everywhere decoded (record { number = n; shape = s }) here;
       }

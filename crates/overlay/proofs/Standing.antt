@@ -1,6 +1,6 @@
 -- A tree's arrays hold each of its subtrees.
-use Prim.Native.Nat.{ℕ, suc, _+_, _<_}
-use mathlib.Core.Path.{_≡_, sym, ap, subst, _∙_}
+use Prim.Native.Nat.{ℕ, suc, _+_, _≤_, _<_}
+use mathlib.Core.Path.{_≡_, refl, sym, ap, subst, _∙_}
 use mathlib.Core.Logic.{⊎-elim}
 use mathlib.Core.List.{List, [], _∷_, _++_, List·Memᴰ, List·Memᴰ·head, List·Memᴰ·tail, List·Memᴰ·not-nil, List·Memᴰ·append-cases}
 use native.Mathlib.Nat.{add-zero, add-suc, suc-add, add-assoc}
@@ -9,11 +9,11 @@ use lib.ListN.{length, getD, replicate, length-append, length-replicate, List·g
 use lib.Seq.{length-sets, getD-append-add}
 use Rattle.shapes.specs.Shape.{symbols, sizes}
 use Rattle.shapes.proofs.Drawn.{length-symbols, length-sizes}
-use Rattle.sheets.specs.Model.{Shape, leaf, inv, nand, size, Library, Tree}
+use Rattle.sheets.specs.Model.{Leaf, arrivalOf, leaves, Shape, leaf, inv, nand, size, Library, Tree}
 use Rattle.sheets.specs.Layout.{padded}
 use Rattle.covers.specs.Tradeoff.{Node, nodes}
-use Rattle.covers.proofs.Nodes.{node-ends}
-use Rattle.overlay.specs.Standing.{Stands, Subject}
+use Rattle.covers.proofs.Nodes.{node-ends, leaves-within}
+use Rattle.overlay.specs.Standing.{Opens, Stands, Subject}
 use Rattle.overlay.specs.Held.{Decoded}
 use Rattle.fields.proofs.Lists.{in-sets}
 
@@ -87,3 +87,13 @@ module _ {l : Library} {t : Tree} {rows ss zs : List ℕ} (d : Decoded l t rows 
     stands = stands-everywhere x m;
     ends = omega (arith, node-ends 0 (t .shape) m, d .tree .size);
   }
+
+  -- The symbol at each node is its shape's.
+  pub opens-everywhere : (x : Node) → List·Memᴰ x (nodes 0 (t .shape)) → Opens (getD ss (x .number) 0) (x .shape)
+  unfolding leaves
+  opens-everywhere x m = go (x .shape) (stands-everywhere x m) (λ y k. d .tree .leaves y (leaves-within 0 (t .shape) m k))
+    where
+      go : (s : Shape) → Stands ss zs (x .number) s → ((y : Leaf) → List·Memᴰ y (leaves s) → (arrivalOf y ≤ 1000000) × (y .drive ≤ 255)) → Opens (getD ss (x .number) 0) s
+      go (leaf y) h k = (h .0, omega (arith, k y (List·Memᴰ·head refl)))
+      go (inv s) h k = h .0
+      go (nand s t) h k = h .0

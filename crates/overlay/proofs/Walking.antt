@@ -11,16 +11,16 @@ use lib.Dec.{eqb}
 use lib.ListN.{getD, length, set, replicate, length-append, length-map, length-set, length-replicate}
 use lib.Pow.{shr-shr}
 use lib.Seq.{getD-set-same, getD-set-other}
-use Rattle.sheets.specs.Layout.{padded, symbolsAt, rowWords}
+use Rattle.sheets.specs.Layout.{padded, symbolsAt}
 use Rattle.sheets.proofs.Laws.{padded-more}
-use Rattle.sheets.specs.Model.{Shape, leaf, inv, nand, size, leaves, nands}
+use Rattle.sheets.specs.Model.{Leaf, pinOf, Shape, leaf, inv, nand, size, leaves, nands}
 use Rattle.covers.specs.Crossing.{exchanged, ordered, redrawnFrom, redrawn}
 use Rattle.covers.specs.Match.{Input, joined, laid}
 use Rattle.covers.proofs.Basics.{each}
 use Rattle.covers.proofs.Matching.{size-pos}
 use Rattle.overlay.specs.declared.Left.{Left}
 use Rattle.overlay.specs.declared.Walked.{Walked}
-use Rattle.overlay.specs.Standing.{Stands, Subject, extent, Drawn}
+use Rattle.overlay.specs.Standing.{Stands, extent, Drawn}
 use Rattle.overlay.specs.Held.{Passable, branched, passed, resumed, WalkedIs, SameBits, WalkIs, Walkable}
 
 -- ---- drawings laid in a row
@@ -99,8 +99,8 @@ firstOf place before p = record { place = place + 1; before = before + 1; shape 
 abbrev secondOf : ℕ → ℕ → Shape → Shape → Part
 secondOf place before p q = record { place = place + 1 + size p; before = before + 1 + nands p; shape = q }
 
-abbrev inputAt : ℕ → ℕ → Shape → Input
-inputAt at x t = record { pin = x; node = at; shape = t }
+abbrev inputAt : ℕ → Leaf → Shape → Input
+inputAt at x t = record { pin = pinOf x; node = at; shape = t }
 
 -- How many leaves some parts have.
 unfoldable partsLeaves : List Part → ℕ
@@ -140,7 +140,7 @@ module _ (row words ss zs : List ℕ) (d s : Shape) (n crossing : ℕ) where
     drawn : Drawn row words (p .place) (p .shape)
     ends : p .place + size (p .shape) ≤ size d
     numbers : p .before + nands (p .shape) ≤ nands d
-    pinned : (x : ℕ) → List·Memᴰ x (leaves (p .shape)) → x < 6
+    pinned : (x : Leaf) → List·Memᴰ x (leaves (p .shape)) → (pinOf x < 6) × (x .drive ≡ 0)
 
   -- What is to be found under a crossing.
   abbrev whole : ℕ → Option (List Input)
@@ -159,14 +159,14 @@ module _ (row words ss zs : List ℕ) (d s : Shape) (n crossing : ℕ) where
     used-few : used ≤ nands d
 
   -- Past the last leaf all inputs are noted.
-  abreast-end : {used : ℕ} {noted : List Input} {place before at x : ℕ} {t : Shape} {ts : List Shape} → Abreast used noted place before (leaf x) [] at t ts →
+  abreast-end : {used : ℕ} {noted : List Input} {place before at : ℕ} {x : Leaf} {t : Shape} {ts : List Shape} → Abreast used noted place before (leaf x) [] at t ts →
       (y : ℕ) → SameBits used crossing y → whole y ≡ some (noted ++ (inputAt at x t ∷ []))
   unfolding redrawnFrom laid laidInRow
   abreast-end {noted} {at} {x} {t} a y e = a .finds y e ∙ noting noted (inputAt at x t) (some []) ∙ (unfold joined in ap {B = Option (List Input)} some (append-nil (noted ++ (inputAt at x t ∷ []))))
 
   module _ (few : nands d ≤ 5) {used : ℕ} {noted : List Input} {place before : ℕ} {ps : List Part} {at : ℕ} where
     -- Past another leaf the part that waits is next.
-    abreast-skip : {x : ℕ} {t t′ : Shape} {ts : List Shape} {p : Part} → Abreast used noted place before (leaf x) (p ∷ ps) at t (t′ ∷ ts) →
+    abreast-skip : {x : Leaf} {t t′ : Shape} {ts : List Shape} {p : Part} → Abreast used noted place before (leaf x) (p ∷ ps) at t (t′ ∷ ts) →
         Abreast used (noted ++ (inputAt at x t ∷ [])) (p .place) (p .before) (p .shape) ps (at + size t) t′ ts
     unfolding redrawnFrom laid laidInRow partsLeaves rowSize nands
     abreast-skip {x} {t} {t′} {ts} {p} a = record {
@@ -485,7 +485,7 @@ module _ (row words ss zs : List ℕ) (d s : Shape) (n crossing : ℕ) where
           go (nand p q) (nand t u) a = branches p q t u a (exchanged crossing (g .before)) refl
 
       -- Past a pattern's leaf its input is noted.
-      module _ (x : ℕ) where
+      module _ (x : Leaf) where
         abbrev noted′ : List Input
         noted′ = g .noted ++ (inputAt at x (g .t) ∷ [])
 
@@ -525,7 +525,7 @@ module _ (row words ss zs : List ℕ) (d s : Shape) (n crossing : ℕ) where
                 stacked = m .1;
                 waiting-long = g .waiting-long;
                 count-is = count-noted x;
-                pins-are = array-noted x (λ i. i .pin) _ (g .pins-are) (omega (arith, symbol-is (a .first .drawn)));
+                pins-are = array-noted x (λ i. i .pin) _ (g .pins-are) (omega (arith, symbol-is (a .first .drawn), a .first .pinned x (unfold leaves in List·Memᴰ·head refl)));
                 nodes-are = array-noted x (λ i. i .node) _ (g .nodes-are) refl;
               }
 
@@ -542,7 +542,7 @@ module _ (row words ss zs : List ℕ) (d s : Shape) (n crossing : ℕ) where
             found-is = rw (abreast-end a crossing refl) record {
               matches = refl;
               count-is = count-noted x;
-              pins-are = array-noted x (λ i. i .pin) _ (g .pins-are) (omega (arith, symbol-is (a .first .drawn)));
+              pins-are = array-noted x (λ i. i .pin) _ (g .pins-are) (omega (arith, symbol-is (a .first .drawn), a .first .pinned x (unfold leaves in List·Memᴰ·head refl)));
               nodes-are = array-noted x (λ i. i .node) _ (g .nodes-are) refl;
             };
             used-few = a .used-few;

@@ -7,10 +7,10 @@ use mathlib.Core.List.{List, map, List·Memᴰ}
 use mathlib.Core.Option.{Option, none, some}
 use lib.ListN.{getD, length, set}
 use lib.Dec.{eqb}
-use Rattle.shapes.specs.Shape.{symbols, sizes}
+use Rattle.shapes.specs.Shape.{driveUnit, leafSymbol, symbols, sizes}
 use Rattle.sheets.specs.declared.library.LibraryRecord.{LibraryRecord}
 use Rattle.sheets.specs.declared.tree.TreeRecord.{TreeRecord}
-use Rattle.sheets.specs.Model.{Shape, size, leaves, nands, Pin, Cell, Library, Pattern, Tree}
+use Rattle.sheets.specs.Model.{Leaf, pinOf, Shape, size, leaves, nands, Pin, Cell, Library, Pattern, Tree}
 use Rattle.sheets.specs.Sound.{SoundCell, SoundLibrary, SoundTree}
 use Rattle.sheets.specs.Layout.{padded, heldAt, areaAt, highestAt, pinWords, figuresAt, rowWords, patternTable, libraryLaid, treeLaid}
 use Rattle.covers.specs.Crossing.{exchanged, redrawn}
@@ -21,9 +21,13 @@ use Rattle.overlay.specs.Standing.{Subject, DrawingHeld, Drawn}
 
 -- ---- a leaf
 
--- The greatest symbol: 2 more than the latest arrival of a leaf.
+-- The leaf that a symbol stands for, taken apart.
+unfoldable pub leafOf : ℕ → Leaf
+leafOf symbol = record { number = (symbol - 2) % driveUnit; drive = (symbol - 2) / driveUnit }
+
+-- The greatest symbol: that of a leaf with the latest arrival and the greatest drive.
 abbrev pub symbolLimit : ℕ
-symbolLimit = 1000002
+symbolLimit = leafSymbol (record { number = 1000000; drive = 255 })
 
 -- ---- a pattern's row
 
@@ -88,7 +92,7 @@ pub record Walkable (row words ss zs : List ℕ) (n : ℕ) (d s : Shape) : Type 
   pub drawn : Drawn row words 0 d
   pub small : size d ≤ 16
   pub few : nands d ≤ 5
-  pub pinned : (x : ℕ) → List·Memᴰ x (leaves d) → x < 6
+  pub pinned : (x : Leaf) → List·Memᴰ x (leaves d) → (pinOf x < 6) × (x .drive ≡ 0)
   pub subject : Subject ss zs n s
 
 -- A walk found these inputs.

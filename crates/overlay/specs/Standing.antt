@@ -3,10 +3,16 @@ use Prim.Native.Nat.{ℕ, suc, _+_, _*_, _≤_, _<_}
 use mathlib.Core.Path.{_≡_}
 use mathlib.Core.List.{List, List·Memᴰ}
 use lib.ListN.{getD, length}
-use Rattle.shapes.specs.Shape.{symbols as symbolsOf, invSymbol, nandSymbol, leafSymbol}
-use Rattle.sheets.specs.Model.{Shape, leaf, inv, nand, size, nands}
+use Rattle.shapes.specs.Shape.{driveUnit, symbols as symbolsOf, invSymbol, nandSymbol, leafSymbol}
+use Rattle.sheets.specs.Model.{arrivalOf, Shape, leaf, inv, nand, size, nands}
 use Rattle.sheets.specs.Layout.{sizeAt, symbolsAt, rowWords}
 use Rattle.covers.specs.Tradeoff.{Node, nodes}
+
+-- The symbol of a shape's first node; a tree's leaf can be told from it.
+abbrev pub Opens : ℕ → Shape → Type 0
+Opens symbol (leaf x) = (symbol ≡ leafSymbol x) × (arrivalOf x < driveUnit)
+Opens symbol (inv s) = symbol ≡ invSymbol
+Opens symbol (nand s t) = symbol ≡ nandSymbol
 
 module _ (symbols sizes : List ℕ) where
   -- From node n on: a NAND's second branch stands after all of its first.

@@ -1,4 +1,5 @@
 // A pattern laid over a node of the subject tree under a crossing: the inputs that it finds there. And when a leaf arrives.
+use shapes::Packed;
 use sheets::library::PatternRow;
 ghost use mathlib.Core.Path.{_≡_};
 ghost use Prim.Native.Nat.{_+_, _-_, _<_, _≤_, max};
@@ -7,7 +8,7 @@ ghost use Rattle.covers.specs.Crossing.{exchanged, crossingLimit};
 ghost use Rattle.covers.specs.Cover.{leafArrival};
 ghost use Rattle.covers.specs.Curve.{base};
 ghost use Rattle.overlay.specs.Standing.{extent, Extending, DrawingHeld, Measured};
-ghost use Rattle.overlay.specs.Held.{symbolLimit, Passable, passed, resumed, Walkable, WalkIs};
+ghost use Rattle.overlay.specs.Held.{leafOf, symbolLimit, Passable, passed, resumed, Walkable, WalkIs};
 
 // How many crossing numbers there are: five bits, the first the highest.
 pub struct Crossing {}
@@ -191,10 +192,11 @@ pub fn walk<'a>(
     }
 }
 
-// When a leaf arrives under the load that it drives: the one place that knows.
+// When a leaf arrives under the load that it drives: the one place that knows, and where a leaf's two numbers are taken apart.
 pub fn leaf_arrival(symbol: u32, load: u32) -> u64
     requires { ⌜ (2 ≤ symbol) × (symbol ≤ symbolLimit) × (load ≤ 255) ⌝ }
-    ensures { λ r. ⌜ (r ≡ leafArrival (symbol - 2) load) × (r < base) ⌝ }
+    ensures { λ r. ⌜ (r ≡ leafArrival (leafOf symbol) load) × (r < base) ⌝ }
 {
-    (symbol - 2) as u64
+    let packed = symbol - Packed::LEAF;
+    (packed % Packed::DRIVE + packed / Packed::DRIVE * load) as u64
 }

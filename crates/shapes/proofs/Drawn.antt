@@ -16,8 +16,8 @@ use Rattle.fields.specs.declared.Scan.the-variants.{At, Refused}
 use Rattle.fields.specs.declared.Fault.the-variants.{Range, Drawing}
 use Rattle.fields.specs.declared.Verdict.the-variants.{Sound, Faulty}
 use Rattle.fields.specs.Reading.{Reader, place, field}
-use Rattle.shapes.specs.Shape.{Shape, leaf, inv, nand, size, leaves, nands, symbols, sizes, leafSymbol}
-use Rattle.shapes.specs.Drawing.{elem, leafVerdict, leafNode, pair, branch, node}
+use Rattle.shapes.specs.Shape.{Shape, leaf, inv, nand, size, leaves, nands, symbols, sizes, leafSymbol, pinSymbol, plain}
+use Rattle.shapes.specs.Drawing.{elem, leafVerdict, leafNode, drivenNode, pair, branch, node}
 use Rattle.fields.proofs.Lists.{sets-append, take-sets}
 use Rattle.fields.specs.Promises.{Live}
 use Rattle.shapes.specs.Promises.{Reached, Coded, Laid, Went, LeafRead, NodeRead, PairRead}
@@ -26,15 +26,19 @@ use Rattle.shapes.specs.Promises.{Reached, Coded, Laid, Went, LeafRead, 
 
 -- A leaf that passes has a number in range, and a pattern's pin stands at no leaf before.
 pub leaf-passes : (rules : Rules) (seen : List ℕ) (x : ℕ) → leafVerdict rules seen x ≡ Sound →
-    (x ≤ rules .most) × (rules .pattern ≡ true → elem (leafSymbol x) seen ≡ false)
+    (x ≤ rules .most) × (rules .pattern ≡ true → elem (pinSymbol x) seen ≡ false)
 unfolding leafVerdict
-leaf-passes rules seen x e = go (leb x (rules .most)) (rules .pattern) (elem (leafSymbol x) seen) refl e
+leaf-passes rules seen x e = go (leb x (rules .most)) (rules .pattern) (elem (pinSymbol x) seen) refl e
   where
     go : (a b k : Bool) → leb x (rules .most) ≡ a → cond a (cond (b && k) (Faulty Drawing) Sound) (Faulty Range) ≡ Sound → (x ≤ rules .most) × (b ≡ true → k ≡ false)
     go true true true ea e = let z : _≡_ {A = ℕ} 0 1 = cc in absurd (omega arith)
     go true true false ea e = (leb-true x (rules .most) ea, λ p. refl)
     go true false k ea e = (leb-true x (rules .most) ea, λ p. cc)
     go false b k ea e = let z : _≡_ {A = ℕ} 0 1 = cc in absurd (omega arith)
+
+-- A leaf with no drive is its number.
+pub plain-symbol : (x : ℕ) → leafSymbol (plain x) ≡ pinSymbol x
+plain-symbol x = omega arith
 
 -- A leaf whose number was read as the value v.
 pub leaf-laid : (s : List ℕ) (rules : Rules) (scan : Scan) (n v : ℕ) (l : List ℕ) (r : Reached) → r .next ≡ suc n →
@@ -43,7 +47,7 @@ pub leaf-laid : (s : List ℕ) (rules : Rules) (scan : Scan) (n v : ℕ) (l : Li
 unfolding leafNode symbols
 leaf-laid s rules scan n v l r h e = record {
   scan = ap (λ (x : ℕ × Scan). x .1) e;
-  symbols = λ x. ap (λ (x : ℕ × Scan). set l n (2 + x .0)) e;
+  symbols = λ x. ap (set l n) (sym (plain-symbol v)) ∙ ap (λ (x : ℕ × Scan). set l n (leafSymbol (plain (x .0)))) e;
   next = λ x. omega arith;
 }
 
@@ -93,6 +97,10 @@ module _ (s : List ℕ) (rules : Rules) (f : List ℕ → Reader Shape) (seen : 
   unfolding branch
   leaf-branch = refl
 
+  driven-branch : branch s rules f seen 3 c ≡ drivenNode s rules seen c
+  unfolding branch
+  driven-branch = refl
+
   inv-branch : let y = f (seen ++ (0 ∷ [])) c in branch s rules f seen 1 c ≡ (inv (y .0), y .1)
   unfolding branch
   inv-branch = refl
@@ -134,21 +142,29 @@ module _ (s : List ℕ) (rules : Rules) (scan : Scan) (n : ℕ) (l : List ℕ) (
         next = λ x. absurd (h x);
       }
 
-  pub node-leaf : (l′ : List ℕ) (r : Reached) → got .value ≡ 0 → Live (got .scan) → LeafRead s rules (got .scan) n l l′ r → NodeRead s rules scan n l l′ r
-  node-leaf l′ r e a h = record { laid = laid; went = went (live? (r .scan)) }
+  -- A leaf, driven or not, by what follows its code k.
+  leaf-node : (k bits : ℕ) (read : List ℕ → Reader Shape) → ((d : ℕ) → branch s rules (node s rules d) (take n l) k (got .scan) ≡ read (take n l) (got .scan)) → bits ≤ 28 →
+      (l′ : List ℕ) (r : Reached) → got .value ≡ k → Live (got .scan) → LeafRead s rules (got .scan) n l l′ r bits read → NodeRead s rules scan n l l′ r
+  leaf-node k bits read eb few-bits l′ r e a h = record {
+    laid = laid;
+    went = record {
+      from = h .from;
+      upto = omega (arith, h .upto, code .room a);
+      far = omega (arith, h .near, code .room a, code .reads .near);
+      near = λ z. omega (arith, h .went z, code .room a, h .near, code .reads .near);
+    };
+  }
     where
       laid : (depth : ℕ) → rules .nodes - n < depth → let x = node s rules depth (take n l) scan in Laid n l l′ r (x .1) (symbols (x .0))
       laid zero k = absurd (omega arith)
-      laid (suc d) k = subst (λ (x : Shape × Scan). Laid n l l′ r (x .1) (symbols (x .0))) (sym (node-code d 0 e ∙ leaf-branch s rules (node s rules d) (take n l) (got .scan))) (h .laid)
+      laid (suc d) j = subst (λ (x : Shape × Scan). Laid n l l′ r (x .1) (symbols (x .0))) (sym (node-code d k e ∙ eb d)) (h .laid)
 
-      went : Dec (Live (r .scan)) → Went rules scan n r
-      went (yes z) = record {
-        from = omega (arith, h .went z);
-        upto = omega (arith, h .went z, code .room a);
-        far = omega (arith, h .near, code .room a, code .reads .near);
-        near = λ x. omega (arith, h .went z, code .room a, h .near, code .reads .near);
-      }
-      went (no z) = record { from = omega (arith, h .stays z .1); upto = omega (arith, h .stays z .1); far = omega (arith, h .stays z, code .room a, code .reads .near); near = λ x. absurd (z x) }
+  module _ (l′ : List ℕ) (r : Reached) where
+    pub node-leaf : got .value ≡ 0 → Live (got .scan) → LeafRead s rules (got .scan) n l l′ r 20 (leafNode s rules) → NodeRead s rules scan n l l′ r
+    node-leaf = leaf-node 0 20 (leafNode s rules) (λ d. leaf-branch s rules (node s rules d) (take n l) (got .scan)) (omega arith) l′ r
+
+    pub node-driven : got .value ≡ 3 → Live (got .scan) → LeafRead s rules (got .scan) n l l′ r 28 (drivenNode s rules) → NodeRead s rules scan n l l′ r
+    node-driven = leaf-node 3 28 (drivenNode s rules) (λ d. driven-branch s rules (node s rules d) (take n l) (got .scan)) (omega arith) l′ r
 
   -- A gate and what is below it, which was read from the scan after the code.
   gate-went : (r : Reached) → 0 < got .value → Went rules (got .scan) (n + 1) r → Went rules scan n r

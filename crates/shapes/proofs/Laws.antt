@@ -27,25 +27,37 @@ use Rattle.shapes.specs.Promises.{Coded, faultOf, verdictOf, outcome, cu
 use Rattle.shapes.specs.declared.Rules.{Rules}
 use Rattle.shapes.specs.Drawing.{codeVerdict}
 
-pub code-room : (rules : Rules) (n code : ℕ) → codeVerdict rules n code ≡ Sound → (n < rules .nodes) × (code ≤ 2)
+-- A code that passes: there is room for its node, and a pattern has no driven leaf.
+pub code-room : (rules : Rules) (n code : ℕ) → codeVerdict rules n code ≡ Sound → (n < rules .nodes) × (rules .pattern ≡ true → code ≤ 2)
 unfolding codeVerdict
-code-room rules n code e = go (leb (rules .nodes) n) (leb 3 code) refl refl e
+code-room rules n code e = go (leb (rules .nodes) n) (rules .pattern) (leb 3 code) refl refl e
   where
-    go : (a b : Bool) → leb (rules .nodes) n ≡ a → leb 3 code ≡ b →
-        cond a (Faulty Size) (cond b (Faulty Range) (cond (rules .pattern && (eqb n 0 && eqb code 0)) (Faulty Drawing) Sound)) ≡ Sound → (n < rules .nodes) × (code ≤ 2)
-    go true b ea eb e = let z : _≡_ {A = ℕ} 0 1 = cc in absurd (omega arith)
-    go false true ea eb e = let z : _≡_ {A = ℕ} 0 1 = cc in absurd (omega arith)
-    go false false ea eb e = (leb-false (rules .nodes) n ea, omega (arith, leb-false 3 code eb))
+    no-pattern : _≡_ {A = Bool} false true → ⊥
+    no-pattern q = let z : _≡_ {A = ℕ} 0 1 = cc in absurd (omega arith)
 
-pub coded : (s : List ℕ) (rules : Rules) (scan : Scan) (n : ℕ) (r : Got) → Reads r (field s 2 (codeVerdict rules n) scan) (place scan + 2) 2 → Coded s rules scan n r
+    go : (a p b : Bool) → leb (rules .nodes) n ≡ a → leb 3 code ≡ b →
+        cond a (Faulty Size) (cond (p && b) (Faulty Range) (cond (p && (eqb n 0 && eqb code 0)) (Faulty Drawing) Sound)) ≡ Sound → (n < rules .nodes) × (p ≡ true → code ≤ 2)
+    go true p b ea eb e = let z : _≡_ {A = ℕ} 0 1 = cc in absurd (omega arith)
+    go false true true ea eb e = let z : _≡_ {A = ℕ} 0 1 = cc in absurd (omega arith)
+    go false true false ea eb e = (leb-false (rules .nodes) n ea, λ q. omega (arith, leb-false 3 code eb))
+    go false false b ea eb e = (leb-false (rules .nodes) n ea, λ q. absurd (no-pattern q))
+
+pub coded : (s : List ℕ) (rules : Rules) (scan : Scan) (n : ℕ) (r : Got) → Reads r (field s 2 (codeVerdict rules n) scan) (place scan + 2) 3 → Coded s rules scan n r
 coded s rules scan n r h =
     let v = codeVerdict rules n in
+    let passes : Live (r .scan) → (n < rules .nodes) × (rules .pattern ≡ true → field s 2 v scan .0 ≤ 2) = λ l. code-room rules n (field s 2 v scan .0) (live-sound s 2 v scan (subst Live (h .scan) l) .0) in
+    let gate : 0 < r .value → Live (r .scan) = λ g. subst Live (sym (h .scan)) (positive-live s 2 v scan (rw (← h .value) g)) in
     record {
       reads = h;
-      gate = λ g. subst Live (sym (h .scan)) (positive-live s 2 v scan (rw (← h .value) g));
-      room = λ l. code-room rules n (field s 2 v scan .0) (live-sound s 2 v scan (subst Live (h .scan) l) .0) .0;
+      gate = gate;
+      tree = λ e. no-driven (rules .pattern) (λ q. omega (arith, h .value, passes (gate (omega arith)) .1 q));
+      room = λ l. passes l .0;
       stays = λ d. rw (h .scan) (dead-stays s 2 v scan (λ l. d (subst Live (sym (h .scan)) l)));
     }
+  where
+    no-driven : (p : Bool) → (p ≡ true → ⊥) → p ≡ false
+    no-driven true h = absurd (h refl)
+    no-driven false h = refl
 
 -- ---- how a reader ends
 

@@ -3,6 +3,7 @@ pub mod Laws
 pub mod Pins
 pub mod Marks
 pub mod Drawn
+pub mod Driven
 pub mod Steps
 pub mod Nodes
 pub mod Shifted

@@ -15,7 +15,7 @@ use borrow.Author.Tests.{eq-eqb, ne-eqb, leb-true}
 use Rattle.fields.specs.declared.Fault.the-variants.{Range, Drawing}
 use Rattle.fields.specs.declared.Verdict.the-variants.{Sound, Faulty}
 use Rattle.shapes.specs.declared.Rules.{Rules}
-use Rattle.shapes.specs.Shape.{leafSymbol}
+use Rattle.shapes.specs.Shape.{pinSymbol}
 use Rattle.shapes.specs.Drawing.{elem, hasAll, leafVerdict}
 use Rattle.shapes.specs.Promises.{cursorOf, nextOf, pinsOf, Met, Marked, allMarked, markVerdict}
 use Rattle.shapes.proofs.Pins.{elem-append}
@@ -25,11 +25,11 @@ use Rattle.shapes.proofs.Pins.{elem-append}
 -- A leaf's number by its mark is a leaf's number after the symbols seen.
 pub mark-leaf : (rules : Rules) (pins seen : List ℕ) (x : ℕ) → Met rules pins seen → markVerdict rules (getD pins x 0) x ≡ leafVerdict rules seen x
 unfolding leafVerdict
-mark-leaf rules pins seen x met = go (leb x (rules .most)) (rules .pattern) (elem (leafSymbol x) seen) refl refl refl
+mark-leaf rules pins seen x met = go (leb x (rules .most)) (rules .pattern) (elem (pinSymbol x) seen) refl refl refl
   where
-    go : (a b k : Bool) → leb x (rules .most) ≡ a → rules .pattern ≡ b → elem (leafSymbol x) seen ≡ k →
+    go : (a b k : Bool) → leb x (rules .most) ≡ a → rules .pattern ≡ b → elem (pinSymbol x) seen ≡ k →
         cond (leb x (rules .most)) (cond (rules .pattern) (cond (eqb (getD pins x 0) 0) Sound (Faulty Drawing)) Sound) (Faulty Range)
-        ≡ cond (leb x (rules .most)) (cond (rules .pattern && elem (leafSymbol x) seen) (Faulty Drawing) Sound) (Faulty Range)
+        ≡ cond (leb x (rules .most)) (cond (rules .pattern && elem (pinSymbol x) seen) (Faulty Drawing) Sound) (Faulty Range)
     go false b k ea eb ek = rw ea refl
     go true false k ea eb ek = rw (ea, eb) refl
     go true true k ea eb ek = rw (ea, eb, met eb x (leb-true x (rules .most) ea), ek) (hit k)
@@ -39,11 +39,11 @@ mark-leaf rules pins seen x met = go (leb x (rules .most)) (rules .pattern) (ele
         hit false = refl
 
 -- All of the first pins are marked exactly when all were seen.
-marked-all : (pins nodes : List ℕ) (n : ℕ) → ((x : ℕ) → x < n → getD pins x 0 ≡ cond (elem (leafSymbol x) nodes) 1 0) → allMarked n pins ≡ hasAll n nodes
+marked-all : (pins nodes : List ℕ) (n : ℕ) → ((x : ℕ) → x < n → getD pins x 0 ≡ cond (elem (pinSymbol x) nodes) 1 0) → allMarked n pins ≡ hasAll n nodes
 unfolding allMarked hasAll
 marked-all pins nodes zero met = refl
 marked-all pins nodes (suc n) met =
-    rw (met n (omega arith), marked-all pins nodes n (λ x h. met x (omega arith))) (go (elem (leafSymbol n) nodes) (hasAll n nodes))
+    rw (met n (omega arith), marked-all pins nodes n (λ x h. met x (omega arith))) (go (elem (pinSymbol n) nodes) (hasAll n nodes))
   where
     go : (k b : Bool) → cond (eqb (cond k 1 0) 0) false b ≡ (b && k)
     go true true = refl
@@ -84,15 +84,15 @@ last-seen : (x v : ℕ) (seen : List ℕ) → elem x (seen ++ (v ∷ [])) ≡ (e
 unfolding elem
 last-seen x v seen = elem-append x seen (v ∷ []) ∙ ap (λ (b : Bool). elem x seen || b) (or-false (eqb x v))
 
-seen-next : (l : List ℕ) (n v x : ℕ) → n < length l → elem (leafSymbol x) (take (n + 1) (set l n v)) ≡ (elem (leafSymbol x) (take n l) || eqb (leafSymbol x) v)
-seen-next l n v x len = rw add-one (rw (take-suc-set l n v len) (last-seen (leafSymbol x) v (take n l)))
+seen-next : (l : List ℕ) (n v x : ℕ) → n < length l → elem (pinSymbol x) (take (n + 1) (set l n v)) ≡ (elem (pinSymbol x) (take n l) || eqb (pinSymbol x) v)
+seen-next l n v x len = rw add-one (rw (take-suc-set l n v len) (last-seen (pinSymbol x) v (take n l)))
 
 -- A gate has no pin.
 pub met-gate : (rules : Rules) (pins l : List ℕ) (n v : ℕ) → v ≤ 1 → n < length l → Met rules pins (take n l) → Met rules pins (take (n + 1) (set l n v))
 met-gate rules pins l n v h len met p x b =
-    let none : eqb (leafSymbol x) v ≡ false = ne-eqb (leafSymbol x) v (λ e. omega arith) in
-    let seen : elem (leafSymbol x) (take (n + 1) (set l n v)) ≡ elem (leafSymbol x) (take n l) =
-    seen-next l n v x len ∙ ap (λ (k : Bool). elem (leafSymbol x) (take n l) || k) none ∙ or-false (elem (leafSymbol x) (take n l)) in
+    let none : eqb (pinSymbol x) v ≡ false = ne-eqb (pinSymbol x) v (λ e. omega arith) in
+    let seen : elem (pinSymbol x) (take (n + 1) (set l n v)) ≡ elem (pinSymbol x) (take n l) =
+    seen-next l n v x len ∙ ap (λ (k : Bool). elem (pinSymbol x) (take n l) || k) none ∙ or-false (elem (pinSymbol x) (take n l)) in
     met p x b ∙ ap (λ (k : Bool). cond k 1 0) (sym seen)
 
 -- A leaf's pin is marked.
@@ -104,17 +104,17 @@ met-leaf rules words words′ l n y lw ly len mk met p x b =
     pins : pinsOf words′ ≡ set (pinsOf words) y 1
     pins = ap pinsOf (mk ∙ ap (λ (k : Bool). cond k (set words (3 + y) 1) words) p) ∙ drop-set-add 3 words y 1
 
-    seen : elem (leafSymbol x) (take (n + 1) (set l n (2 + y))) ≡ (elem (leafSymbol x) (take n l) || eqb (leafSymbol x) (2 + y))
+    seen : elem (pinSymbol x) (take (n + 1) (set l n (2 + y))) ≡ (elem (pinSymbol x) (take n l) || eqb (pinSymbol x) (2 + y))
     seen = seen-next l n (2 + y) x len
 
-    go : Dec (x ≡ y) → getD (set (pinsOf words) y 1) x 0 ≡ cond (elem (leafSymbol x) (take (n + 1) (set l n (2 + y)))) 1 0
+    go : Dec (x ≡ y) → getD (set (pinsOf words) y 1) x 0 ≡ cond (elem (pinSymbol x) (take (n + 1) (set l n (2 + y)))) 1 0
     go (yes e) =
         let long : y < length (pinsOf words) = omega (arith, length-drop 3 words) in
-        let hit : elem (leafSymbol x) (take (n + 1) (set l n (2 + y))) ≡ true = seen ∙ ap (λ (k : Bool). elem (leafSymbol x) (take n l) || k) (eq-eqb (leafSymbol x) (2 + y) (ap leafSymbol e)) ∙ or-true (elem (leafSymbol x) (take n l)) in
+        let hit : elem (pinSymbol x) (take (n + 1) (set l n (2 + y))) ≡ true = seen ∙ ap (λ (k : Bool). elem (pinSymbol x) (take n l) || k) (eq-eqb (pinSymbol x) (2 + y) (ap pinSymbol e)) ∙ or-true (elem (pinSymbol x) (take n l)) in
         ap (λ (k : ℕ). getD (set (pinsOf words) y 1) k 0) e ∙ getD-set-same (pinsOf words) y 1 0 long ∙ sym (ap (λ (k : Bool). cond k 1 0) hit)
     go (no e) =
-        let miss : elem (leafSymbol x) (take (n + 1) (set l n (2 + y))) ≡ elem (leafSymbol x) (take n l) =
-        seen ∙ ap (λ (k : Bool). elem (leafSymbol x) (take n l) || k) (ne-eqb (leafSymbol x) (2 + y) (λ q. e (omega arith))) ∙ or-false (elem (leafSymbol x) (take n l)) in
+        let miss : elem (pinSymbol x) (take (n + 1) (set l n (2 + y))) ≡ elem (pinSymbol x) (take n l) =
+        seen ∙ ap (λ (k : Bool). elem (pinSymbol x) (take n l) || k) (ne-eqb (pinSymbol x) (2 + y) (λ q. e (omega arith))) ∙ or-false (elem (pinSymbol x) (take n l)) in
         getD-set-other (pinsOf words) y x 1 0 e ∙ met p x b ∙ sym (ap (λ (k : Bool). cond k 1 0) miss)
 
 -- A mark leaves the cursor and the count.

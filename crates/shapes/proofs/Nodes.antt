@@ -11,10 +11,11 @@ use Rattle.fields.specs.declared.Scan.the-variants.{At}
 use Rattle.fields.specs.Promises.{Live}
 use Rattle.shapes.specs.declared.Rules.{Rules}
 use Rattle.shapes.specs.declared.NodeCode.the-variants.{Code, Faulty}
-use Rattle.shapes.specs.Promises.{Met, outcome, cursorOf, nextOf, pinsOf, codeGot, Reached, reached, Inside, Room, LeafRoom, CodeRead, LeafRead, NodeRead, PairRead, Kept}
+use Rattle.shapes.specs.Promises.{plainBits, leafBits, Met, outcome, cursorOf, nextOf, pinsOf, codeGot, Reached, reached, Inside, Room, LeafRoom, CodeRead, LeafRead, NodeRead, PairRead, Kept}
 use Rattle.shapes.proofs.Laws.{outcome-dead, outcome-place, counted-cursor, counted-next, counted-pins}
 use Rattle.shapes.proofs.Marks.{met-gate}
-use Rattle.shapes.proofs.Drawn.{node-refused, node-leaf, node-inv, node-nand, dead-read, pair-read}
+use Rattle.shapes.specs.Drawing.{leafNode, drivenNode}
+use Rattle.shapes.proofs.Drawn.{node-refused, node-leaf, node-driven, node-inv, node-nand, dead-read, pair-read}
 
 pub room-inside : {e : List ℕ} {bytes : ℕ} {rules : Rules} {words l : List ℕ} → Room e bytes rules words l → Inside words
 unfolding placeOf
@@ -44,20 +45,28 @@ module _ {e : List ℕ} {bytes : ℕ} {rules : Rules} {words l : List ℕ} (room
     leaf-room s k code = record {
       rules-are = room .rules-are;
       opened = room .opened;
+      long = code .long;
       wide = room .wide;
       room = omega (arith, code .next, in-room s k code);
-      inside = (code .long, code .used, omega (arith, code .coded .reads .near, room .near));
+      used = code .used;
+      near = omega (arith, code .coded .reads .near, room .near, in-room s k code);
       met = subst (λ (n : ℕ). Met rules (pinsOf words₁) (take n l)) (sym (code .next)) (subst (λ (ps : List ℕ). Met rules ps (take (nextOf words) l)) (sym (code .pins)) (room .met));
     }
 
-    pub leaf-done : (s : List ℕ) (k : ℕ) (l′ : List ℕ) (r : Reached) → k ≡ 0 → CodeRead s rules words words₁ (Code k) → LeafRead s rules (At (cursorOf words₁)) (nextOf words₁) l l′ r →
-        NodeRead s rules (At (cursorOf words)) (nextOf words) l l′ r
+    pub leaf-done : (s : List ℕ) (k : ℕ) (l′ : List ℕ) (r : Reached) → k ≡ 0 → CodeRead s rules words words₁ (Code k) →
+        LeafRead s rules (At (cursorOf words₁)) (nextOf words₁) l l′ r plainBits (leafNode s rules) → NodeRead s rules (At (cursorOf words)) (nextOf words) l l′ r
     leaf-done s k l′ r z code h =
         node-leaf s rules (At (cursorOf words)) (nextOf words) l (room .read) few (codeGot (Code k) words₁) (code .coded) l′ r z tt
-        (subst (λ (n : ℕ). LeafRead s rules (At (cursorOf words₁)) n l l′ r) (code .next) h)
+        (subst (λ (n : ℕ). LeafRead s rules (At (cursorOf words₁)) n l l′ r plainBits (leafNode s rules)) (code .next) h)
+
+    pub driven-done : (s : List ℕ) (k : ℕ) (l′ : List ℕ) (r : Reached) → k ≡ 3 → CodeRead s rules words words₁ (Code k) →
+        LeafRead s rules (At (cursorOf words₁)) (nextOf words₁) l l′ r leafBits (drivenNode s rules) → NodeRead s rules (At (cursorOf words)) (nextOf words) l l′ r
+    driven-done s k l′ r z code h =
+        node-driven s rules (At (cursorOf words)) (nextOf words) l (room .read) few (codeGot (Code k) words₁) (code .coded) l′ r z tt
+        (subst (λ (n : ℕ). LeafRead s rules (At (cursorOf words₁)) n l l′ r leafBits (drivenNode s rules)) (code .next) h)
 
     -- A gate: its symbol, and the node counted.
-    module _ (s : List ℕ) (k : ℕ) (code : CodeRead s rules words words₁ (Code k)) where
+    module _ (s : List ℕ) (k : ℕ) (small : k ≤ 2) (code : CodeRead s rules words words₁ (Code k)) where
       abbrev counted : List ℕ
       counted = set words₁ 2 (nextOf words₁ + 1)
 
@@ -76,9 +85,6 @@ module _ {e : List ℕ} {bytes : ℕ} {rules : Rules} {words l : List ℕ} (room
       pub gate-in-room : nextOf words < rules .nodes
       gate-in-room = in-room s k code
 
-      pub gate-small : k ≤ 2
-      gate-small = code .coded .reads .small
-
       pub gate-room : Room e bytes rules counted drawn
       gate-room = record {
         rules-are = room .rules-are;
@@ -91,7 +97,7 @@ module _ {e : List ℕ} {bytes : ℕ} {rules : Rules} {words l : List ℕ} (room
         met = subst (λ (n : ℕ). Met rules (pinsOf counted) (take n drawn)) (sym next-is)
             (subst (λ (ps : List ℕ). Met rules ps (take (nextOf words + 1) drawn)) (sym (counted-pins (nextOf words₁ + 1) words₁ ∙ code .pins))
             (subst (λ (n : ℕ). Met rules (pinsOf words) (take (nextOf words + 1) (set l n (k - 1)))) (sym (code .next))
-            (met-gate rules (pinsOf words) l (nextOf words) (k - 1) (omega (arith, gate-small)) (omega (arith, few, gate-in-room)) (room .met))));
+            (met-gate rules (pinsOf words) l (nextOf words) (k - 1) (omega arith) (omega (arith, few, gate-in-room)) (room .met))));
       }
 
       -- What was read after the gate, from the place and with the number that it was read at.

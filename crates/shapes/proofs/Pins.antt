@@ -8,7 +8,7 @@ use native.Mathlib.Nat.{eq-or-lt-of-le, le-of-suc-le-suc}
 use native.Mathlib.Omega.{arith}
 use lib.Dec.{eqb}
 use borrow.Author.Tests.{eq-eqb}
-use Rattle.shapes.specs.Shape.{leafSymbol}
+use Rattle.shapes.specs.Shape.{pinSymbol}
 use Rattle.shapes.specs.Drawing.{elem}
 
 pub elem-append : (x : ℕ) (a b : List ℕ) → elem x (a ++ b) ≡ (elem x a || elem x b)
@@ -35,24 +35,24 @@ new-append false false r = omega arith
 -- How many of the first n pins are new.
 unfoldable pub fresh : ℕ → List ℕ → List ℕ → ℕ
 fresh zero seen run = 0
-fresh (suc n) seen run = new (elem (leafSymbol n) seen) (elem (leafSymbol n) run) + fresh n seen run
+fresh (suc n) seen run = new (elem (pinSymbol n) seen) (elem (pinSymbol n) run) + fresh n seen run
 
 pub fresh-few : (n : ℕ) (seen run : List ℕ) → fresh n seen run ≤ n
 unfolding fresh
 fresh-few zero seen run = omega arith
-fresh-few (suc n) seen run = omega (arith, new-few (elem (leafSymbol n) seen) (elem (leafSymbol n) run), fresh-few n seen run)
+fresh-few (suc n) seen run = omega (arith, new-few (elem (pinSymbol n) seen) (elem (pinSymbol n) run), fresh-few n seen run)
 
 -- One run after another.
 pub fresh-append : (n : ℕ) (seen a b : List ℕ) → fresh n seen (a ++ b) ≡ fresh n seen a + fresh n (seen ++ a) b
 unfolding fresh
 fresh-append zero seen a b = refl
 fresh-append (suc n) seen a b =
-    let k = leafSymbol n in
+    let k = pinSymbol n in
     rw (elem-append k a b, elem-append k seen a) (omega (arith, new-append (elem k seen) (elem k a) (elem k b), fresh-append n seen a b))
 
 -- A leaf whose pin was not seen.
-pub fresh-leaf : (n x : ℕ) (seen : List ℕ) → x < n → elem (leafSymbol x) seen ≡ false → 1 ≤ fresh n seen (leafSymbol x ∷ [])
+pub fresh-leaf : (n x : ℕ) (seen : List ℕ) → x < n → elem (pinSymbol x) seen ≡ false → 1 ≤ fresh n seen (pinSymbol x ∷ [])
 unfolding fresh elem
 fresh-leaf zero x seen h e = absurd (omega arith)
 fresh-leaf (suc n) x seen h e =
-    ⊎-elim (λ q. rw (← q, e, eq-eqb (leafSymbol x) (leafSymbol x) refl) (omega arith)) (λ q. omega (arith, fresh-leaf n x seen q e)) (eq-or-lt-of-le (le-of-suc-le-suc h))
+    ⊎-elim (λ q. rw (← q, e, eq-eqb (pinSymbol x) (pinSymbol x) refl) (omega arith)) (λ q. omega (arith, fresh-leaf n x seen q e)) (eq-or-lt-of-le (le-of-suc-le-suc h))

@@ -17,10 +17,10 @@ use Rattle.fields.specs.declared.Scan.{Scan}
 use Rattle.fields.specs.declared.Scan.the-variants.{At, Refused}
 use Rattle.fields.specs.declared.Verdict.{Verdict}
 use Rattle.fields.specs.declared.Verdict.the-variants.{Sound, Faulty}
-use Rattle.fields.specs.Reading.{Reader, field, taken, settled}
+use Rattle.fields.specs.Reading.{Reader, field, free, taken, settled}
 use Rattle.shapes.specs.declared.Rules.{Rules}
-use Rattle.shapes.specs.Shape.{Shape, leaf, inv, nand, symbols}
-use Rattle.shapes.specs.Drawing.{codeVerdict, leafVerdict, leafNode, pair, branch, node, shape}
+use Rattle.shapes.specs.Shape.{plain, Shape, leaf, inv, nand, symbols}
+use Rattle.shapes.specs.Drawing.{codeVerdict, leafVerdict, leafNode, drivenNode, pair, branch, node, shape}
 
 abbrev pub shift : ℕ → Scan → Scan
 shift b (At c) = At (cursorAt (8 * b + placeOf c))
@@ -64,7 +64,14 @@ module _ (s : List ℕ) (b : ℕ) (few : b ≤ length s) where
   module _ (rules : Rules) where
     leaf-shift : (seen : List ℕ) (c : Scan) → leafNode s rules seen (shift b c) ≡ shifted b (leafNode t rules seen c)
     unfolding leafNode
-    leaf-shift seen c = ap (λ (x : ℕ × Scan). (leaf (x .0), x .1)) (field-scan (rules .width) (leafVerdict rules seen) c)
+    leaf-shift seen c = ap (λ (x : ℕ × Scan). (leaf (plain (x .0)), x .1)) (field-scan (rules .width) (leafVerdict rules seen) c)
+
+    driven-shift : (seen : List ℕ) (c : Scan) → drivenNode s rules seen (shift b c) ≡ shifted b (drivenNode t rules seen c)
+    unfolding drivenNode
+    driven-shift seen c =
+        let first = field t (rules .width) (leafVerdict rules seen) c in
+        ap (λ (x : ℕ × Scan). (leaf (record { number = x .0; drive = field s 8 free (x .1) .0 }), field s 8 free (x .1) .1)) (field-scan (rules .width) (leafVerdict rules seen) c)
+        ∙ ap (λ (y : ℕ × Scan). (leaf (record { number = first .0; drive = y .0 }), y .1)) (field-scan 8 free (first .1))
 
     -- A reader of branches that is shifted shifts what follows a code.
     module _ (f g : List ℕ → Reader Shape) (same : (seen : List ℕ) (c : Scan) → f seen (shift b c) ≡ shifted b (g seen c)) where
@@ -79,7 +86,8 @@ module _ (s : List ℕ) (b : ℕ) (few : b ≤ length s) where
       unfolding branch
       branch-shift seen zero c = leaf-shift seen c
       branch-shift seen (suc zero) c = ap (λ (x : Shape × Scan). (inv (x .0), x .1)) (same (seen ++ (0 ∷ [])) c)
-      branch-shift seen (suc (suc k)) c = ap (λ (x : (Shape × Shape) × Scan). (nand (x .0 .0) (x .0 .1), x .1)) (pair-shift (seen ++ (1 ∷ [])) c)
+      branch-shift seen (suc (suc zero)) c = ap (λ (x : (Shape × Shape) × Scan). (nand (x .0 .0) (x .0 .1), x .1)) (pair-shift (seen ++ (1 ∷ [])) c)
+      branch-shift seen (suc (suc (suc k))) c = driven-shift seen c
 
     node-shift : (d : ℕ) (seen : List ℕ) (c : Scan) → node s rules d seen (shift b c) ≡ shifted b (node t rules d seen c)
     unfolding node

@@ -16,9 +16,9 @@ use Rattle.fields.proofs.Laws.{reads-field}
 use Rattle.shapes.specs.declared.Rules.{Rules}
 use Rattle.shapes.specs.declared.NodeCode.{NodeCode}
 use Rattle.shapes.specs.declared.NodeCode.the-variants.{Code, Faulty}
-use Rattle.shapes.specs.Drawing.{codeVerdict, leafVerdict}
-use Rattle.shapes.specs.Promises.{Met, Marked, verdictOf, outcome, cursorOf, nextOf, pinsOf, codeGot, reached, CodeRead, LeafRead, Kept}
-use Rattle.shapes.proofs.Laws.{code-room, coded, outcome-dead, outcome-place, field-truncated, field-faulty, field-sound, found-used, moved-cursor, moved-next, moved-pins, counted-cursor, counted-next, counted-pins}
+use Rattle.shapes.specs.Drawing.{codeVerdict, leafVerdict, leafNode}
+use Rattle.shapes.specs.Promises.{plainBits, Met, Marked, verdictOf, outcome, cursorOf, nextOf, pinsOf, codeGot, reached, CodeRead, LeafRead, Kept}
+use Rattle.shapes.proofs.Laws.{coded, outcome-dead, outcome-place, field-truncated, field-faulty, field-sound, found-used, moved-cursor, moved-next, moved-pins, counted-cursor, counted-next, counted-pins}
 use Rattle.shapes.proofs.Marks.{met-leaf, marked-others, long-marked}
 use Rattle.shapes.proofs.Drawn.{leaf-laid, leaf-refused, leaf-passes}
 
@@ -34,7 +34,7 @@ code-read : (s : List ℕ) (rules : Rules) (words words′ : List ℕ) (r : Node
     (codeGot r words′ .value, codeGot r words′ .scan) ≡ field s 2 (codeVerdict rules (nextOf words)) (At (cursorOf words)) → CodeRead s rules words words′ r
 code-read s rules words words′ r en ep el u pos e = record {
   coded = coded s rules (At (cursorOf words)) (nextOf words) (codeGot r words′)
-      (reads-field s 2 (codeVerdict rules (nextOf words)) (At (cursorOf words)) (codeGot r words′) 2 e (λ x l q. code-room rules (nextOf words) x q .1));
+      (reads-field s 2 (codeVerdict rules (nextOf words)) (At (cursorOf words)) (codeGot r words′) 3 e (λ x l q. omega arith));
   next = en;
   pins = ep;
   long = el;
@@ -68,7 +68,7 @@ leaf-most rules seen (suc k) x h e = absurd (omega arith)
 module _ (s : List ℕ) (rules : Rules) (words l : List ℕ) (f : FieldRead) (long : length words ≡ 16) (wide : length l ≡ 64)
     (here : f ≡ fieldAt s (placeOf (cursorOf words)) (rules .width)) where
   abbrev Done : List ℕ → List ℕ → ℕ → Type 0
-  Done words′ l′ r = LeafRead s rules (At (cursorOf words)) (nextOf words) l l′ (reached r words′) × Kept rules r words′ l′
+  Done words′ l′ r = LeafRead s rules (At (cursorOf words)) (nextOf words) l l′ (reached r words′) plainBits (leafNode s rules) × Kept rules r words′ l′
 
   -- A leaf that was refused.
   refused : (k : ℕ) → 0 < k → (0, outcome k (cursorOf words)) ≡ field s (rules .width) (leafVerdict rules (take (nextOf words) l)) (At (cursorOf words)) → Done words l k
@@ -79,7 +79,8 @@ module _ (s : List ℕ) (rules : Rules) (words l : List ℕ) (f : FieldRead) (lo
           laid = leaf-refused s rules (At (cursorOf words)) (nextOf words) l (reached k words) dead e;
           went = λ x. absurd (dead x);
           near = omega (arith, there);
-          stays = λ x. (omega (arith, there), refl);
+          from = omega arith;
+          upto = omega arith;
         },
         record { long = long; wide = wide; used = λ x. absurd (dead x); met = λ x. absurd (dead x) },
       )
@@ -92,7 +93,7 @@ module _ (s : List ℕ) (rules : Rules) (words l : List ℕ) (f : FieldRead) (lo
       refused k (omega arith) (field-faulty s (cursorOf words) (rules .width) (leafVerdict rules (take (nextOf words) l)) f here k x n e (omega arith) q)
 
   -- A leaf that was read: the words with the cursor moved, the node counted and the pin marked.
-  pub leaf-sound : (k x : ℕ) (n : Cursor) (words′ : List ℕ) → f ≡ Value x n → k ≡ 0 → verdictOf k ≡ leafVerdict rules (take (nextOf words) l) x → rules .width ≤ 24 →
+  pub leaf-sound : (k x : ℕ) (n : Cursor) (words′ : List ℕ) → f ≡ Value x n → k ≡ 0 → verdictOf k ≡ leafVerdict rules (take (nextOf words) l) x → rules .width ≤ plainBits →
       (rules .pattern ≡ true → x ≤ 12) → nextOf words < 64 → Met rules (pinsOf words) (take (nextOf words) l) →
       Marked rules (set (set (set words 0 (n .byte)) 1 (n .used)) 2 (nextOf words + 1)) x words′ → Done words′ (set l (nextOf words) (2 + x)) 0
   leaf-sound k x n words′ e h q hw few room met mk = (
@@ -101,7 +102,8 @@ module _ (s : List ℕ) (rules : Rules) (words l : List ℕ) (f : FieldRead) (lo
           (ap (λ (c : Cursor). (x, At c)) at ∙ field-sound s (cursorOf words) (rules .width) (leafVerdict rules (take (nextOf words) l)) f here k x n e h q);
       went = λ z. next ∙ add-one (nextOf words);
       near = omega (arith, ap placeOf at, found .1);
-      stays = λ z. absurd (z tt);
+      from = omega (arith, next);
+      upto = omega (arith, next);
     },
     record {
       long = marked-long;

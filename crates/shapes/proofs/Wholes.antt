@@ -21,7 +21,7 @@ use Rattle.shapes.specs.declared.Rules.{Rules}
 use Rattle.shapes.specs.declared.ShapeRead.{ShapeRead}
 use Rattle.shapes.specs.Shape.{Shape, symbols}
 use Rattle.shapes.specs.Drawing.{elem, hasAll, shape}
-use Rattle.shapes.specs.Promises.{allMarked, faultOf, outcome, cursorOf, nextOf, pinsOf, reached, Followed, Room, Laid, NodeRead, Kept, ShapeIs}
+use Rattle.shapes.specs.Promises.{nodeBits, allMarked, faultOf, outcome, cursorOf, nextOf, pinsOf, reached, Followed, Room, Laid, NodeRead, Kept, ShapeIs}
 use Rattle.shapes.proofs.Laws.{outcome-place}
 use Rattle.shapes.proofs.Marks.{whole-marked}
 use Rattle.shapes.proofs.Drawn.{node-dead, run-seen}
@@ -96,7 +96,7 @@ module _ (s : List ℕ) (rules : Rules) (scan : Scan) (c : Cursor) (b u : ℕ) (
   ends = farther end (kept .used) ∙ ap (shift b) (laid .scan) ∙ sym (ap (λ (y : Shape × Scan). y .1) whole-is)
 
   -- The place at which it ended.
-  pub end-place : placeOf next ≤ placeOf c + 26 * rules .nodes
+  pub end-place : placeOf next ≤ placeOf c + nodeBits * rules .nodes
   unfolding placeOf
   end-place = omega (arith, outcome-place end (cursorOf words′), read .went .far)
 

@@ -19,10 +19,10 @@ use Rattle.fields.specs.declared.Got.{Got}
 use Rattle.fields.specs.declared.Verdict as Verdict
 use Rattle.fields.specs.declared.Scan.{Scan}
 use Rattle.fields.specs.declared.Scan.the-variants.{At, Refused}
-use Rattle.fields.specs.Reading.{place, field}
+use Rattle.fields.specs.Reading.{Reader, place, field}
 use Rattle.fields.specs.Promises.{Reads, Live}
-use Rattle.shapes.specs.Shape.{Shape, symbols, sizes, leafSymbol}
-use Rattle.shapes.specs.Drawing.{elem, hasAll, codeVerdict, leafNode, pair, node, shape}
+use Rattle.shapes.specs.Shape.{Shape, driveUnit, symbols, sizes, pinSymbol}
+use Rattle.shapes.specs.Drawing.{elem, hasAll, codeVerdict, leafNode, drivenNode, pair, node, shape}
 
 -- ---- the words that the readers of a shape share
 
@@ -41,7 +41,7 @@ pinsOf words = drop 3 words
 
 -- The pins of a pattern that stand among the symbols seen.
 abbrev pub Met : Rules → List ℕ → List ℕ → Type 0
-Met rules pins seen = rules .pattern ≡ true → (x : ℕ) → x ≤ rules .most → getD pins x 0 ≡ cond (elem (leafSymbol x) seen) 1 0
+Met rules pins seen = rules .pattern ≡ true → (x : ℕ) → x ≤ rules .most → getD pins x 0 ≡ cond (elem (pinSymbol x) seen) 1 0
 
 -- A pin of a pattern was marked.
 abbrev pub Marked : Rules → List ℕ → ℕ → List ℕ → Type 0
@@ -86,9 +86,16 @@ reached r words = record { scan = outcome r (cursorOf words); next = nextOf word
 abbrev pub ruled : (width most nodes : ℕ) → Bool → Rules
 ruled width most nodes pattern = record { width = width; most = most; nodes = nodes; pattern = pattern }
 
--- A node takes 26 bits at the most, and a scan reaches places up to 2^20: farther than a sheet goes, and far below 2^32.
+-- How many bits a leaf takes after its code at the most, without a drive and with one; and a node. A scan reaches places up to 2^20: farther than a
+-- sheet goes, and far below 2^32.
+abbrev pub plainBits : ℕ
+plainBits = 20
+
+abbrev pub leafBits : ℕ
+leafBits = plainBits + 8
+
 abbrev pub nodeBits : ℕ
-nodeBits = 26
+nodeBits = 2 + leafBits
 
 abbrev pub reach : ℕ
 reach = 1048576
@@ -99,8 +106,8 @@ openReach = 8 * 252
 
 -- The rules that the reader can follow. Of its 16 words 13 are for pins.
 pub record Followed (rules : Rules) : Type 0 where
-  pub width : rules .width ≤ 24
-  pub most : rules .most ≤ 16777215
+  pub width : rules .width ≤ plainBits
+  pub most : rules .most < driveUnit
   pub nodes : rules .nodes ≤ 64
   pub pins : rules .pattern ≡ true → rules .most ≤ 12
 
@@ -119,21 +126,24 @@ pub record Room (e : List ℕ) (bytes : ℕ) (rules : Rules) (words l : List ℕ
   pub near : placeOf (cursorOf words) + nodeBits * (rules .nodes - nextOf words) ≤ openReach
   pub met : Met rules (pinsOf words) (take (nextOf words) l)
 
--- After a leaf's code: there is room for the leaf.
+-- After a leaf's code: there is room for the leaf, and for its drive.
 pub record LeafRoom (e : List ℕ) (bytes : ℕ) (rules : Rules) (words l : List ℕ) : Type 0 where
   pub rules-are : Followed rules
   pub opened : Opened e bytes
+  pub long : length words ≡ 16
   pub wide : length l ≡ 64
   pub room : nextOf words < rules .nodes
-  pub inside : Inside words
+  pub used : getD words 1 0 < 8
+  pub near : placeOf (cursorOf words) + leafBits ≤ openReach
   pub met : Met rules (pinsOf words) (take (nextOf words) l)
 
 -- ---- what was read
 
 -- A node's code was read after n nodes. There is room for the node unless the scan is refused, and then it stays where it was.
 pub record Coded (s : List ℕ) (rules : Rules) (scan : Scan) (n : ℕ) (r : Got) : Type 0 where
-  pub reads : Reads r (field s 2 (codeVerdict rules n) scan) (place scan + 2) 2
+  pub reads : Reads r (field s 2 (codeVerdict rules n) scan) (place scan + 2) 3
   pub gate : 0 < r .value → Live (r .scan)
+  pub tree : r .value ≡ 3 → rules .pattern ≡ false
   pub room : Live (r .scan) → n < rules .nodes
   pub stays : (Live (r .scan) → ⊥) → place (r .scan) ≤ place scan
 
@@ -164,12 +174,13 @@ pub record Went (rules : Rules) (scan : Scan) (n : ℕ) (r : Reached) : Type 0 w
   pub near : Live (r .scan) → place (r .scan) + nodeBits * (rules .nodes - r .next) ≤ place scan + nodeBits * (rules .nodes - n)
 
 module _ (s : List ℕ) (rules : Rules) (scan : Scan) (n : ℕ) (l l′ : List ℕ) (r : Reached) where
-  -- A leaf, a node with all below it, and a NAND's two branches, as Drawing defines them, at every depth that is enough.
-  pub record LeafRead : Type 0 where
-    pub laid : let x = leafNode s rules (take n l) scan in Laid n l l′ r (x .1) (symbols (x .0))
+  -- A leaf of at most so many bits after its code, a node with all below it, and a NAND's two branches, as Drawing defines them, at every depth that is enough.
+  pub record LeafRead (bits : ℕ) (read : List ℕ → Reader Shape) : Type 0 where
+    pub laid : let x = read (take n l) scan in Laid n l l′ r (x .1) (symbols (x .0))
     pub went : Live (r .scan) → r .next ≡ suc n
-    pub near : place (r .scan) ≤ place scan + 24
-    pub stays : (Live (r .scan) → ⊥) → (place (r .scan) ≤ place scan) × (r .next ≡ n)
+    pub near : place (r .scan) ≤ place scan + bits
+    pub from : n ≤ r .next
+    pub upto : r .next ≤ suc n
 
   pub record NodeRead : Type 0 where
     pub laid : (depth : ℕ) → rules .nodes - n < depth →
@@ -192,7 +203,10 @@ pub record Kept (rules : Rules) (r : ℕ) (words l : List ℕ) : Type 0 where
 -- Of any bytes that open so, the readers read what Drawing defines.
 module _ (e : List ℕ) (bytes : ℕ) (rules : Rules) (words l words′ l′ : List ℕ) (r : ℕ) where
   abbrev pub LeafDone : Type 0
-  LeafDone = (s : List ℕ) → Opens e s bytes → LeafRead s rules (At (cursorOf words)) (nextOf words) l l′ (reached r words′) × Kept rules r words′ l′
+  LeafDone = (s : List ℕ) → Opens e s bytes → LeafRead s rules (At (cursorOf words)) (nextOf words) l l′ (reached r words′) plainBits (leafNode s rules) × Kept rules r words′ l′
+
+  abbrev pub DrivenDone : Type 0
+  DrivenDone = (s : List ℕ) → Opens e s bytes → LeafRead s rules (At (cursorOf words)) (nextOf words) l l′ (reached r words′) leafBits (drivenNode s rules) × Kept rules r words′ l′
 
   abbrev pub NodeDone : Type 0
   NodeDone = (s : List ℕ) → Opens e s bytes → NodeRead s rules (At (cursorOf words)) (nextOf words) l l′ (reached r words′) × Kept rules r words′ l′

@@ -1,12 +1,31 @@
 -- Shapes, and how a shape is laid out in preorder.
-use Prim.Native.Nat.{ℕ, suc, _+_}
+use Prim.Native.Nat.{ℕ, suc, _+_, _*_}
 use mathlib.Core.List.{List, [], _∷_, _++_}
 
--- A tree of inverters and two-input NANDs in drawn order. The number at a leaf is a pattern's pin number or a subject tree's arrival.
+-- What stands at a leaf: its number, which is a pattern's pin number or a subject tree's arrival, and its drive, which only a driven leaf of a tree has; at any other it is 0.
+pub record Leaf : Type 0 where
+  pub number : ℕ
+  pub drive : ℕ
+
+abbrev pub pinOf : Leaf → ℕ
+pinOf x = x .number
+
+abbrev pub arrivalOf : Leaf → ℕ
+arrivalOf x = x .number
+
+-- A leaf with no drive.
+abbrev pub plain : ℕ → Leaf
+plain n = record { number = n; drive = 0 }
+
+-- A tree of inverters and two-input NANDs in drawn order.
 pub data Shape : Type 0 where
-  leaf : ℕ → Shape
+  leaf : Leaf → Shape
   inv : Shape → Shape
   nand : Shape → Shape → Shape
+
+-- A leaf with no drive, by its number.
+abbrev pub plainLeaf : ℕ → Shape
+plainLeaf n = leaf (plain n)
 
 -- How many nodes a shape has.
 unfoldable pub size : Shape → ℕ
@@ -14,8 +33,8 @@ size (leaf x) = 1
 size (inv a) = suc (size a)
 size (nand a b) = suc (size a + size b)
 
--- The numbers at the leaves, in drawn order.
-unfoldable pub leaves : Shape → List ℕ
+-- The leaves, in drawn order.
+unfoldable pub leaves : Shape → List Leaf
 leaves (leaf x) = x ∷ []
 leaves (inv a) = leaves a
 leaves (nand a b) = leaves a ++ leaves b
@@ -26,15 +45,25 @@ nands (leaf x) = 0
 nands (inv a) = nands a
 nands (nand a b) = suc (nands a + nands b)
 
--- What stands for a node: an inverter, a NAND, or a leaf with its number.
+-- What stands for a node: an inverter, a NAND, or a leaf, whose two numbers are packed into one, the drive above 20 bits of the other.
 abbrev pub invSymbol : ℕ
 invSymbol = 0
 
 abbrev pub nandSymbol : ℕ
 nandSymbol = 1
 
-abbrev pub leafSymbol : ℕ → ℕ
-leafSymbol x = 2 + x
+abbrev pub driveUnit : ℕ
+driveUnit = 1048576
+
+abbrev pub packed : Leaf → ℕ
+packed x = x .drive * driveUnit + x .number
+
+abbrev pub leafSymbol : Leaf → ℕ
+leafSymbol x = 2 + packed x
+
+-- A pattern's leaf has no drive.
+abbrev pub pinSymbol : ℕ → ℕ
+pinSymbol pin = 2 + pin
 
 -- A shape in preorder: each node's symbol.
 unfoldable pub symbols : Shape → List ℕ

@@ -11,10 +11,10 @@ ghost use Rattle.bits.specs.Promises.{Opened};
 ghost use lib.ListN.{length, getD};
 ghost use Rattle.fields.specs.Reading.{place};
 ghost use Rattle.shapes.specs.Drawing.{codeVerdict};
-ghost use Rattle.shapes.specs.Promises.{ruled, verdictOf, faultOf, markVerdict, outcome, cursorOf, stoodAt, pinsOf, Marked, allMarked, nodeBits, reach, Followed, Inside, LeafRoom, Room, CodeDone, LeafDone, NodeDone, PairDone, ShapeIs, Preorder, SizesSet};
+ghost use Rattle.shapes.specs.Promises.{ruled, verdictOf, faultOf, markVerdict, outcome, cursorOf, stoodAt, pinsOf, Marked, allMarked, nodeBits, reach, Followed, Inside, LeafRoom, Room, CodeDone, LeafDone, DrivenDone, NodeDone, PairDone, ShapeIs, Preorder, SizesSet};
 
 // What differs between patterns and trees: the width of a leaf's number and the greatest that is sound, the most nodes, and whether
-// it is a pattern, which opens with a gate and has no pin twice.
+// it is a pattern, which opens with a gate and has no pin twice and no driven leaf.
 pub struct Rules {
     pub width: usize,
     pub most: u32,
@@ -32,6 +32,30 @@ pub struct ShapeRead {
     pub scan: Scan,
     pub size: usize,
     pub whole: bool,
+}
+
+// What stands for a leaf: a symbol from this one on, which has the leaf's number and, so many times, its drive.
+pub struct Packed {}
+
+impl Packed {
+    pub const LEAF: u32 = 2;
+
+    pub const DRIVE: u32 = 1048576;
+}
+
+// The codes of nodes, but for a NAND's, which is what is left; how wide a code is, and a drive.
+struct Codes {}
+
+impl Codes {
+    const LEAF: u64 = 0;
+
+    const INV: u64 = 1;
+
+    const DRIVEN: u64 = 3;
+
+    const WIDTH: usize = 2;
+
+    const DRIVE_WIDTH: usize = 8;
 }
 
 // Where the words stand that the readers share: their cursor, how many nodes are read, and for each pin 1 if a leaf has it.
@@ -94,12 +118,12 @@ fn code_fault(rules: Rules, n: usize, code: u64) -> u32
     if rules.nodes <= n {
         return Ending::SIZE;
     }
-    if 3 <= code {
-        return Ending::RANGE;
-    }
     if rules.pattern {
+        if Codes::DRIVEN <= code {
+            return Ending::RANGE;
+        }
         if n == 0 {
-            if code == 0 {
+            if code == Codes::LEAF {
                 return Ending::DRAWING;
             }
         }
@@ -118,7 +142,7 @@ fn read_code(
     ensures { λ r. ⌜ CodeDone (now (opening .entry)) bytes rules (now (words .entry)) (now (words .exit)) r ⌝ }
 {
     let at = stood(words);
-    let FieldRead::Value(code, next) = at.field_of(opening, bytes, 2) else {
+    let FieldRead::Value(code, next) = at.field_of(opening, bytes, Codes::WIDTH) else {
         return NodeCode::Faulty(Ending::TRUNCATED);
     };
     let fault = code_fault(rules, words[Words::NEXT], code);
@@ -175,10 +199,35 @@ fn read_leaf(
         return fault;
     }
     let n = words[Words::NEXT];
-    symbols[n] = 2 + number as u32;
+    symbols[n] = Packed::LEAF + number as u32;
     stand(words, next);
     words[Words::NEXT] = n + 1;
     mark(rules, words, number as usize);
+    Ending::SOUND
+}
+
+// A driven leaf after its code: a leaf's number, and its drive.
+fn read_driven(
+    opening: &[u8; Cursor::OPENING],
+    bytes: usize,
+    rules: Rules,
+    words: &mut [usize; Words::COUNT],
+    symbols: &mut [u32; Rules::NODES],
+) -> u32
+    requires { ⌜ LeafRoom (now opening) bytes rules (now words) (now symbols) × (rules .pattern ≡ false) ⌝ }
+    ensures { λ r. ⌜ DrivenDone (now (opening .entry)) bytes rules (now (words .entry)) (now (symbols .entry)) (now (words .exit)) (now (symbols .exit)) r ⌝ }
+{
+    let n = words[Words::NEXT];
+    let end = read_leaf(opening, bytes, rules, words, symbols);
+    if end != Ending::SOUND {
+        return end;
+    }
+    let at = stood(words);
+    let FieldRead::Value(drive, next) = at.field_of(opening, bytes, Codes::DRIVE_WIDTH) else {
+        return Ending::TRUNCATED;
+    };
+    symbols[n] = Packed::DRIVE * drive as u32 + symbols[n];
+    stand(words, next);
     Ending::SOUND
 }
 
@@ -207,13 +256,16 @@ fn read_node(
         NodeCode::Code(code) => code,
         NodeCode::Faulty(fault) => return fault,
     };
-    if code == 0 {
+    if code == Codes::LEAF {
         return read_leaf(opening, bytes, rules, words, symbols);
+    }
+    if code == Codes::DRIVEN {
+        return read_driven(opening, bytes, rules, words, symbols);
     }
     let n = words[Words::NEXT];
     symbols[n] = code as u32 - 1;
     words[Words::NEXT] = n + 1;
-    if code == 1 {
+    if code == Codes::INV {
         return read_node(opening, bytes, width, most, nodes, pattern, words, symbols);
     }
     read_pair(opening, bytes, width, most, nodes, pattern, words, symbols)
@@ -357,7 +409,7 @@ pub fn set_sizes(symbols: &[u32], n: usize, sizes: &mut [u8])
         k -= 1;
         let symbol = symbols[k];
         let mut size = 1;
-        if symbol < 2 {
+        if symbol < Packed::LEAF {
             let first = sizes[k + 1];
             size += first;
             if symbol == 1 {

@@ -6,3 +6,4 @@ pub mod Cells
 pub mod Whole
 pub mod Sound
 pub mod Patterns
+pub mod TreeWritten

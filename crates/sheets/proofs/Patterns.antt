@@ -9,7 +9,7 @@ use native.Mathlib.Omega.{arith}
 use lib.ListN.{length, getD, take, drop, replicate, length-map, length-drop, length-replicate}
 use lib.Seq.{length-take-le, getD-take, getD-drop}
 use Rattle.fields.proofs.Lists.{at-mem, at-map}
-use Rattle.shapes.specs.Shape.{Shape, leaf, size, symbols}
+use Rattle.shapes.specs.Shape.{plainLeaf, Shape, size, symbols}
 use Rattle.sheets.specs.Model.{Pin, binLoadOf, Cell, Library, Pattern, drawn, patternsFrom, patterns, cellOf, areaOf}
 use Rattle.sheets.specs.Sound.{SoundDrawing, SoundCell, SoundLibrary}
 use Rattle.sheets.specs.Layout.{padded, pinsMost, cellLaid, numberAt, areaAt, pinWords, figuresAt, sizeAt, symbolsAt, rowWords, tableWords, pinFigures, tableFrom, patternRow, patternRows, libraryLaid, patternTable}
@@ -172,7 +172,7 @@ abbrev noCell : Cell
 noCell = record { held = false; area = 0; highest = 0; pins = []; drawings = [] }
 
 abbrev noPattern : Pattern
-noPattern = record { cellNumber = 0; cell = noCell; drawing = leaf 0 }
+noPattern = record { cellNumber = 0; cell = noCell; drawing = plainLeaf 0 }
 
 module _ {l : Library} (sound : SoundLibrary l) (j : ℕ) (h : j < length (patterns l)) where
   abbrev ps : List Pattern

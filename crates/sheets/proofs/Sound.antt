@@ -9,15 +9,15 @@ use lib.ListN.{length, length-append}
 use Rattle.shapes.specs.declared.Rules.{Rules}
 use Rattle.fields.specs.declared.Scan.{Scan}
 use Rattle.fields.specs.declared.Verdict.the-variants.{Sound}
-use Rattle.fields.specs.Reading.{Reader, place, times, within, field, start}
+use Rattle.fields.specs.Reading.{Reader, place, times, within, free, field, start}
 use Rattle.shapes.specs.Shape.{symbols}
-use Rattle.shapes.specs.Drawing.{hasAll, codeVerdict, leafVerdict, leafNode, pair, branch, node, shape}
+use Rattle.shapes.specs.Drawing.{hasAll, codeVerdict, leafVerdict, leafNode, drivenNode, pair, branch, node, shape}
 use Rattle.fields.specs.Promises.{Live}
-use Rattle.fields.proofs.Laws.{live-sound, range-least, range-passes, length-times}
+use Rattle.fields.proofs.Laws.{live-sound, free-small, range-least, range-passes, length-times}
 use Rattle.shapes.proofs.Laws.{code-room}
 use Rattle.shapes.proofs.Pins.{fresh, fresh-few, fresh-append, fresh-leaf}
-use Rattle.shapes.proofs.Drawn.{leaf-passes, length-symbols, leaves-nands, node-live}
-use Rattle.sheets.specs.Model.{Shape, size, leaves, Pin, Cell, patternsFrom, patterns}
+use Rattle.shapes.proofs.Drawn.{plain-symbol, leaf-passes, length-symbols, leaves-nands, node-live}
+use Rattle.sheets.specs.Model.{Leaf, Shape, size, leaves, Pin, Cell, patternsFrom, patterns}
 use Rattle.sheets.specs.LibrarySheet.{Head, last, binLoad, head, pin, patternRules, pattern, countVerdict, drawings, cell, bins, cells, library}
 use Rattle.sheets.specs.TreeSheet.{tree, treeRules}
 use Rattle.sheets.specs.Inside.{cellAfter}
@@ -51,44 +51,46 @@ times-all P r h (suc n) c l =
 
 -- ---- shapes
 
--- A shape drawn after the nodes with these symbols. Every leaf of a pattern has a new pin.
+-- A shape drawn after the nodes with these symbols. Every leaf of a pattern has a new pin, and no drive.
 record Drawn (rules : Rules) (seen : List ℕ) (x : Shape) : Type 0 where
   nodes : length seen + size x ≤ rules .nodes
-  numbers : (y : ℕ) → List·Memᴰ y (leaves x) → y ≤ rules .most
+  numbers : (y : Leaf) → List·Memᴰ y (leaves x) → (y .number ≤ rules .most) × (y .drive ≤ 255) × (rules .pattern ≡ true → y .drive ≡ 0)
   pins : rules .pattern ≡ true → length (leaves x) ≤ fresh (suc (rules .most)) seen (symbols x)
 
 module _ (s : List ℕ) (rules : Rules) where
   branch-live : (d : ℕ) (seen : List ℕ) (code : ℕ) (c : Scan) → Live (branch s rules (node s rules d) seen code c .1) → Live c
-  unfolding branch leafNode pair
+  unfolding branch leafNode drivenNode pair
   branch-live d seen zero c l = live-sound s (rules .width) (leafVerdict rules seen) c l .1
   branch-live d seen (suc zero) c l = node-live s rules d (seen ++ (0 ∷ [])) c l
-  branch-live d seen (suc (suc k)) c l =
+  branch-live d seen (suc (suc zero)) c l =
       let a = node s rules d (seen ++ (1 ∷ [])) c in
       node-live s rules d (seen ++ (1 ∷ [])) c (node-live s rules d ((seen ++ (1 ∷ [])) ++ symbols (a .0)) (a .1) l)
+  branch-live d seen (suc (suc (suc k))) c l =
+      live-sound s (rules .width) (leafVerdict rules seen) c (live-sound s 8 free (field s (rules .width) (leafVerdict rules seen) c .1) l .1) .1
 
   -- The depth does not run out before the nodes allowed do.
   abbrev NodesDrawn : ℕ → Type 0
   NodesDrawn d = (seen : List ℕ) (c : Scan) → length seen ≤ rules .nodes → rules .nodes < d + length seen →
       Live (node s rules d seen c .1) → Drawn rules seen (node s rules d seen c .0)
 
-  branch-drawn : (d : ℕ) → NodesDrawn d → (seen : List ℕ) (code : ℕ) (c : Scan) → length seen < rules .nodes → rules .nodes ≤ d + length seen →
+  branch-drawn : (d : ℕ) → NodesDrawn d → (seen : List ℕ) (code : ℕ) (c : Scan) → length seen < rules .nodes → rules .nodes ≤ d + length seen → (rules .pattern ≡ true → code ≤ 2) →
       let x = branch s rules (node s rules d) seen code c in Live (x .1) → Drawn rules seen (x .0)
-  unfolding branch leafNode pair size leaves symbols
-  branch-drawn d below seen zero c room deep l =
+  unfolding branch leafNode drivenNode pair size leaves symbols
+  branch-drawn d below seen zero c room deep tree l =
       let x = field s (rules .width) (leafVerdict rules seen) c .0 in
       let passes = leaf-passes rules seen x (live-sound s (rules .width) (leafVerdict rules seen) c l .0) in
       record {
         nodes = omega arith;
-        numbers = λ y m. omega (arith, List·Memᴰ·eq-of-singleton m);
-        pins = λ p. fresh-leaf (suc (rules .most)) x seen (omega arith) (passes .1 p);
+        numbers = λ y m. rw (List·Memᴰ·eq-of-singleton m) (passes .0, omega arith, λ p. refl);
+        pins = λ p. subst (λ (v : ℕ). 1 ≤ fresh (suc (rules .most)) seen (v ∷ [])) (sym (plain-symbol x)) (fresh-leaf (suc (rules .most)) x seen (omega arith) (passes .1 p));
       }
-  branch-drawn d below seen (suc zero) c room deep l =
+  branch-drawn d below seen (suc zero) c room deep tree l =
       let first = seen ++ (0 ∷ []) in
       let x = symbols (node s rules d first c .0) in
       let grown = length-append seen (0 ∷ []) in
       let a = below first c (omega arith) (omega arith) l in
       record { nodes = omega (arith, a .nodes); numbers = a .numbers; pins = λ p. omega (arith, a .pins p, fresh-append (suc (rules .most)) seen (0 ∷ []) x) }
-  branch-drawn d below seen (suc (suc k)) c room deep l =
+  branch-drawn d below seen (suc (suc zero)) c room deep tree l =
       let first = seen ++ (1 ∷ []) in
       let x = node s rules d first c in
       let second = first ++ symbols (x .0) in
@@ -107,6 +109,14 @@ module _ (s : List ℕ) (rules : Rules) where
             let both = fresh-append n first (symbols (x .0)) (symbols (y .0)) in
             omega (arith, a .pins p, b .pins p, length-append (leaves (x .0)) (leaves (y .0)));
       }
+  branch-drawn d below seen (suc (suc (suc k))) c room deep tree l =
+      let number = field s (rules .width) (leafVerdict rules seen) c in
+      let passes = leaf-passes rules seen (number .0) (live-sound s (rules .width) (leafVerdict rules seen) c (live-sound s 8 free (number .1) l .1) .0) in
+      record {
+        nodes = omega arith;
+        numbers = λ y m. rw (List·Memᴰ·eq-of-singleton m) (passes .0, omega (arith, free-small s 8 (number .1)), λ p. absurd (omega (arith, tree p)));
+        pins = λ p. absurd (omega (arith, tree p));
+      }
 
   node-drawn : (d : ℕ) → NodesDrawn d
   unfolding node
@@ -114,8 +124,8 @@ module _ (s : List ℕ) (rules : Rules) where
   node-drawn (suc d) seen c h deep l =
       let v = codeVerdict rules (length seen) in
       let code = field s 2 v c in
-      let room = code-room rules (length seen) (code .0) (live-sound s 2 v c (branch-live d seen (code .0) (code .1) l) .0) .0 in
-      branch-drawn d (node-drawn d) seen (code .0) (code .1) room (omega arith) l
+      let room = code-room rules (length seen) (code .0) (live-sound s 2 v c (branch-live d seen (code .0) (code .1) l) .0) in
+      branch-drawn d (node-drawn d) seen (code .0) (code .1) (room .0) (omega (arith, room .0)) (room .1) l
 
   shape-keeps : Keeps (Drawn rules []) (shape s rules)
   unfolding shape
@@ -167,7 +177,8 @@ opens-gate s pins c l =
     go : (k : ℕ) (at : Scan) → codeVerdict (patternRules pins) 0 k ≡ Sound → IsGate (branch s (patternRules pins) (node s (patternRules pins) 16) [] k at .0)
     go zero at e = let z : _≡_ {A = ℕ} 0 1 = cc in absurd (omega arith)
     go (suc zero) at e = tt
-    go (suc (suc k)) at e = tt
+    go (suc (suc zero)) at e = tt
+    go (suc (suc (suc k))) at e = absurd (omega (arith, code-room (patternRules pins) 0 (suc (suc (suc k))) e .1 refl))
 
 pattern-keeps : (s : List ℕ) (pins : ℕ) (before : List Shape) → Keeps (λ d. 1 ≤ pins → SoundDrawing pins d) (pattern s pins before)
 unfolding pattern
@@ -178,7 +189,7 @@ pattern-keeps s pins before c l =
       (λ some. record {
         size = omega (arith, h .0 .nodes);
         gate = opens-gate s pins c live;
-        leaves = λ y m. omega (arith, h .0 .numbers y m);
+        leaves = λ y m. let n = h .0 .numbers y m in (omega (arith, n .0), n .2 refl);
         nands = omega (arith, leaves-nands (x .0), h .0 .pins refl, fresh-few (suc (pins - 1)) [] (symbols (x .0)));
       }),
       h .1,
@@ -265,4 +276,4 @@ tree-limits s l =
     let shape-in = shape-keeps s treeRules (required .1) (ended-live s (x .1) l) in
     let required-in = field-keeps s 24 0 16777215 (load .1) (shape-in .1) in
     let load-in = field-keeps s 8 0 255 start (required-in .1) in
-    record { load = load-in .0 .1; required = required-in .0 .1; size = omega (arith, shape-in .0 .nodes); leaves = shape-in .0 .numbers }
+    record { load = load-in .0 .1; required = required-in .0 .1; size = omega (arith, shape-in .0 .nodes); leaves = λ y m. let n = shape-in .0 .numbers y m in (n .0, n .1) }

@@ -2,6 +2,7 @@
 pub mod Model
 pub mod LibrarySheet
 pub mod TreeSheet
+pub mod TreeWritten
 pub mod Layout
 pub mod Reach
 pub mod Report

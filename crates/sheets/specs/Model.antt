@@ -3,7 +3,7 @@ use Prim.Native.Nat.{ℕ, suc}
 use mathlib.Core.List.{List, [], _∷_, _++_, map}
 use mathlib.Core.Bool.{Bool}
 use lib.ListN.{getD}
-pub use Rattle.shapes.specs.Shape.{Shape, leaf, inv, nand}
+pub use Rattle.shapes.specs.Shape.{Leaf, pinOf, arrivalOf, plainLeaf, Shape, leaf, inv, nand}
 unfoldable pub use Rattle.shapes.specs.Shape.{size, leaves, nands}
 
 -- One input pin of a cell: the number of its load bin, its intrinsic delay and its drive.

@@ -1,8 +1,9 @@
 -- The limits of a sound library and a sound tree that the theorems and the code above the sheets rest on. Not all that makes a sheet sound: the sheets' definitions say that.
 use Prim.Native.Nat.{ℕ, _≤_, _<_}
+use mathlib.Core.Path.{_≡_}
 use mathlib.Core.List.{List·Memᴰ}
 use lib.ListN.{length}
-use Rattle.sheets.specs.Model.{Shape, leaf, inv, nand, size, leaves, nands, Pin, Cell, Library, Tree, patterns}
+use Rattle.sheets.specs.Model.{Leaf, pinOf, arrivalOf, Shape, leaf, inv, nand, size, leaves, nands, Pin, Cell, Library, Tree, patterns}
 
 -- An inverter or a NAND.
 abbrev pub IsGate : Shape → Type 0
@@ -10,11 +11,11 @@ IsGate (leaf x) = ⊥
 IsGate (inv a) = Unit {0}
 IsGate (nand a b) = Unit {0}
 
--- A drawing of a cell with so many pins. No pin stands twice, so it has fewer NANDs than pins.
+-- A drawing of a cell with so many pins. No pin stands twice, so it has fewer NANDs than pins, and no leaf is driven.
 pub record SoundDrawing (pins : ℕ) (d : Shape) : Type 0 where
   pub size : size d ≤ 16
   pub gate : IsGate d
-  pub leaves : (x : ℕ) → List·Memᴰ x (leaves d) → x < pins
+  pub leaves : (x : Leaf) → List·Memᴰ x (leaves d) → (pinOf x < pins) × (x .drive ≡ 0)
   pub nands : nands d < pins
 
 -- A pin and a cell of a library with so many bins.
@@ -42,4 +43,4 @@ pub record SoundTree (t : Tree) : Type 0 where
   pub load : t .load ≤ 255
   pub required : t .required ≤ 16777215
   pub size : size (t .shape) ≤ 64
-  pub leaves : (x : ℕ) → List·Memᴰ x (leaves (t .shape)) → x ≤ 1000000
+  pub leaves : (x : Leaf) → List·Memᴰ x (leaves (t .shape)) → (arrivalOf x ≤ 1000000) × (x .drive ≤ 255)

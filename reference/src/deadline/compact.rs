@@ -37,14 +37,15 @@ pub struct Compact {
     pub pattern_count: usize,
 }
 
-/// The subject tree: codes, subtree sizes and leaf arrivals.
+/// The subject tree: codes, subtree sizes, and the leaves' arrivals and drives. A driven leaf has a plain one's code.
 pub struct Subject {
     pub root_load: u64,
     pub required: u64,
     pub count: usize,
     pub codes: [u8; 64],
     pub sizes: [u8; 64],
-    pub arrivals: [u64; 64],
+    arrivals: [u64; 64],
+    drives: [u64; 64],
 }
 
 const NO_PIN: Pin = Pin { bin: 0, drive: 0, intrinsic: 0 };
@@ -91,12 +92,12 @@ impl Pin {
     }
 }
 
-/// A node's code and, at a leaf, its number.
-fn code(node: &Node) -> (u8, u32) {
-    match *node {
-        Node::Leaf(leaf) => (0, leaf),
-        Node::Inv(_) => (1, 0),
-        Node::Nand(..) => (2, 0),
+/// A node's code.
+fn code<L>(node: &Node<L>) -> u8 {
+    match node {
+        Node::Leaf(_) => 0,
+        Node::Inv(_) => 1,
+        Node::Nand(..) => 2,
     }
 }
 
@@ -104,11 +105,9 @@ impl Pattern {
     fn of(cell: usize, shape: &Shape) -> Pattern {
         let mut compact = Pattern { cell: cell as u8, ..NO_PATTERN };
         for (number, node) in shape.nodes.iter().enumerate().rev() {
-            let (code, pin) = code(node);
-            compact.codes[number] = code;
-            compact.pins[number] = pin as u8;
+            compact.codes[number] = code(node);
             match *node {
-                Node::Leaf(_) => {}
+                Node::Leaf(pin) => compact.pins[number] = pin as u8,
                 Node::Inv(below) => {
                     compact.sizes[number] = 1 + compact.sizes[below];
                     compact.nands[number] = compact.nands[below];
@@ -133,17 +132,24 @@ impl Subject {
             codes: [0; 64],
             sizes: [1; 64],
             arrivals: [0; 64],
+            drives: [0; 64],
         };
         for (number, node) in nodes.iter().enumerate().rev() {
-            let (code, arrival) = code(node);
-            subject.codes[number] = code;
-            subject.arrivals[number] = arrival as u64;
-            subject.sizes[number] = match *node {
-                Node::Leaf(_) => 1,
-                Node::Inv(below) => 1 + subject.sizes[below],
-                Node::Nand(left, right) => 1 + subject.sizes[left] + subject.sizes[right],
-            };
+            subject.codes[number] = code(node);
+            match *node {
+                Node::Leaf(leaf) => {
+                    subject.arrivals[number] = leaf.arrival as u64;
+                    subject.drives[number] = leaf.drive.unwrap_or(0) as u64;
+                }
+                Node::Inv(below) => subject.sizes[number] = 1 + subject.sizes[below],
+                Node::Nand(left, right) => subject.sizes[number] = 1 + subject.sizes[left] + subject.sizes[right],
+            }
         }
         subject
+    }
+
+    /// When a leaf arrives under the load that it drives.
+    pub fn arrival(&self, leaf: usize, load: u64) -> u64 {
+        self.arrivals[leaf] + self.drives[leaf] * load
     }
 }

@@ -48,16 +48,35 @@ impl<'a> Curves<'a> {
         Ok(curves)
     }
 
+    /// How many loads are considered at a node.
+    fn load_count(&self, node: usize) -> usize {
+        if node == 0 {
+            1
+        } else {
+            self.library.bin_count
+        }
+    }
+
+    /// One of them, by its position.
+    fn load(&self, node: usize, bin: usize) -> u64 {
+        if node == 0 {
+            self.subject.root_load
+        } else {
+            self.library.bins[bin]
+        }
+    }
+
     fn fill_leaf(&mut self, node: usize) {
-        for bin in 0..self.library.bin_count {
-            self.slots[slot(node, bin)][..2].copy_from_slice(&[self.subject.arrivals[node], ABSENT]);
+        for bin in 0..self.load_count(node) {
+            let arrival = self.subject.arrival(node, self.load(node, bin));
+            self.slots[slot(node, bin)][..2].copy_from_slice(&[arrival, ABSENT]);
         }
     }
 
     fn fill_node(&mut self, variant: Variant, node: usize, matches: &mut Matches) -> Result<(), Refusal> {
         self.find_matches(node, &mut matches.found);
-        for bin in 0..if node == 0 { 1 } else { self.library.bin_count } {
-            let load = if node == 0 { self.subject.root_load } else { self.library.bins[bin] };
+        for bin in 0..self.load_count(node) {
+            let load = self.load(node, bin);
             let has_ended = match variant {
                 Variant::Plain => self.fill_plain(slot(node, bin), load, &matches.found),
                 Variant::Kept => self.fill_kept(slot(node, bin), load, matches),

@@ -4,6 +4,7 @@ use super::covers::damage::any_case;
 use super::covers::draw::Draw;
 use super::covers::{Case, Draft};
 use super::damage::{damage_bytes, damaged, Kind};
+use super::drivers::Drivers;
 use super::parts::{cell, chain, pin, tree};
 use super::problem::{any_style, problem, Problem};
 use super::specimen;
@@ -14,7 +15,7 @@ use crate::rng::Rng;
 use crate::shape::Shape;
 use crate::shape::Step::{Inv, Leaf, Nand};
 use crate::text::MOST_INPUT;
-use crate::tree::{LATEST_LEAF, LATEST_REQUIRED, MOST_TREE_NODES};
+use crate::tree::{TreeLeaf, LATEST_LEAF, LATEST_REQUIRED, MOST_DRIVE, MOST_TREE_NODES};
 
 /// A fresh input of any kind.
 pub fn any_input(rng: &mut Rng) -> Vec<u8> {
@@ -56,7 +57,7 @@ pub fn padded(case: &Case, sheet: usize, length: usize) -> Case {
 }
 
 /// A cover of a chain of inverters: these patterns, which are chains, from the root on, as far as there is room.
-pub fn chained(library: &Library, root_load: u32, leaf: u32, patterns: &[usize]) -> Draft {
+pub fn chained(library: &Library, root_load: u32, leaf: impl Into<TreeLeaf>, patterns: &[usize]) -> Draft {
     let lengths: Vec<usize> = library.patterns().map(|(_, shape)| shape.nodes.len() - 1).collect();
     let mut matches = Vec::new();
     let mut node = 0;
@@ -66,7 +67,7 @@ pub fn chained(library: &Library, root_load: u32, leaf: u32, patterns: &[usize])
             node += lengths[pattern];
         }
     }
-    let tree = tree(root_load, LATEST_REQUIRED, &chain(node, &[Leaf(leaf)]));
+    let tree = tree(root_load, LATEST_REQUIRED, &chain(node, &[Leaf(leaf.into())]));
     Draft::legal(Problem { library: library.clone(), tree }, matches)
 }
 
@@ -119,8 +120,9 @@ fn any_chain(rng: &mut Rng) -> Draft {
     let most = rng.pick(&[1, 3, 12, 30, 63]);
     cells.truncate(most);
     let patterns: Vec<usize> = cells.iter().map(|&cell| any_pattern(rng, &library, cell)).collect();
-    let leaf = rng.value(0, LATEST_LEAF);
-    chained(&library, rng.value(0, 255), rng.pick(&[0, 7, leaf]), &patterns)
+    let arrival = rng.value(0, LATEST_LEAF);
+    let drive = Drivers::any(rng).drive(rng, MOST_DRIVE);
+    chained(&library, rng.value(0, 255), TreeLeaf { arrival: rng.pick(&[0, 7, arrival]), drive }, &patterns)
 }
 
 /// A cell with one drawing or two, of one to three inverters.

@@ -11,11 +11,12 @@ pub enum Kind {
     Tree,
 }
 
-/// A random sheet: sound, damaged in one or more ways, or plain noise.
+/// A random sheet: sound, damaged in one or more ways, torn in a field of some role, or plain noise.
 pub fn any_sheet(rng: &mut Rng, kind: Kind) -> Vec<u8> {
     match rng.below(20) {
         0 => noise(rng),
-        1..=4 => any_form(rng, kind).bytes(),
+        1..=3 => any_form(rng, kind).bytes(),
+        4 => torn(rng, kind),
         5..=14 => damaged(rng, kind, 1),
         _ => {
             let faults = rng.between(2, 5);
@@ -42,7 +43,7 @@ pub fn damaged(rng: &mut Rng, kind: Kind, faults: usize) -> Vec<u8> {
     let mut form = any_form(rng, kind);
     let in_bytes = (0..faults).filter(|_| rng.once_in(3)).count();
     for _ in in_bytes..faults {
-        damage_form(rng, &mut form);
+        damage_form(rng, kind, &mut form);
     }
     let mut bytes = form.bytes();
     for _ in 0..in_bytes {
@@ -56,11 +57,29 @@ fn noise(rng: &mut Rng) -> Vec<u8> {
     (0..length).map(|_| rng.word() as u8).collect()
 }
 
-fn damage_form(rng: &mut Rng, form: &mut Form) {
+/// A sheet torn in a field of a role picked first, if it has one where that can be.
+fn torn(rng: &mut Rng, kind: Kind) -> Vec<u8> {
+    let form = any_form(rng, kind);
+    let role = match kind {
+        Kind::Library => rng.pick(&Role::OF_LIBRARY),
+        Kind::Tree => rng.pick(&Role::OF_TREE),
+    };
+    torn_in(rng, &form, role).unwrap_or_else(|| form.bytes())
+}
+
+/// The sheet cut after some byte so that the first field not whole is of this role.
+pub fn torn_in(rng: &mut Rng, form: &Form, role: Role) -> Option<Vec<u8>> {
+    let length = |field: usize| (form.place(field + 1) - 1) / 8;
+    let can_be_torn = |&field: &usize| length(field) * 8 >= form.place(field);
+    let fields: Vec<usize> = form.find(role).into_iter().filter(can_be_torn).collect();
+    (!fields.is_empty()).then(|| form.bytes()[..length(rng.pick(&fields))].to_vec())
+}
+
+fn damage_form(rng: &mut Rng, kind: Kind, form: &mut Form) {
     if form.fields.is_empty() {
         return;
     }
-    let field = chosen_field(rng, form);
+    let field = chosen_field(rng, kind, form);
     match rng.below(12) {
         0 => drop(form.fields.remove(field)),
         1 => form.fields.insert(field, form.fields[field]),
@@ -73,28 +92,27 @@ fn damage_form(rng: &mut Rng, form: &mut Form) {
 }
 
 /// Any field, or one among those of a role picked first, so that rare roles get their share.
-fn chosen_field(rng: &mut Rng, form: &Form) -> usize {
+fn chosen_field(rng: &mut Rng, kind: Kind, form: &Form) -> usize {
     let any = rng.below(form.fields.len());
     if rng.once_in(2) {
         return any;
     }
-    let roles = [
-        Role::BinCount,
-        Role::BinLoad,
-        Role::CellCount,
-        Role::PinCount,
-        Role::PatternCount,
-        Role::Code,
-        Role::PinNumber,
-        Role::Arrival,
-    ];
-    let alike = form.find(rng.pick(&roles));
+    let alike = form.find(match kind {
+        Kind::Library => rng.pick(&TELLING_IN_LIBRARY),
+        Kind::Tree => rng.pick(&TELLING_IN_TREE),
+    });
     if alike.is_empty() {
         any
     } else {
         rng.pick(&alike)
     }
 }
+
+/// Roles of which some value is out of range or changes what follows; and drives, of which none does, but which may be
+/// lacking.
+const TELLING_IN_LIBRARY: [Role; 7] =
+    [Role::BinCount, Role::BinLoad, Role::CellCount, Role::PinCount, Role::PatternCount, Role::Code, Role::PinNumber];
+const TELLING_IN_TREE: [Role; 3] = [Role::Code, Role::Arrival, Role::Drive];
 
 /// Gives a field the value of another field of its role: a repeated pin, an equal bin.
 fn swap_alike(rng: &mut Rng, form: &mut Form, field: usize) {

@@ -1,4 +1,5 @@
-//! Problems for the benchmark: a typical one, two that take long, one that goes deep, and two with many crossings.
+//! Problems for the benchmark: a typical one, two that take long, one that goes deep, two with many crossings, and one
+//! with driven leaves.
 
 use super::parts::{cell, chain, comb, counted_comb, pin, tree, AND, AOI21, AOI22, INVERTER, NAND, NOR, OR};
 use super::problem::Problem;
@@ -19,6 +20,7 @@ pub fn all() -> Vec<(&'static str, Problem)> {
         ("deep", deepest()),
         ("full", full()),
         ("crosscomb", crossed_comb()),
+        ("driven", driven()),
     ]
 }
 
@@ -55,7 +57,15 @@ fn gate(area: u32, intrinsic: u32, strength: u32, bin: u32, drawings: &[&[Step]]
 fn typical_tree() -> Tree {
     let mut rng = Rng::new(30);
     let leaves: Vec<u32> = (0..16).map(|_| rng.value(0, 12)).collect();
-    Tree { root_load: 4, required: LATEST_REQUIRED, shape: sound::shape(&mut rng, &leaves, 17) }
+    tree(4, LATEST_REQUIRED, &sound::shape(&mut rng, &leaves, 17).steps())
+}
+
+/// The typical problem with all leaves driven, as strongly as by its larger gates.
+pub fn driven() -> Problem {
+    let mut rng = Rng::new(3);
+    let Problem { library, mut tree } = typical();
+    tree.shape.leaves_mut().for_each(|leaf| leaf.drive = Some(rng.value(1, 4)));
+    Problem { library, tree }
 }
 
 /// 63 inverters under 128 patterns of inverters, of up to 15: nearly all match everywhere.
@@ -120,14 +130,14 @@ pub fn full() -> Problem {
 }
 
 /// A NAND tree of this depth, every branch alike.
-pub(super) fn balanced(depth: usize, arrivals: &mut impl Iterator<Item = u32>, steps: &mut Vec<Step>) {
+pub(super) fn balanced<L>(depth: usize, leaves: &mut impl Iterator<Item = L>, steps: &mut Vec<Step<L>>) {
     if depth == 0 {
-        steps.push(Leaf(arrivals.next().expect("an arrival for each leaf")));
+        steps.push(Leaf(leaves.next().expect("enough leaves")));
         return;
     }
     steps.push(Nand);
-    balanced(depth - 1, arrivals, steps);
-    balanced(depth - 1, arrivals, steps);
+    balanced(depth - 1, leaves, steps);
+    balanced(depth - 1, leaves, steps);
 }
 
 /// A comb of 31 NANDs under the same library: each comb of five matches under two of its crossings, whichever way

@@ -6,7 +6,7 @@ use super::sound;
 use crate::library::{Cell, Library};
 use crate::rng::Rng;
 use crate::shape::{Shape, Step};
-use crate::tree::{Tree, LATEST_LEAF, LATEST_REQUIRED};
+use crate::tree::{Tree, TreeLeaf, LATEST_LEAF, LATEST_REQUIRED, MOST_DRIVE};
 
 /// 4 bins, 64 cells of 6 pins, 128 patterns of 16 nodes.
 pub fn library() -> Library {
@@ -32,12 +32,25 @@ fn pattern(rng: &mut Rng) -> Shape {
     sound::shape(rng, &pins, 5)
 }
 
-/// An inverter over a full tree of 31 NANDs: of 64 nodes as many are leaves as can be, 32. The last arrives latest.
+/// An inverter over a full tree of 31 NANDs: of 64 nodes as many are leaves as can be, 32. All are driven, so that no
+/// tree sheet is longer: 32 bits, 32 gates of 2 and 32 leaves of 30 are 1,056. The last arrives latest and has the
+/// greatest drive.
 pub fn tree() -> Tree {
+    let mut rng = Rng::new(33);
+    let mut drives: Vec<u32> = (0..31).map(|_| rng.value(0, MOST_DRIVE)).collect();
+    drives.push(MOST_DRIVE);
+    let mut drives = drives.into_iter();
+    let mut tree = plain_tree();
+    tree.shape.leaves_mut().for_each(|leaf| leaf.drive = drives.next());
+    tree
+}
+
+/// The same with plain leaves, of 22 bits each: the longest tree sheet while no leaf could be driven.
+pub fn plain_tree() -> Tree {
     let mut rng = Rng::new(32);
     let mut arrivals: Vec<u32> = (0..31).map(|_| rng.value(0, LATEST_LEAF)).collect();
     arrivals.push(LATEST_LEAF);
     let mut steps = vec![Step::Inv];
-    balanced(5, &mut arrivals.into_iter(), &mut steps);
+    balanced(5, &mut arrivals.into_iter().map(TreeLeaf::plain), &mut steps);
     parts::tree(5, LATEST_REQUIRED, &steps)
 }

@@ -4,6 +4,7 @@ pub mod bills;
 pub mod chosen;
 pub mod covers;
 pub mod damage;
+pub mod drivers;
 pub mod heavy;
 pub mod limits;
 pub mod longest;

@@ -2,10 +2,10 @@
 
 use crate::library::{Cell, Pin};
 use crate::shape::{Shape, Step};
-use crate::tree::Tree;
+use crate::tree::{Tree, TreeLeaf};
 use Step::{Inv, Leaf, Nand};
 
-/// Drawings of cells; as trees, with leaves that arrive at 0 and 1.
+/// Drawings of cells; as trees, with plain leaves that arrive at 0 and 1.
 pub const INVERTER: &[Step] = &[Inv, Leaf(0)];
 pub const NAND: &[Step] = &[Nand, Leaf(0), Leaf(1)];
 pub const AND: &[Step] = &[Inv, Nand, Leaf(0), Leaf(1)];
@@ -15,16 +15,16 @@ pub const AOI21: &[Step] = &[Inv, Nand, Nand, Leaf(0), Leaf(1), Inv, Leaf(2)];
 pub const AOI22: &[Step] = &[Inv, Nand, Nand, Leaf(0), Leaf(1), Nand, Leaf(2), Leaf(3)];
 
 /// `count` inverters over `below`.
-pub fn chain(count: usize, below: &[Step]) -> Vec<Step> {
+pub fn chain<L: Copy>(count: usize, below: &[Step<L>]) -> Vec<Step<L>> {
     let mut steps = vec![Inv; count];
     steps.extend(below);
     steps
 }
 
 /// NANDs whose first branches are the leaves but the last.
-pub fn comb(leaves: &[u32]) -> Vec<Step> {
+pub fn comb<L: Copy>(leaves: &[L]) -> Vec<Step<L>> {
     let (last, firsts) = leaves.split_last().unwrap();
-    let mut steps: Vec<Step> = firsts.iter().flat_map(|&leaf| [Nand, Leaf(leaf)]).collect();
+    let mut steps: Vec<Step<L>> = firsts.iter().flat_map(|&leaf| [Nand, Leaf(leaf)]).collect();
     steps.push(Leaf(*last));
     steps
 }
@@ -44,6 +44,17 @@ pub fn cell(area: u32, highest_load: u32, pin: Pin, steps: &[Step]) -> Cell {
     Cell { held: false, area, highest_load, pins, patterns: vec![Shape::from_steps(steps)] }
 }
 
-pub fn tree(root_load: u32, required: u32, steps: &[Step]) -> Tree {
-    Tree { root_load, required, shape: Shape::from_steps(steps) }
+/// A tree; a leaf that is only a number is plain and arrives then.
+pub fn tree<L: Copy + Into<TreeLeaf>>(root_load: u32, required: u32, steps: &[Step<L>]) -> Tree {
+    let steps: Vec<Step<TreeLeaf>> = steps.iter().map(|step| step.map(L::into)).collect();
+    Tree { root_load, required, shape: Shape::from_steps(&steps) }
+}
+
+/// Leaves of a tree that has both kinds.
+pub fn leaf(arrival: u32) -> Step<TreeLeaf> {
+    Leaf(TreeLeaf::plain(arrival))
+}
+
+pub fn driven(arrival: u32, drive: u32) -> Step<TreeLeaf> {
+    Leaf(TreeLeaf::driven(arrival, drive))
 }

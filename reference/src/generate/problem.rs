@@ -1,5 +1,6 @@
 //! Random libraries and trees made for each other, so that many patterns match.
 
+use super::drivers::Drivers;
 use super::parts::{AND, AOI21, INVERTER, NAND, NOR, OR};
 use super::sound;
 use crate::crossing::{redrawn, CROSSINGS};
@@ -7,8 +8,8 @@ use crate::form::Form;
 use crate::library::{Cell, Library, Pin};
 use crate::merging;
 use crate::rng::Rng;
-use crate::shape::{Node, Shape, Step};
-use crate::tree::{Tree, LATEST_LEAF, LATEST_REQUIRED};
+use crate::shape::{Shape, Step};
+use crate::tree::{Tree, TreeLeaf, LATEST_LEAF, LATEST_REQUIRED, MOST_DRIVE};
 use Step::{Inv, Leaf, Nand};
 
 #[derive(Clone, Debug)]
@@ -32,7 +33,7 @@ impl Problem {
 pub struct Style {
     pub cells: usize,
     pub nodes: usize,
-    /// The most area, intrinsic and drive of a cell, load and leaf arrival.
+    /// The most area and intrinsic of a cell, drive of a cell and usually of a leaf, load and leaf arrival.
     pub area: u32,
     pub intrinsic: u32,
     pub drive: u32,
@@ -83,7 +84,7 @@ pub fn problem(rng: &mut Rng, style: Style) -> Problem {
     problem
 }
 
-/// The same problem with another required time and, half the times, one value changed.
+/// The same problem with another required time and, more than half the times, one value or all drives changed.
 pub fn varied(rng: &mut Rng, problem: &Problem) -> Problem {
     let mut varied = problem.clone();
     let number = rng.below(varied.library.cells.len());
@@ -93,6 +94,7 @@ pub fn varied(rng: &mut Rng, problem: &Problem) -> Problem {
         1 => cell.pins[0].intrinsic = rng.value(0, 40),
         2 => cell.held = !cell.held,
         3 => varied.tree.root_load = rng.value(0, 8),
+        4 => set_drives(rng, &mut varied.tree, MOST_DRIVE),
         _ => {}
     }
     varied.tree.required = required(rng, &varied);
@@ -187,7 +189,7 @@ fn cell(rng: &mut Rng, style: Style, bin_count: usize, shape: Shape) -> Cell {
     let area = rng.value(1, style.area);
     let fastest = if style.graded { (style.area - area) * style.intrinsic / style.area } else { 0 };
     let slowest = if style.graded { fastest + rng.value(0, 2) } else { style.intrinsic };
-    let leaves = shape.nodes.iter().filter(|node| matches!(node, Node::Leaf(_))).count();
+    let leaves = shape.leaves().count();
     let kinds = if style.graded { 1 } else { rng.pick(&[1, 2, 2, leaves, leaves]) };
     let kinds: Vec<Pin> = (0..kinds).map(|_| pin(rng, style, bin_count, fastest, slowest)).collect();
     let pins = (0..leaves).map(|number| if kinds.len() < leaves { rng.pick(&kinds) } else { kinds[number] }).collect();
@@ -227,20 +229,25 @@ fn tree(rng: &mut Rng, style: Style, library: &Library) -> Tree {
     }
     let bin = rng.pick(&library.bins);
     tree.root_load = rng.pick(&[0, bin, bin, (bin + 1).min(255), style.load, (2 * style.load).min(255)]);
-    for node in tree.shape.nodes.iter_mut() {
-        if let Node::Leaf(arrival) = node {
-            *arrival = if rng.once_in(2) { 0 } else { rng.value(0, style.arrival) };
-        }
+    for leaf in tree.shape.leaves_mut() {
+        leaf.arrival = if rng.once_in(2) { 0 } else { rng.value(0, style.arrival) };
     }
+    set_drives(rng, &mut tree, style.drive);
     tree
 }
 
+/// Decides anew which leaves of a tree are driven, and with what drive.
+fn set_drives(rng: &mut Rng, tree: &mut Tree, usual: u32) {
+    let drivers = Drivers::any(rng);
+    tree.shape.leaves_mut().for_each(|leaf| leaf.drive = drivers.drive(rng, usual));
+}
+
 /// A drawing redrawn at random, with others at its leaves as far as there is room for more nodes.
-fn grow(rng: &mut Rng, library: &Library, room: &mut usize, steps: &mut Vec<Step>) {
+fn grow(rng: &mut Rng, library: &Library, room: &mut usize, steps: &mut Vec<Step<TreeLeaf>>) {
     let shapes = library.patterns().map(|(_, shape)| shape);
     let fitting: Vec<&Shape> = shapes.filter(|shape| shape.nodes.len() <= *room + 1).collect();
     if fitting.is_empty() {
-        steps.push(Leaf(0));
+        steps.push(Leaf(TreeLeaf::plain(0)));
         return;
     }
     let shape = redrawn(rng.pick(&fitting), rng.value(0, CROSSINGS - 1));
@@ -248,7 +255,7 @@ fn grow(rng: &mut Rng, library: &Library, room: &mut usize, steps: &mut Vec<Step
     for step in shape.steps() {
         match step {
             Leaf(_) if !rng.once_in(3) => grow(rng, library, room, steps),
-            _ => steps.push(step),
+            _ => steps.push(step.map(TreeLeaf::plain)),
         }
     }
 }

@@ -1,9 +1,10 @@
 //! Random sound libraries and trees, of many sizes and shapes.
 
+use super::drivers::Drivers;
 use crate::library::{Cell, Library, Pin, MOST_PATTERNS, MOST_PATTERN_NODES};
 use crate::rng::Rng;
 use crate::shape::{Shape, Step};
-use crate::tree::{Tree, LATEST_LEAF, LATEST_REQUIRED, MOST_TREE_NODES};
+use crate::tree::{Tree, TreeLeaf, LATEST_LEAF, LATEST_REQUIRED, MOST_DRIVE, MOST_TREE_NODES};
 
 /// How many cells, pins and patterns a library may have.
 #[derive(Clone, Copy, Debug)]
@@ -97,13 +98,13 @@ pub fn pattern(rng: &mut Rng, pin_count: usize, extra: usize) -> Shape {
 }
 
 /// A random shape with these leaves in drawn order and this many inverters.
-pub fn shape(rng: &mut Rng, leaves: &[u32], inverters: usize) -> Shape {
+pub fn shape<L: Copy>(rng: &mut Rng, leaves: &[L], inverters: usize) -> Shape<L> {
     let mut steps = Vec::new();
     grow(rng, leaves, inverters, &mut steps);
     Shape::from_steps(&steps)
 }
 
-fn grow(rng: &mut Rng, leaves: &[u32], inverters: usize, steps: &mut Vec<Step>) {
+fn grow<L: Copy>(rng: &mut Rng, leaves: &[L], inverters: usize, steps: &mut Vec<Step<L>>) {
     if leaves.len() == 1 {
         steps.extend(vec![Step::Inv; inverters]);
         steps.push(Step::Leaf(leaves[0]));
@@ -132,7 +133,9 @@ fn split(rng: &mut Rng, leaves: usize) -> usize {
 pub fn tree(rng: &mut Rng, most: usize) -> Tree {
     let nodes = if rng.once_in(8) { most } else { rng.between(1, most) };
     let leaf_count = rng.between(1, nodes.div_ceil(2));
-    let leaves: Vec<u32> = (0..leaf_count).map(|_| edge_or(rng, 0, LATEST_LEAF)).collect();
+    let drivers = Drivers::any(rng);
+    let leaf = |_| TreeLeaf { arrival: edge_or(rng, 0, LATEST_LEAF), drive: drivers.drive(rng, MOST_DRIVE) };
+    let leaves: Vec<TreeLeaf> = (0..leaf_count).map(leaf).collect();
     Tree {
         root_load: edge_or(rng, 0, 255),
         required: edge_or(rng, 0, LATEST_REQUIRED),

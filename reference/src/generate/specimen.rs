@@ -1,7 +1,7 @@
 //! The library and the trees of document 01's specimen sheet, and the example of
 //! source document 003.
 
-use super::parts::{cell, chain, pin, tree, AND, AOI21, AOI22, INVERTER, NAND, NOR, OR};
+use super::parts::{cell, chain, driven, leaf, pin, tree, AND, AOI21, AOI22, INVERTER, NAND, NOR, OR};
 use crate::library::Library;
 use crate::shape::{Shape, Step};
 use crate::tree::{Tree, LATEST_LEAF, LATEST_REQUIRED};
@@ -43,9 +43,14 @@ pub fn tree_b() -> Tree {
     tree(1, 5, INVERTER)
 }
 
-/// Every kind of field, and bits left in the last byte.
+/// Every kind of field but a drive; the last ends with its byte.
 pub fn mixed_tree() -> Tree {
     tree(3, 70_000, &[Nand, Inv, Leaf(5), Nand, Leaf(LATEST_LEAF), Leaf(0)])
+}
+
+/// Driven leaves and a plain one, and bits left in the last byte.
+pub fn driven_tree() -> Tree {
+    tree(4, 2_000_000, &[Inv, Nand, Inv, driven(5, 9), Nand, leaf(7), driven(LATEST_LEAF, 255)])
 }
 
 /// Four bins, a held cell, and a cell with two patterns.

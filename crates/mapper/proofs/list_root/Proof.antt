@@ -22,7 +22,7 @@ leaf-arrival-requires : tie.Need-leaf-arrival-requires
 leaf-arrival-requires c κs =
     let p = c .before .before .before .before .pre in
     let e = c .before .if1 in
-    (omega (arith, e), leaf-small (p .1 .1 .1 .1) (omega (arith, e)), search needs)
+    (omega (arith, e), leaf-small (p .1 .1 .1 .1), search needs)
 
 slice-write-work : tie.Need-slice-write-work
 slice-write-work c = search needs

@@ -1,5 +1,4 @@
 use borrow.Author.Needs.{needs}
-use Prim.Native.Nat.{_-_}
 use mathlib.Core.Path.{ap, _∙_}
 use native.Mathlib.Omega.{arith}
 use Rattle.results.specs.declared.CoverRecord.{CoverRecord}
@@ -9,6 +8,7 @@ use Rattle.mapper.specs.Found.{ofMapped, bareCover, refusedWith}
 use Rattle.mapper.proofs.Root.{leaf-late, leaf-timely}
 use Rattle.mapper.proofs.map_leaf.Statement.{statement}
 use Rattle.mapper.proofs.map_leaf.Tie as tie
+use Rattle.overlay.specs.Held.{leafOf}
 
 leaf-arrival-requires : tie.Need-leaf-arrival-requires
 leaf-arrival-requires c κs = search needs
@@ -24,7 +24,7 @@ unfolding refusedWith bareCover
 returns c =
     let a = c .before .before .before .args in
     let arrival = c .before .before .leaf-arrival .ensures .0 in
-    (λ l. ap ofMapped (c .refuse .ensures) ∙ leaf-late l (a .load) (a .symbol - 2) (a .time) (omega (arith, arrival, c .before .if1)), ap (λ (r : Mapped). r .cover .count) (c .refuse .ensures))
+    (λ l. ap ofMapped (c .refuse .ensures) ∙ leaf-late l (a .load) (leafOf (a .symbol)) (a .time) (omega (arith, arrival, c .before .if1)), ap (λ (r : Mapped). r .cover .count) (c .refuse .ensures))
 
 bare-requires : tie.Need-bare-requires
 bare-requires c κs = search needs
@@ -35,7 +35,7 @@ returns-2 c =
     let a = c .before .before .before .args in
     let arrival = c .before .before .leaf-arrival .ensures .0 in
     let whole = ap {B = Mapped} (λ (k : CoverRecord). record { finding = Found; cover = k }) (c .bare .ensures) in
-    (λ l. ap ofMapped whole ∙ leaf-timely l (a .load) (a .symbol - 2) (a .time) _ arrival (omega (arith, c .before .if1)), ap (λ (k : CoverRecord). k .count) (c .bare .ensures))
+    (λ l. ap ofMapped whole ∙ leaf-timely l (a .load) (leafOf (a .symbol)) (a .time) _ arrival (omega (arith, c .before .if1)), ap (λ (k : CoverRecord). k .count) (c .bare .ensures))
 
 pub map-leaf-spec : {M : Type 1} → statement M
 map-leaf-spec =

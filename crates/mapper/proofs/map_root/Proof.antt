@@ -21,7 +21,7 @@ map-leaf-requires : tie.Need-map-leaf-requires
 map-leaf-requires c κs =
     let p = c .before .before .before .before .before .before .before .pre in
     let e = c .if1 in
-    (omega (arith, e), leaf-small (p .1 .1) (omega (arith, e)), search needs)
+    (omega (arith, e), leaf-small (p .1 .1), search needs)
 
 returns : tie.Need-returns
 returns c l t asked =

@@ -3,7 +3,7 @@ use borrow.Author.Needs.{needs}
 use native.Mathlib.Omega.{arith}
 use mathlib.Core.Path.{subst}
 use Prim.Native.Nat.{ℕ, _<_, _≤_, _-_, _*_, _+_}
-use Rattle.shapes.proofs.Nodes.{room-inside, refused-done, leaf-room, leaf-done, gate-next, gate-in-room, gate-small, gate-room, inv-done, nand-done, second-refused, second-room, second-done}
+use Rattle.shapes.proofs.Nodes.{room-inside, refused-done, leaf-room, leaf-done, driven-done, gate-next, gate-in-room, gate-room, inv-done, nand-done, second-refused, second-room, second-done}
 use Rattle.shapes.specs.Promises.{nextOf, CodeRead}
 use borrow.Fn.Kinds.{In}
 use borrow.Fn.PlainCycle.{Measures, is, falls, and}
@@ -15,6 +15,7 @@ use Rattle.shapes.proofs.read_pair.Kinds as read-pair-kinds
 use Rattle.shapes.proofs.+read_node+read_pair.Lts-read_pair as read-pair-lts
 use Rattle.shapes.proofs.read_code.Reads as read-code-reads
 use Rattle.shapes.proofs.read_leaf.Reads as read-leaf-reads
+use Rattle.shapes.proofs.read_driven.Reads as read-driven-reads
 use Rattle.shapes.proofs.+read_node+read_pair.{statement}
 use Rattle.shapes.proofs.+read_node+read_pair.Tie.{close}
 
@@ -46,6 +47,8 @@ of-node t = (
   read-code-reads.Learnt,
   read-leaf-reads.Asked,
   read-leaf-reads.Learnt,
+  read-driven-reads.Asked,
+  read-driven-reads.Learnt,
   read-node-below t,
   read-node.Post,
   read-pair-below t,
@@ -77,26 +80,38 @@ read-node-returns-2 t c s opens =
     let done = c .read-leaf .ensures s opens in
     (leaf-done (c .before .before .before .before .before .before .before .before .before .pre .1) s _ _ _ (c .before .before .before .if1 .taken) (subst (CodeRead s _ _ _) (c .before .before .before .before .before .read .given .1) (c .before .before .before .before .before .before .before .read-code .ensures s opens)) (done .0), done .1)
 
+read-node-read-driven-requires : (t : ℕ) → read-node-lts.Need-read-driven-requires (of-node t) (read-node-at t) read-node.Post
+read-node-read-driven-requires t c κs =
+    let room = c .before .before .before .before .before .before .before .before .before .pre .1 in
+    let code = (subst (CodeRead (room .opened .sheet) _ _ _) (c .before .before .before .before .before .read .given .1) (c .before .before .before .before .before .before .before .read-code .ensures (room .opened .sheet) (room .opened .opens))) in
+    (leaf-room room (room .opened .sheet) _ code, code .coded .tree (c .before .before .if2 .taken))
+
+read-node-returns-3 : (t : ℕ) → read-node-lts.Need-returns-3 (of-node t) (read-node-at t) read-node.Post
+read-node-returns-3 t c s opens =
+    let done = c .read-driven .ensures s opens in
+    (driven-done (c .before .before .before .before .before .before .before .before .before .before .pre .1) s _ _ _ (c .before .before .before .if2 .taken) (subst (CodeRead s _ _ _) (c .before .before .before .before .before .before .read .given .1) (c .before .before .before .before .before .before .before .before .read-code .ensures s opens)) (done .0), done .1)
+
 read-node-element-copy-out-n : (t : ℕ) → read-node-lts.Need-element-copy-out-n (of-node t) (read-node-at t) read-node.Post
 read-node-element-copy-out-n t c = omega arith
 
 -- a gate's code is small, and there is room for the gate
-small : (t : ℕ) (c : read-node-lts.After-n (of-node t) (read-node-at t) read-node.Post) → c .before .before .before .read .given .0 .0 ≤ 2
+small : (t : ℕ) (c : read-node-lts.After-n (of-node t) (read-node-at t) read-node.Post) → c .before .before .before .before .read .given .0 .0 ≤ 2
 small t c =
-    let room = c .before .before .before .before .before .before .before .pre .1 in
-    gate-small room (room .opened .sheet) _ (subst (CodeRead (room .opened .sheet) _ _ _) (c .before .before .before .read .given .1) (c .before .before .before .before .before .read-code .ensures (room .opened .sheet) (room .opened .opens)))
+    let room = c .before .before .before .before .before .before .before .before .pre .1 in
+    let code = (subst (CodeRead (room .opened .sheet) _ _ _) (c .before .before .before .before .read .given .1) (c .before .before .before .before .before .before .read-code .ensures (room .opened .sheet) (room .opened .opens))) in
+    omega (arith, code .coded .reads .small, c .before .if2 .left)
 
-in-room : (t : ℕ) (c : read-node-lts.After-n (of-node t) (read-node-at t) read-node.Post) → nextOf (c .before .before .before .before .before .read-code .last .1 .1 .1 .0) < 64
+in-room : (t : ℕ) (c : read-node-lts.After-n (of-node t) (read-node-at t) read-node.Post) → nextOf (c .before .before .before .before .before .before .read-code .last .1 .1 .1 .0) < 64
 in-room t c =
-    let room = c .before .before .before .before .before .before .before .pre .1 in
-    let code = (subst (CodeRead (room .opened .sheet) _ _ _) (c .before .before .before .read .given .1) (c .before .before .before .before .before .read-code .ensures (room .opened .sheet) (room .opened .opens))) in
-    omega (arith, code .next, gate-in-room room (room .opened .sheet) _ code, room .rules-are .nodes)
+    let room = c .before .before .before .before .before .before .before .before .pre .1 in
+    let code = (subst (CodeRead (room .opened .sheet) _ _ _) (c .before .before .before .before .read .given .1) (c .before .before .before .before .before .before .read-code .ensures (room .opened .sheet) (room .opened .opens))) in
+    omega (arith, code .next, gate-in-room room (room .opened .sheet) _ (small t c) code, room .rules-are .nodes)
 
 read-node-cast-symbols : (t : ℕ) → read-node-lts.Need-cast-symbols (of-node t) (read-node-at t) read-node.Post
 read-node-cast-symbols t c = omega (arith, small t c)
 
 read-node-sub-symbols : (t : ℕ) → read-node-lts.Need-sub-symbols (of-node t) (read-node-at t) read-node.Post
-read-node-sub-symbols t c = omega (arith, c .before .if1 .left)
+read-node-sub-symbols t c = omega (arith, c .before .before .if1 .left)
 
 read-node-mul-symbols : (t : ℕ) → read-node-lts.Need-mul-symbols (of-node t) (read-node-at t) read-node.Post
 read-node-mul-symbols t c = omega (arith, in-room t c)
@@ -112,26 +127,28 @@ read-node-element-write-words t c = omega arith
 
 read-node-read-node-requires : (t : ℕ) → read-node-lts.Need-read-node-requires (of-node t) (read-node-at t) read-node.Post
 read-node-read-node-requires t c κs =
-    let room = c .before .before .before .before .before .before .before .before .before .before .pre .1 in
-    let code = (subst (CodeRead (room .opened .sheet) _ _ _) (c .before .before .before .before .before .before .read .given .1) (c .before .before .before .before .before .before .before .before .read-code .ensures (room .opened .sheet) (room .opened .opens))) in
-    (omega (arith, c .before .before .before .before .before .before .before .before .before .before .pre .0, gate-next room (room .opened .sheet) _ code, gate-in-room room (room .opened .sheet) _ code), gate-room room (room .opened .sheet) _ code)
-
-read-node-returns-3 : (t : ℕ) → read-node-lts.Need-returns-3 (of-node t) (read-node-at t) read-node.Post
-read-node-returns-3 t c s opens =
-    let done = c .read-node .ensures s opens in
-    (inv-done (c .before .before .before .before .before .before .before .before .before .before .before .pre .1) s _ (subst (CodeRead s _ _ _) (c .before .before .before .before .before .before .before .read .given .1) (c .before .before .before .before .before .before .before .before .before .read-code .ensures s opens)) _ _ (c .before .before .before .if2 .taken) (done .0), done .1)
-
-read-node-read-pair-requires : (t : ℕ) → read-node-lts.Need-read-pair-requires (of-node t) (read-node-at t) read-node.Post
-read-node-read-pair-requires t c κs =
-    let room = c .before .before .before .before .before .before .before .before .before .before .pre .1 in
-    let code = (subst (CodeRead (room .opened .sheet) _ _ _) (c .before .before .before .before .before .before .read .given .1) (c .before .before .before .before .before .before .before .before .read-code .ensures (room .opened .sheet) (room .opened .opens))) in
-    (omega (arith, c .before .before .before .before .before .before .before .before .before .before .pre .0, gate-next room (room .opened .sheet) _ code, gate-in-room room (room .opened .sheet) _ code), gate-room room (room .opened .sheet) _ code)
+    let room = c .before .before .before .before .before .before .before .before .before .before .before .pre .1 in
+    let code = (subst (CodeRead (room .opened .sheet) _ _ _) (c .before .before .before .before .before .before .before .read .given .1) (c .before .before .before .before .before .before .before .before .before .read-code .ensures (room .opened .sheet) (room .opened .opens))) in
+    let small = small t (c .before .before .before) in
+    (omega (arith, c .before .before .before .before .before .before .before .before .before .before .before .pre .0, gate-next room (room .opened .sheet) _ small code, gate-in-room room (room .opened .sheet) _ small code), gate-room room (room .opened .sheet) _ small code)
 
 read-node-returns-4 : (t : ℕ) → read-node-lts.Need-returns-4 (of-node t) (read-node-at t) read-node.Post
 read-node-returns-4 t c s opens =
+    let done = c .read-node .ensures s opens in
+    (inv-done (c .before .before .before .before .before .before .before .before .before .before .before .before .pre .1) s _ (small t (c .before .before .before .before)) (subst (CodeRead s _ _ _) (c .before .before .before .before .before .before .before .before .read .given .1) (c .before .before .before .before .before .before .before .before .before .before .read-code .ensures s opens)) _ _ (c .before .before .before .if3 .taken) (done .0), done .1)
+
+read-node-read-pair-requires : (t : ℕ) → read-node-lts.Need-read-pair-requires (of-node t) (read-node-at t) read-node.Post
+read-node-read-pair-requires t c κs =
+    let room = c .before .before .before .before .before .before .before .before .before .before .before .pre .1 in
+    let code = (subst (CodeRead (room .opened .sheet) _ _ _) (c .before .before .before .before .before .before .before .read .given .1) (c .before .before .before .before .before .before .before .before .before .read-code .ensures (room .opened .sheet) (room .opened .opens))) in
+    let small = small t (c .before .before .before) in
+    (omega (arith, c .before .before .before .before .before .before .before .before .before .before .before .pre .0, gate-next room (room .opened .sheet) _ small code, gate-in-room room (room .opened .sheet) _ small code), gate-room room (room .opened .sheet) _ small code)
+
+read-node-returns-5 : (t : ℕ) → read-node-lts.Need-returns-5 (of-node t) (read-node-at t) read-node.Post
+read-node-returns-5 t c s opens =
     let done = c .read-pair .ensures s opens in
-    let code = (subst (CodeRead s _ _ _) (c .before .before .before .before .before .before .before .read .given .1) (c .before .before .before .before .before .before .before .before .before .read-code .ensures s opens)) in
-    (nand-done (c .before .before .before .before .before .before .before .before .before .before .before .pre .1) s _ code _ _ (omega (arith, c .before .before .before .if2 .left, c .before .before .before .before .before .if1 .left, gate-small (c .before .before .before .before .before .before .before .before .before .before .before .pre .1) s _ code)) (done .0), done .1)
+    let small = small t (c .before .before .before .before) in
+    (nand-done (c .before .before .before .before .before .before .before .before .before .before .before .before .pre .1) s _ small (subst (CodeRead s _ _ _) (c .before .before .before .before .before .before .before .before .read .given .1) (c .before .before .before .before .before .before .before .before .before .before .read-code .ensures s opens)) _ _ (omega (arith, small, c .before .before .before .if3 .left, c .before .before .before .before .before .before .if1 .left)) (done .0), done .1)
 
 read-pair-read-node-requires : (t : ℕ) → read-pair-lts.Need-read-node-requires (of-pair t) (read-pair-at t) read-pair.Post
 read-pair-read-node-requires t c κs = (omega (arith, c .before .before .pre .0), c .before .before .pre .1)
@@ -170,6 +187,8 @@ pub +read-node+read-pair-spec : {M : Type 1} → statement M
     (read-node-returns t)
     (read-node-read-leaf-requires t)
     (read-node-returns-2 t)
+    (read-node-read-driven-requires t)
+    (read-node-returns-3 t)
     (read-node-element-copy-out-n t)
     (read-node-cast-symbols t)
     (read-node-sub-symbols t)
@@ -178,9 +197,9 @@ pub +read-node+read-pair-spec : {M : Type 1} → statement M
     (read-node-add-words t)
     (read-node-element-write-words t)
     (read-node-read-node-requires t)
-    (read-node-returns-3 t)
+    (read-node-returns-4 t)
     (read-node-read-pair-requires t)
-    (read-node-returns-4 t))
+    (read-node-returns-5 t))
     λ t. read-pair-lts.spec
     (read-node-below t, read-node.Post)
     (read-pair-at t)

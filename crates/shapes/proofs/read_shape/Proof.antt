@@ -7,7 +7,7 @@ use Rattle.bits.specs.Bits.{placeOf}
 use Rattle.bits.proofs.Words.{stands}
 use Rattle.fields.specs.Reading.{place}
 use Rattle.fields.specs.Promises.{Live}
-use Rattle.shapes.specs.Promises.{ShapeIs}
+use Rattle.shapes.specs.Promises.{nodeBits, ShapeIs}
 use Rattle.shapes.proofs.Wholes.{shape-refused, shape-ended, start-room, end-place, shape-done}
 use borrow.Author.Needs.{needs}
 use Rattle.shapes.proofs.read_shape.Statement.{statement}
@@ -65,7 +65,7 @@ array-read-t12 : tie.Need-array-read-t12
 array-read-t12 c = search needs
 
 -- where the reader ended
-ends : (c : tie.After-read-node) → let w = c .read-node .last .1 .1 .1 .1 .1 .1 .0 in 8 * (c .before .before .before .before .before .before .on .result .byte + getD w 0 0) + getD w 1 0 ≤ place (c .before .before .before .before .before .before .before .before .before .before .before .args .scan) + 26 * c .before .before .before .before .before .before .before .before .before .before .before .args .rules .nodes
+ends : (c : tie.After-read-node) → let w = c .read-node .last .1 .1 .1 .1 .1 .1 .0 in 8 * (c .before .before .before .before .before .before .on .result .byte + getD w 0 0) + getD w 1 0 ≤ place (c .before .before .before .before .before .before .before .before .before .before .before .args .scan) + nodeBits * c .before .before .before .before .before .before .before .before .before .before .before .args .rules .nodes
 unfolding placeOf
 ends c =
     let a = c .before .before .before .before .before .before .before .before .before .before .before .args in

@@ -1,9 +1,10 @@
-//! Judging the longest sound library and the longest sound tree.
+//! Judging the longest sound library, the longest sound tree, and the longest whose leaves are plain.
 
 use crate::clock::{medians, print_times, Contestant};
 use reference::form::Form;
 use reference::generate::damage::Kind;
 use reference::generate::longest;
+use reference::tree::Tree;
 use reference::verdict::Verdict;
 use reference::{product, wordwise};
 use std::hint::black_box;
@@ -11,11 +12,13 @@ use std::hint::black_box;
 /// Answers as `Verdict::coded` does.
 type Judge = fn(Kind, &[u8]) -> u64;
 
-/// Who judges: the product first, then an earlier one, if it is linked.
+const BEFORE: &str = "before";
+
+/// Who judges: the product first, then an earlier one, if it is linked. It may refuse a tree with driven leaves.
 const JUDGES: &[(&str, Judge)] = &[
     ("product", product::judge),
     #[cfg(feature = "before")]
-    ("before", product::judge_before),
+    (BEFORE, product::judge_before),
     ("reference", |kind, sheet| Verdict::of(kind, sheet).coded()),
     ("wordwise", wordwise::judge),
 ];
@@ -23,6 +26,7 @@ const JUDGES: &[(&str, Judge)] = &[
 /// One sheet; in a round of the table everyone judges it `calls` times.
 struct Row {
     name: &'static str,
+    title: &'static str,
     kind: Kind,
     sheet: Vec<u8>,
     calls: usize,
@@ -30,9 +34,10 @@ struct Row {
 
 pub fn run() {
     for row in rows() {
-        println!("judge the longest sound {}, {} bytes:", format!("{:?}", row.kind).to_lowercase(), row.sheet.len());
-        let contestants = JUDGES.iter().map(|&(_, judge)| row.contestant(judge)).collect();
-        let who: Vec<&str> = JUDGES.iter().map(|&(who, _)| who).collect();
+        println!("judge {}, {} bytes:", row.title, row.sheet.len());
+        let judges = row.judges();
+        let contestants = judges.iter().map(|&(_, judge)| row.contestant(judge)).collect();
+        let who: Vec<&str> = judges.iter().map(|&(who, _)| who).collect();
         print_times(&who, &medians(row.calls, contestants));
     }
 }
@@ -48,16 +53,32 @@ pub fn repeat(arguments: &[String]) -> bool {
     true
 }
 
-fn rows() -> [Row; 2] {
+fn rows() -> [Row; 3] {
     let library = Form::of_library(&longest::library()).bytes();
-    let tree = Form::of_tree(&longest::tree()).bytes();
     [
-        Row { name: "longest_library", kind: Kind::Library, sheet: library, calls: 200 },
-        Row { name: "longest_tree", kind: Kind::Tree, sheet: tree, calls: 10_000 },
+        Row {
+            name: "longest_library",
+            title: "the longest sound library",
+            kind: Kind::Library,
+            sheet: library,
+            calls: 200,
+        },
+        Row::of_tree("longest_tree", "the longest sound tree", &longest::tree()),
+        Row::of_tree("longest_plain_tree", "the longest sound tree with plain leaves", &longest::plain_tree()),
     ]
 }
 
 impl Row {
+    fn of_tree(name: &'static str, title: &'static str, tree: &Tree) -> Row {
+        Row { name, title, kind: Kind::Tree, sheet: Form::of_tree(tree).bytes(), calls: 10_000 }
+    }
+
+    /// All but an earlier product that refuses the sheet.
+    fn judges(&self) -> Vec<(&'static str, Judge)> {
+        let takes_part = |(who, judge): &(&str, Judge)| *who != BEFORE || judge(self.kind, &self.sheet) >> 32 == 0;
+        JUDGES.iter().copied().filter(takes_part).collect()
+    }
+
     fn contestant(&self, judge: Judge) -> Contestant<'_> {
         let expected = Verdict::of(self.kind, &self.sheet).coded();
         Box::new(move || assert_eq!(judge(self.kind, black_box(&self.sheet)), expected))

@@ -2,10 +2,12 @@
 //!
 //! `bench`: a table of times and ratios.
 //! `bench repeat COUNT WHO ROW`: so many maps of a row (`typical`, `chain`, `comb`, `deep`, `full`,
-//! `crosscomb`) by `product`, `plain`, `plain_kept`, `merging` or, if it is linked, `before`, or
+//! `crosscomb`, `driven`) by `product`, `plain`, `plain_kept`, `merging` or, if it is linked, `before`, or
 //! judgements of its cover by `judge`; or so many judgements of a sheet (`longest_library`,
-//! `longest_tree`) by `product`, `reference`, `wordwise` or `before`. It is for a profiler that counts
-//! instructions: two counts, and the difference is free of what comes before the first one.
+//! `longest_tree`, `longest_plain_tree`) by `product`, `reference`, `wordwise` or `before`. It is for a
+//! profiler that counts instructions: two counts, and the difference is free of what comes before the
+//! first one. It fails where `before` refuses the row, as a product without driven leaves does; the table
+//! then leaves it out.
 
 mod clock;
 mod cover;

@@ -17,22 +17,14 @@ struct Row {
     expected: Vec<u8>,
 }
 
-/// Who maps: the product first, and an earlier one last, if it is linked.
-fn who() -> Vec<&'static str> {
-    let mut who = vec!["product", "plain", "plain_kept", "merging"];
-    if cfg!(feature = "before") {
-        who.push("before");
-    }
-    who
-}
-
 pub fn run() {
     for (name, problem) in heavy::all() {
         let row = Row::of(problem);
-        let calls = if name == "typical" { 200 } else { 2 };
-        let contestants = who().iter().map(|who| row.contestant(who)).collect();
+        let who = row.who();
+        let calls = if ["typical", "driven"].contains(&name) { 200 } else { 2 };
+        let contestants = who.iter().map(|who| row.contestant(who)).collect();
         println!("map, {name} ({}):", row.size());
-        print_times(&who(), &medians(calls, contestants));
+        print_times(&who, &medians(calls, contestants));
     }
 }
 
@@ -63,6 +55,27 @@ impl Row {
         )
     }
 
+    /// Who maps: the product first, and an earlier one last, if it is linked and takes the row's sheets.
+    fn who(&self) -> Vec<&'static str> {
+        let mut who = vec!["product", "plain", "plain_kept", "merging"];
+        if self.is_mapped_before() {
+            who.push("before");
+        }
+        who
+    }
+
+    /// An earlier product may refuse a tree with driven leaves.
+    #[cfg(feature = "before")]
+    fn is_mapped_before(&self) -> bool {
+        let (mut output, mut work) = lent();
+        product::map_before(&self.library, &self.tree, &mut output, &mut work) >> 32 == 0
+    }
+
+    #[cfg(not(feature = "before"))]
+    fn is_mapped_before(&self) -> bool {
+        false
+    }
+
     fn contestant(&self, who: &str) -> Contestant<'_> {
         match (who, Variant::named(who)) {
             (_, Some(variant)) => self.plain(variant),
@@ -70,7 +83,7 @@ impl Row {
             ("merging", _) => self.merging(),
             #[cfg(feature = "before")]
             ("before", _) => self.before(),
-            _ => panic!("one of {:?}", self::who()),
+            _ => panic!("one of {:?}", self.who()),
         }
     }
 

@@ -1,7 +1,7 @@
 //! Stored cases of bill's text. A record is a kind byte (6), the input's length in two bytes, high byte first, and
 //! the input; its result is one or more lines.
 
-use crate::cover::{every_refusal, example_in_time, greatest, mapped, unsound};
+use crate::cover::{drivers, every_refusal, example_in_time, greatest, mapped, unsound};
 use crate::kinds::Kinds;
 use crate::stored::Stored;
 use reference::bill::{self, Answer, Bill, HEADING};
@@ -21,7 +21,7 @@ use reference::rng::Rng;
 use reference::shape::Shape;
 use reference::shape::Step::{Inv, Leaf, Nand};
 use reference::text::MOST_INPUT;
-use reference::tree::{LATEST_LEAF, LATEST_REQUIRED};
+use reference::tree::{TreeLeaf, LATEST_LEAF, LATEST_REQUIRED};
 use std::collections::{BTreeSet, HashSet};
 
 /// How many cases there must be, of all kinds and of each, and the most bytes of their records.
@@ -78,10 +78,19 @@ fn case_b() -> Draft {
     mapped(Problem { library: specimen::library(), tree: specimen::tree_b() }).expect("a cover")
 }
 
-/// What map hands over for the specimens, and the shipped example.
+/// What map hands over for the specimens, and the shipped example, also with drives.
 fn specimens() -> Vec<Draft> {
-    let specimens = specimen::trees().into_iter().map(|tree| Problem { library: specimen::library(), tree });
-    specimens.chain([example_in_time()]).filter_map(mapped).chain([shipped()]).collect()
+    let trees = specimen::trees().into_iter().chain([specimen::driven_tree()]);
+    let specimens = trees.map(|tree| Problem { library: specimen::library(), tree });
+    let drafts = specimens.chain([example_in_time()]).filter_map(mapped);
+    drafts.chain([None, Some(0), Some(1), Some(255)].map(shipped_with)).chain(drivers::chosen()).collect()
+}
+
+/// The shipped example with one drive at every leaf.
+fn shipped_with(drive: Option<u32>) -> Draft {
+    let Draft { mut problem, cover, .. } = shipped();
+    problem.tree = problem.tree.with_drive(drive);
+    Draft::legal(problem, cover.matches)
 }
 
 /// The ends of every scale, and lists that are not in the order of their bills.
@@ -91,7 +100,10 @@ fn chosen() -> Vec<Draft> {
     let mut shuffled: Vec<usize> = (0..64).collect();
     Rng::new(63).shuffle(&mut shuffled);
     let counted = counted_cells();
-    let mut drafts = vec![greatest(), longest_bill(), leaf(0), leaf(LATEST_LEAF), unordered(), two_patterns_of_nands()];
+    let mut drafts = vec![longest_bill(), unordered(), two_patterns_of_nands()];
+    let latest = [TreeLeaf::plain(LATEST_LEAF), TreeLeaf::driven(LATEST_LEAF, 255)];
+    drafts.extend(latest.map(greatest));
+    drafts.extend(latest.into_iter().chain([TreeLeaf::plain(0), TreeLeaf::driven(3, 255)]).map(leaf));
     for patterns in [&upwards[..], &downwards, &shuffled, &[0], &[63], &[63, 0], &[9, 10, 9, 8, 10]] {
         drafts.push(chained(&counted, 1, 0, patterns));
     }
@@ -108,12 +120,12 @@ fn counted_cells() -> Library {
     Library { bins: vec![2], cells: (0..64).map(counted).collect() }
 }
 
-/// The longest text: 63 cells of the greatest area, each once, over a leaf that arrives last, and the slowest.
+/// The longest text: 63 cells of the greatest area, each once, over a leaf that arrives last, and all the slowest.
 fn longest_bill() -> Draft {
     let inverter = cell(65_535, 255, pin(0, 65_535, 255), INVERTER);
     let library = Library { bins: vec![255], cells: vec![inverter; 64] };
     let patterns: Vec<usize> = (1..64).collect();
-    chained(&library, 255, LATEST_LEAF, &patterns)
+    chained(&library, 255, TreeLeaf::driven(LATEST_LEAF, 255), &patterns)
 }
 
 /// Patterns 0 and 1 are of cell 0, 2 of cell 1, the others of cell 2.
@@ -148,15 +160,15 @@ fn small_library(area: u32) -> Library {
 }
 
 /// A tree of one leaf.
-fn leaf(arrival: u32) -> Draft {
-    chained(&small_library(1), 1, arrival, &[])
+fn leaf(leaf: impl Into<TreeLeaf>) -> Draft {
+    chained(&small_library(1), 9, leaf, &[])
 }
 
 /// Margins about the powers of ten, on both sides of zero.
 fn margins() -> Vec<Draft> {
     let powers = (1..8).map(|digits| 10u32.pow(digits));
     let sizes: Vec<u32> = (0..4).chain(powers.flat_map(|power| [power - 1, power, power + 1])).collect();
-    let slow = greatest();
+    let slow = greatest(LATEST_LEAF);
     let positive = sizes.iter().map(|&size| leaf(0).due(size));
     let negative = sizes.iter().filter(|&&size| size <= LATEST_LEAF).map(|&size| leaf(size).due(0));
     let more = sizes.iter().filter(|&&size| size <= slow.cover.arrival);
@@ -346,6 +358,6 @@ mod tests {
     fn the_longest_bill_has_714_bytes() {
         let text = bill::printed(&whole(&longest_bill().due(0).case()));
         assert_eq!((text.lines().count(), text.len()), (65, 714));
-        assert!(text.ends_with("63 1 65535\ntotal 4128705\nmargin -9225280\n"));
+        assert!(text.ends_with("63 1 65535\ntotal 4128705\nmargin -9290305\n"));
     }
 }

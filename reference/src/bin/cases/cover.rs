@@ -1,6 +1,8 @@
 //! Stored cases of the judge of covers. A record is a kind byte (5), the lengths of library, tree
 //! and cover sheet in two bytes each, high byte first, the library, the tree, and the cover sheet.
 
+pub mod drivers;
+
 use crate::kinds::Kinds;
 use crate::stored::{Stored, MOST_BYTES};
 use reference::cover::{Cover, Placed};
@@ -19,7 +21,7 @@ use reference::merging;
 use reference::rng::Rng;
 use reference::shape::Step::{Inv, Leaf, Nand};
 use reference::shape::{Shape, Step};
-use reference::tree::{self, Tree, LATEST_LEAF, LATEST_REQUIRED};
+use reference::tree::{self, Tree, TreeLeaf, LATEST_LEAF, LATEST_REQUIRED};
 use reference::verdict::Verdict;
 use std::collections::{BTreeMap, HashSet};
 
@@ -59,9 +61,10 @@ const KINDS: [&str; 23] = [
 
 pub fn add_all(stored: &mut Stored) {
     let mut covers = Covers::default();
-    for draft in chosen() {
-        covers.sorts(&draft);
+    for draft in chosen().iter().chain(&drivers::chosen()) {
+        covers.sorts(draft);
     }
+    drivers::add_all(&mut covers);
     for draft in flipped() {
         covers.flips_and_cuts(&draft);
     }
@@ -146,11 +149,11 @@ fn crossed() -> Problem {
     Problem { library: Library { bins: vec![1, 3, 7], cells: vec![inverter, nand, three] }, tree: tree(2, 0, &steps) }
 }
 
-/// 63 inverters of the greatest area and delay over a leaf that arrives last.
-pub fn greatest() -> Draft {
+/// 63 inverters of the greatest area and delay over a leaf.
+pub fn greatest(leaf: impl Into<TreeLeaf>) -> Draft {
     let inverter = cell(65_535, 255, pin(0, 65_535, 255), INVERTER);
     let library = Library { bins: vec![255], cells: vec![inverter] };
-    let tree = tree(255, LATEST_REQUIRED, &chain(63, &[Leaf(LATEST_LEAF)]));
+    let tree = tree(255, LATEST_REQUIRED, &chain(63, &[Leaf(leaf.into())]));
     mapped(Problem { library, tree }).expect("a cover")
 }
 
@@ -286,7 +289,7 @@ impl Covers {
 
     /// The largest list: 63 matches. A match more cannot be counted.
     fn largest(&mut self) {
-        let draft = greatest();
+        let draft = greatest(LATEST_LEAF);
         self.add(draft.case());
         self.figures(&draft);
         let draft = inverters(63);

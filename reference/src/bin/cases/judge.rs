@@ -3,7 +3,7 @@
 
 use crate::stored::Stored;
 use reference::form::{Field, Form, Role};
-use reference::generate::damage::{any_form, any_sheet, damaged, edge_values, Kind};
+use reference::generate::damage::{any_form, any_sheet, damaged, edge_values, torn_in, Kind};
 use reference::generate::{limits, longest, sound, specimen};
 use reference::rng::Rng;
 use reference::verdict::Verdict;
@@ -38,6 +38,7 @@ fn originals() -> Vec<(Kind, Form)> {
         (Kind::Library, Form::of_library(&specimen::library())),
         (Kind::Tree, Form::of_tree(&specimen::tree_b())),
         (Kind::Tree, Form::of_tree(&specimen::mixed_tree())),
+        (Kind::Tree, Form::of_tree(&specimen::driven_tree())),
     ]
 }
 
@@ -64,22 +65,28 @@ fn edges(stored: &mut Stored, kind: Kind, form: &Form) {
     }
 }
 
-/// The longest sound library, and faults at its very end.
+/// The longest sound sheets, and faults at their very ends.
 fn long_ends(stored: &mut Stored) {
-    let form = Form::of_library(&longest::library());
-    let bytes = form.bytes();
-    add(stored, Kind::Library, &bytes);
-    add(stored, Kind::Library, &bytes[..bytes.len() - 1]);
-    add(stored, Kind::Library, &[bytes.as_slice(), &[0]].concat());
-    let last = form.fields.len() - 1;
-    (0..8).for_each(|value| add(stored, Kind::Library, &form.with(last, value).bytes()));
+    let trees = [longest::tree(), longest::plain_tree()].map(|tree| (Kind::Tree, Form::of_tree(&tree), 5));
+    for (kind, form, most_cut) in [(Kind::Library, Form::of_library(&longest::library()), 1)].into_iter().chain(trees) {
+        let bytes = form.bytes();
+        (0..=most_cut).for_each(|cut| add(stored, kind, &bytes[..bytes.len() - cut]));
+        add(stored, kind, &[bytes.as_slice(), &[0]].concat());
+        let last = form.fields.len() - 1;
+        for value in edge_values(form.fields[last].role) {
+            add(stored, kind, &form.with(last, value).bytes());
+        }
+    }
 }
 
 /// Inverters put before each node, so that the whole is below, at and above the limit.
 fn too_large(stored: &mut Stored) {
     let library = Form::of_library(&specimen::rich_library());
     let tree = Form::of_tree(&specimen::mixed_tree());
-    for (kind, form, counts) in [(Kind::Library, library, 8..=14), (Kind::Tree, tree, 57..=60)] {
+    let driven = Form::of_tree(&specimen::driven_tree());
+    for (kind, form, counts) in
+        [(Kind::Library, library, 8..=14), (Kind::Tree, tree, 57..=60), (Kind::Tree, driven, 56..=59)]
+    {
         for code in form.find(Role::Code) {
             counts.clone().for_each(|count| add(stored, kind, &with_inverters(&form, code, count).bytes()));
         }
@@ -100,19 +107,14 @@ fn truncated_fields(stored: &mut Stored) {
     let of_tree = Role::OF_TREE.map(|role| (Kind::Tree, role));
     for (kind, role) in of_library.into_iter().chain(of_tree) {
         for _ in 0..5 {
-            let cut = std::iter::repeat_with(|| cut_in(&any_form(&mut rng, kind), role));
-            let mut short = cut.flatten().filter(|sheet| sheet.len() < 200);
+            let torn = std::iter::repeat_with(|| {
+                let form = any_form(&mut rng, kind);
+                torn_in(&mut rng, &form, role)
+            });
+            let mut short = torn.flatten().filter(|sheet| sheet.len() < 200);
             add(stored, kind, &short.next().expect("a sheet truncated there"));
         }
     }
-}
-
-/// The sheet cut after some byte so that the first field not whole is of this role.
-fn cut_in(form: &Form, role: Role) -> Option<Vec<u8>> {
-    let length = |field: usize| (form.place(field + 1) - 1) / 8;
-    let truncated = |&field: &usize| length(field) * 8 >= form.place(field);
-    let field = form.find(role).into_iter().rev().find(truncated)?;
-    Some(form.bytes()[..length(field)].to_vec())
 }
 
 fn large(stored: &mut Stored) {

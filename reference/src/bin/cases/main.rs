@@ -14,6 +14,20 @@ use std::io;
 use std::path::PathBuf;
 use stored::Stored;
 
+/// The kinds of cases with driven leaves, as `Stored` counts them, that must not be rare.
+const DRIVEN_STORED: [&str; 5] = [
+    "driven leaves, tree: answered",
+    "driven leaves, map: answered",
+    "driven leaves, map: refused  8",
+    "driven leaves, list: answered",
+    "driven leaves, treecover: answered",
+];
+const DRIVEN_COVERS: [&str; 3] = [
+    "driven leaves, judge of covers: answered",
+    "driven leaves, judge of covers: refused 23",
+    "driven leaves, judge of covers: refused 24",
+];
+
 fn main() -> io::Result<()> {
     let directory = std::env::args().nth(1).map_or_else(|| PathBuf::from("cases"), PathBuf::from);
     std::fs::create_dir_all(&directory)?;
@@ -24,11 +38,15 @@ fn main() -> io::Result<()> {
     text::add_all(&mut stored);
     stored.write(&directory, "stored")?;
     stored.print_histogram();
+    stored.check_driven(&DRIVEN_STORED);
     let mut covers = Stored::default();
     cover::add_all(&mut covers);
     covers.write(&directory, "covers")?;
     covers.print_histogram();
+    covers.check_driven(&DRIVEN_COVERS);
     let mut bills = Stored::default();
     bill::add_all(&mut bills);
-    bills.write(&directory, "bills")
+    bills.write(&directory, "bills")?;
+    bills.check_driven(&["driven leaves, bill: answered"]);
+    Ok(())
 }

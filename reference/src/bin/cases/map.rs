@@ -8,6 +8,7 @@ use reference::generate::damage::{damaged, Kind};
 use reference::generate::problem::{any_style, problem, Problem};
 use reference::generate::{heavy, specimen};
 use reference::hex::hex;
+use reference::library::Library;
 use reference::merging;
 use reference::operation::{Lent, Operation, LEAST_WORK};
 use reference::rng::Rng;
@@ -24,7 +25,7 @@ pub fn add_all(stored: &mut Stored) {
     for chosen in chosen::all() {
         match chosen.outcome {
             Outcome::Single(arrival, _) if chosen.matches.is_some() => at_its_point(stored, &chosen.problem, arrival),
-            _ => sweep(stored, &chosen.problem, if chosen.problem.library.cells.len() < 10 { 3 } else { 2 }),
+            _ => sweep(stored, &chosen.problem, if is_small(&chosen.problem.library) { 3 } else { 2 }),
         }
     }
     for (_, problem) in heavy::all() {
@@ -34,6 +35,7 @@ pub fn add_all(stored: &mut Stored) {
             at_three_times(stored, &problem);
         }
     }
+    zero_drives(stored);
     lent_lengths(stored);
     order_of_refusals(stored);
     damaged_sheets(stored, 200);
@@ -76,10 +78,13 @@ fn sweep(stored: &mut Stored, problem: &Problem, most: usize) {
     telling_times(problem, most).into_iter().for_each(|required| map_by(stored, problem, required));
 }
 
-/// Map at the arrival of the only trade-off, and just before.
+/// Map at the arrival of the only trade-off, and just before; if leaves are driven, the list too.
 fn at_its_point(stored: &mut Stored, problem: &Problem, arrival: u32) {
     map_by(stored, problem, arrival);
     map_by(stored, problem, arrival - 1);
+    if problem.tree.has_driven_leaves() {
+        ask(stored, Operation::List, problem);
+    }
 }
 
 /// The list, and map at the latest time, in the middle of the list, and just before its beginning.
@@ -91,25 +96,46 @@ fn at_three_times(stored: &mut Stored, problem: &Problem) {
     }
 }
 
-/// The ends of the scale, and some of the list's arrivals with both their neighbours.
+/// The ends of the scale, and some of the list's arrivals with the times just before; if the library is small, also
+/// with those just after.
 fn telling_times(problem: &Problem, most: usize) -> Vec<u32> {
     let mut times = vec![0, LATEST_REQUIRED];
+    let after = is_small(&problem.library) as u32;
     if let Ok(pairs) = merging::list(&problem.library, &problem.tree) {
         let arrivals = pairs.iter().step_by(pairs.len().div_ceil(most)).chain(pairs.last());
-        times.extend(arrivals.flat_map(|pair| [pair.arrival.saturating_sub(1), pair.arrival, pair.arrival + 1]));
+        times.extend(arrivals.flat_map(|pair| pair.arrival.saturating_sub(1)..=pair.arrival + after));
     }
     times.sort();
     times.dedup();
     times
 }
 
+fn is_small(library: &Library) -> bool {
+    library.cells.len() < 10
+}
+
+/// With plain leaves, and with driven leaves of drive 0, which change nothing.
 fn specimens(stored: &mut Stored) {
-    for tree in specimen::trees() {
-        let problem = Problem { library: specimen::library(), tree };
-        BOTH.iter().for_each(|&operation| ask(stored, operation, &problem));
+    for drive in [None, Some(0)] {
+        for tree in specimen::trees() {
+            let problem = Problem { library: specimen::library(), tree: tree.with_drive(drive) };
+            BOTH.iter().for_each(|&operation| ask(stored, operation, &problem));
+        }
+        let tree = specimen::example_tree(39).with_drive(drive);
+        sweep(stored, &Problem { library: specimen::example_library(), tree }, 31);
     }
-    let example = Problem { library: specimen::example_library(), tree: specimen::example_tree(39) };
-    sweep(stored, &example, 31);
+}
+
+/// Problems of many kinds with driven leaves of drive 0 in place of their plain leaves, which stand in the file too.
+fn zero_drives(stored: &mut Stored) {
+    let few_cells = |chosen: &chosen::Chosen| chosen.problem.library.cells.len() < 4;
+    let plain = |chosen: &chosen::Chosen| !chosen.problem.tree.has_driven_leaves();
+    for chosen in chosen::all().into_iter().filter(plain).filter(few_cells).step_by(9) {
+        let Problem { library, tree } = chosen.problem;
+        sweep(stored, &Problem { library, tree: tree.with_drive(Some(0)) }, 3);
+    }
+    let Problem { library, tree } = heavy::typical();
+    at_three_times(stored, &Problem { library, tree: tree.with_drive(Some(0)) });
 }
 
 /// Outputs and work areas short by one, just long enough, and longer, for the longest of covers.
@@ -141,7 +167,7 @@ fn order_of_refusals(stored: &mut Stored) {
 
 fn damaged_sheets(stored: &mut Stored, count: usize) {
     let mut rng = Rng::new(77);
-    let good = Problem { library: specimen::library(), tree: specimen::mixed_tree() };
+    let good = Problem { library: specimen::library(), tree: specimen::driven_tree() };
     for _ in 0..count {
         let mut library = if rng.once_in(2) { good.library_sheet() } else { damaged(&mut rng, Kind::Library, 1) };
         let tree = if rng.once_in(3) { good.tree_sheet() } else { damaged(&mut rng, Kind::Tree, 1) };

@@ -1,16 +1,22 @@
 //! A file of cases and the file of their results.
 
 use crate::kinds::Kinds;
+use reference::{bill, text, tree};
 use std::io;
 use std::path::Path;
 
 /// The most bytes of records: the program that runs them keeps them in one array.
 pub const MOST_BYTES: usize = 672_000;
 
+/// How many records with driven leaves there must be of each kind that is asked for.
+const LEAST_DRIVEN: usize = 100;
+
 #[derive(Default)]
 pub struct Stored {
     records: Vec<u8>,
     lines: Vec<String>,
+    /// For every record whose tree is sound and has driven leaves what it is of, and the number of a refusal.
+    driven: Vec<String>,
 }
 
 impl Stored {
@@ -22,6 +28,10 @@ impl Stored {
             self.records.extend(short.to_be_bytes());
         }
         self.records.extend(sheets.concat());
+        let tree = tree_of(kind, sheets).and_then(|tree| tree::decode(tree).ok());
+        if tree.is_some_and(|tree| tree.has_driven_leaves()) {
+            self.driven.push(driven_kind(kind, &line));
+        }
         self.lines.push(line);
     }
 
@@ -35,16 +45,48 @@ impl Stored {
         Ok(())
     }
 
+    /// Prints how many records with driven leaves there are of each kind; none of these is rare.
+    pub fn check_driven(&self, kinds: &[&str]) {
+        let driven = Kinds::of(self.driven.iter().cloned());
+        driven.print();
+        driven.check(kinds, LEAST_DRIVEN);
+    }
+
     /// How many lines open with each word, refusals by their number.
     pub fn print_histogram(&self) {
-        let opening = |line: &String| {
-            let words: Vec<&str> = line.split(' ').collect();
-            if words[0] == "refused" {
-                format!("refused {:>2}", words[1])
-            } else {
-                words[0].to_string()
-            }
-        };
-        Kinds::of(self.lines.iter().map(opening)).print();
+        Kinds::of(self.lines.iter().map(|line| opening(line))).print();
+    }
+}
+
+/// A line's first word, and of a refusal its number.
+fn opening(line: &str) -> String {
+    let words: Vec<&str> = line.split(' ').collect();
+    if words[0] == "refused" {
+        format!("refused {:>2}", words[1])
+    } else {
+        words[0].to_string()
+    }
+}
+
+/// How a record with driven leaves is counted.
+fn driven_kind(kind: u8, line: &str) -> String {
+    let opening = opening(line);
+    let answer = if opening.starts_with("refused") { &opening } else { "answered" };
+    format!("driven leaves, {}: {answer}", word(kind))
+}
+
+/// What a record of a kind is of.
+fn word(kind: u8) -> &'static str {
+    ["library", "tree", "map", "list", "treecover", "judge of covers", "bill"][kind as usize]
+}
+
+/// The tree among what a record holds, be it sound or not.
+fn tree_of<'a>(kind: u8, sheets: &[&'a [u8]]) -> Option<&'a [u8]> {
+    match kind {
+        1 => Some(sheets[0]),
+        2 | 3 | 5 => Some(sheets[1]),
+        4 => text::parts(sheets[0]).map(|(_, tree)| tree),
+        6 => bill::sheets(sheets[0]).ok().map(|[_, tree, _]| tree),
+        _ => None,
     }
 }

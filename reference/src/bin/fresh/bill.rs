@@ -2,7 +2,7 @@
 //! `bills.bin` and prints their texts one after another.
 
 use crate::tally::Tally;
-use reference::bill::Answer;
+use reference::bill::{self, Answer};
 use reference::generate::bills::any_input;
 use reference::hex::hex;
 use reference::rng::Rng;
@@ -25,6 +25,11 @@ impl Question {
         let input = any_input(rng);
         let answer = Answer::of(&input);
         Question { input, answer }
+    }
+
+    /// The tree sheet, if the input has the right length.
+    fn tree(&self) -> Option<&[u8]> {
+        bill::sheets(&self.input).ok().map(|[_, tree, _]| tree)
     }
 
     /// The kind byte (6), the input's length in two bytes, high byte first, and the input.
@@ -61,6 +66,7 @@ fn batch(rng: &mut Rng, most: u64) -> Vec<Question> {
 
 /// Asks all at once and, where that gives another text, one by one to find those that disagree.
 fn compare(tally: &mut Tally, program: &OsStr, batch: &[Question]) {
+    batch.iter().filter_map(Question::tree).for_each(|tree| tally.meet(tree));
     let expected: String = batch.iter().map(|question| question.answer.text()).collect();
     if by_product(program, batch) == expected {
         batch.iter().for_each(|question| tally.agree(question.answer.name()));

@@ -22,6 +22,7 @@ fn compare(tally: &mut Tally, case: &Case) {
     let judged = case.judged();
     let expected = Verdict::from(judged).coded();
     let actual = product::judge_cover(&case.library, &case.tree, &case.cover);
+    tally.meet(&case.tree);
     if actual == expected {
         tally.agree(judging::name(&judged));
     } else {

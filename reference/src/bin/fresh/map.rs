@@ -103,6 +103,7 @@ fn compare(tally: &mut Tally, question: &Question, before: Answer) {
     let mut actual = Answer { coded: 0, output: before.output.clone(), work: before.work.clone() };
     actual.coded = by_product(question, &mut actual.output, &mut actual.work);
     let expected = by_reference(question, before);
+    tally.meet(&question.tree);
     if actual == expected {
         tally.agree(key(name(question, &expected), expected.coded));
     } else {

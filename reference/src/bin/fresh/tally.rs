@@ -1,11 +1,13 @@
 //! Counts of agreement, and the first disagreement.
 
+use reference::tree;
 use std::collections::BTreeMap;
 
 #[derive(Default)]
 pub struct Tally {
     agreed: BTreeMap<String, u64>,
     disagreed: u64,
+    driven: u64,
     first: Option<String>,
 }
 
@@ -20,6 +22,11 @@ impl Tally {
         self.first.get_or_insert_with(story);
     }
 
+    /// Counts a case if its tree is sound and has driven leaves.
+    pub fn meet(&mut self, tree: &[u8]) {
+        self.driven += tree::decode(tree).is_ok_and(|tree| tree.has_driven_leaves()) as u64;
+    }
+
     pub fn all_agree(&self) -> bool {
         self.disagreed == 0
     }
@@ -29,7 +36,7 @@ impl Tally {
         for (key, count) in &self.agreed {
             println!("  {key}: {count}");
         }
-        println!("agreed {agreed} of {}", agreed + self.disagreed);
+        println!("agreed {agreed} of {}, {} with driven leaves", agreed + self.disagreed, self.driven);
         if let Some(story) = &self.first {
             println!("first disagreement:\n{story}");
         }

@@ -1,6 +1,7 @@
 //! Problems made by hand, each with what its list of trade-offs must be.
 
 mod crossings;
+mod drivers;
 mod loads;
 mod overfull;
 mod points;
@@ -12,6 +13,7 @@ use crate::cover::Placed;
 use crate::library::{Cell, Library};
 use crate::refusal::OVERFULL;
 use crate::shape::Step;
+use crate::tree::TreeLeaf;
 
 /// What the list operation says.
 #[derive(Clone, Copy, PartialEq, Eq, Debug)]
@@ -38,6 +40,7 @@ pub fn all() -> Vec<Chosen> {
     loads::add(&mut table);
     points::add(&mut table);
     crossings::add(&mut table);
+    drivers::add(&mut table);
     table.rows
 }
 
@@ -46,17 +49,24 @@ struct Table {
 }
 
 impl Table {
-    fn add(&mut self, name: &str, library: &Library, root_load: u32, steps: &[Step], outcome: Outcome) {
+    fn add<L: Copy + Into<TreeLeaf>>(
+        &mut self,
+        name: &str,
+        library: &Library,
+        root_load: u32,
+        steps: &[Step<L>],
+        outcome: Outcome,
+    ) {
         let problem = Problem { library: library.clone(), tree: tree(root_load, 0, steps) };
         self.rows.push(Chosen { name: name.to_string(), problem, outcome, matches: None });
     }
 
     /// One trade-off under root load 1, and the cover that reaches it, as nodes, patterns and crossings.
-    fn add_cover(
+    fn add_cover<L: Copy + Into<TreeLeaf>>(
         &mut self,
         name: &str,
         library: &Library,
-        steps: &[Step],
+        steps: &[Step<L>],
         (arrival, area): (u32, u32),
         matches: &[(usize, usize, u32)],
     ) {

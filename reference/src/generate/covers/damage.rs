@@ -5,7 +5,7 @@ use super::draw::any_cover;
 use super::{Case, Draft};
 use crate::cover::Placed;
 use crate::generate::damage::{damage_bytes, damaged, Kind};
-use crate::generate::problem::{any_style, problem};
+use crate::generate::problem::{any_style, problem, Problem};
 use crate::library::Cell;
 use crate::rng::Rng;
 
@@ -13,6 +13,7 @@ use crate::rng::Rng;
 pub enum Damage {
     Area,
     Arrival,
+    Charged,
     LeftOut,
     Added,
     AddedLast,
@@ -34,9 +35,10 @@ pub enum Damage {
 }
 
 /// Other figures and matches, on a sheet that is whole.
-pub const IN_COVER: [Damage; 14] = [
+pub const IN_COVER: [Damage; 15] = [
     Damage::Area,
     Damage::Arrival,
+    Damage::Charged,
     Damage::LeftOut,
     Damage::Added,
     Damage::AddedLast,
@@ -91,6 +93,10 @@ impl Draft {
         match damage {
             Damage::Area => self.cover.area = beside(rng, self.cover.area, 22),
             Damage::Arrival => self.cover.arrival = beside(rng, self.cover.arrival, 24),
+            Damage::Charged => {
+                let load = any_load(rng, &self.problem);
+                *self = self.charged(rng.pick(&[0, load]));
+            }
             Damage::Count => self.count = beside(rng, self.count as u32, 6) as usize,
             Damage::Held | Damage::Load => self.damage_cell(rng, damage),
             Damage::Bytes | Damage::Library | Damage::Tree => {}
@@ -129,8 +135,7 @@ impl Draft {
 
     /// Holds a cell of the cover, or sets its highest load to one of the loads, or just below.
     fn damage_cell(&mut self, rng: &mut Rng, damage: Damage) {
-        let loads = [self.problem.library.bins.as_slice(), &[self.problem.tree.root_load]].concat();
-        let load = rng.pick(&loads).saturating_sub(rng.below(2) as u32);
+        let load = any_load(rng, &self.problem).saturating_sub(rng.below(2) as u32);
         let Some(cell) = self.any_cell(rng) else { return };
         match damage {
             Damage::Held => cell.held = true,
@@ -161,6 +166,12 @@ impl Case {
             _ => {}
         }
     }
+}
+
+/// The root load or a bin's.
+fn any_load(rng: &mut Rng, problem: &Problem) -> u32 {
+    let loads = [problem.library.bins.as_slice(), &[problem.tree.root_load]].concat();
+    rng.pick(&loads)
 }
 
 /// A value one off, or now and then any other of the width.

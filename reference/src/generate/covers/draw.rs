@@ -38,8 +38,8 @@ impl<'a> Draw<'a> {
     }
 
     fn cover_of(&self, rng: &mut Rng, node: usize, load: u32) -> Option<Cover> {
-        if let Node::Leaf(arrival) = self.tree.shape.nodes[node] {
-            return Some(Cover { area: 0, arrival, matches: vec![] });
+        if let Node::Leaf(leaf) = self.tree.shape.nodes[node] {
+            return Some(Cover::of_leaf(leaf, load));
         }
         let choices = self.choices(node, load);
         if choices.is_empty() {

@@ -69,6 +69,15 @@ impl Draft {
         Draft::new(self.problem.clone(), Cover { matches, ..self.cover.clone() })
     }
 
+    /// The same with the arrival as it would be if every leaf drove one load; as it is, if the cover is not legal.
+    pub fn charged(&self, load: u32) -> Draft {
+        let tree = self.problem.tree.charged(load);
+        let figures = judging::figures(&self.problem.library, &tree, &self.cover.matches);
+        let mut charged = self.clone();
+        charged.cover.arrival = figures.map_or(self.cover.arrival, |pair| pair.arrival);
+        charged
+    }
+
     /// The same with another required time.
     pub fn due(&self, required: u32) -> Draft {
         let mut due = self.clone();

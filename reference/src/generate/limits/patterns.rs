@@ -1,8 +1,8 @@
 //! Pattern counts, nodes and leaves.
 
-use super::super::parts::{cell, chain, counted_comb, pin, INVERTER, NAND};
-use super::{drawn, inverter, last, with_cells, Table};
-use crate::form::{Form, Role};
+use super::super::parts::{cell, chain, counted_comb, pin, AOI22, INVERTER, NAND};
+use super::{drawn, inverter, last, nand, with_cells, Table};
+use crate::form::{Field, Form, Role};
 use crate::library::Cell;
 use crate::shape::{Shape, Step};
 use Step::{Leaf, Nand};
@@ -11,6 +11,7 @@ pub fn add(table: &mut Table) {
     counts(table);
     totals(table);
     nodes(table);
+    code_three(table);
     opening_leaves(table);
     pin_numbers(table);
     (2..=6).for_each(|pins| lacking_pins(table, pins));
@@ -59,9 +60,38 @@ fn nodes(table: &mut Table) {
     table.value_refused("17th node of code 3", &form, codes[16], 3, 6);
     table.value_refused("17th node NAND", &form, codes[16], 2, 6);
     table.value_refused("16th node of code 3", &form, codes[15], 3, 4);
-    table.value_refused("first node of code 3", &form, codes[0], 3, 4);
-    let branches = drawn(2, NAND);
-    table.value_refused("second branch of code 3", &branches, branches.find(Role::Code)[2], 3, 4);
+}
+
+/// No leaf of a pattern is driven: at every node, in every pattern, whatever follows.
+fn code_three(table: &mut Table) {
+    let form = drawn(4, AOI22);
+    for code in form.find(Role::Code) {
+        table.value_refused("code 3 in a pattern", &form, code, 3, 4);
+        table.refused("code 3, then truncated", cut_after(&form.with(code, 3), code), 4, form.place(code));
+        table.refused_at("code 3 with arrival and drive", &with_driven_leaf(&form, code), code, 4);
+    }
+    let form = with_cells(vec![inverter(), nand()]);
+    for code in form.find(Role::Code) {
+        table.value_refused("code 3 in either pattern", &form, code, 3, 4);
+    }
+    for steps in [chain(16, &[Leaf(0)]), chain(6, &counted_comb(6))] {
+        let form = drawn(6, &steps);
+        let code = form.find(Role::Code)[16];
+        table.refused_at("17th node driven", &with_driven_leaf(&form, code), code, 6);
+    }
+}
+
+/// The sheet up to the byte in which a field ends.
+fn cut_after(form: &Form, field: usize) -> Vec<u8> {
+    form.bytes()[..form.place(field + 1).div_ceil(8)].to_vec()
+}
+
+/// The form with a driven leaf, as a tree has them, in place of a node's code.
+fn with_driven_leaf(form: &Form, code: usize) -> Form {
+    let mut driven = form.clone();
+    let fields = [(Role::Code, 3), (Role::Arrival, 5), (Role::Drive, 7)].map(|(role, value)| Field { role, value });
+    driven.fields.splice(code..=code, fields);
+    driven
 }
 
 fn opening_leaves(table: &mut Table) {
