@@ -4,11 +4,11 @@ use sheets::Limits;
 use sheets::library::PatternRow;
 ghost use mathlib.Core.Path.{_≡_};
 ghost use Prim.Native.Nat.{_+_, _-_, _*_, _<_, _≤_, min, max};
-ghost use lib.ListN.{length, drop};
+ghost use lib.ListN.{length, getD, drop};
 ghost use Rattle.covers.specs.Curve.{base, lookup};
 ghost use Rattle.matching.specs.Found.{matchBytes};
 ghost use Rattle.curves.specs.Words.{pointLimit, matchLimit, stored, curveAt, Small, WorkArea};
-ghost use Rattle.curves.specs.Best.{rowOf, patternOf, inputBest, inputLate, rowBest, legalBest, InputSafe, Sources, Tables, RowKnown, Matches, Above};
+ghost use Rattle.curves.specs.Best.{rowOf, patternOf, inputBest, inputLate, rowBest, legalBest, PinSafe, InputSafe, Sources, Tables, RowKnown, Matches, Above};
 ghost use Rattle.curves.specs.Promises.{Probed, Worth, AllRising, PointsFit, Kept, Least, CurveStored};
 
 // The word for no point; how many curves a node has: one for each load bin; and how many words of a curve are tested in a straight line.
@@ -89,23 +89,23 @@ pub fn look_up(work: &[u64], most: usize, at: usize, end: u64) -> u64
     find(&work[first..first + (most + 1)], end)
 }
 
-// The least point before `end` of an input at a pin with a load.
+// The least point before `end` of an input at the pin whose figures stand in a pattern's row from `pin` on.
 fn input_best(
     symbols: &[u32],
     work: &[u64],
     most: usize,
     node: usize,
-    bin: usize,
-    load: u32,
+    pattern: &[u32],
+    pin: usize,
     end: u64,
 ) -> u64
     requires { ⌜ Sources most (now symbols) (now work) ⌝ }
-    requires { ⌜ (node < 64) × (bin < 4) × (load ≤ 255) ⌝ }
-    ensures { λ r. ⌜ Worth pointLimit end r (inputBest most (now (symbols .entry)) (now (work .entry)) node bin load end) ⌝ }
+    requires { ⌜ (node < 64) × PinSafe (now pattern) pin ⌝ }
+    ensures { λ r. ⌜ Worth pointLimit end r (inputBest most (now (symbols .entry)) (now (work .entry)) node (getD (now (pattern .entry)) pin 0) (getD (now (pattern .entry)) (pin + 1) 0) end) ⌝ }
 {
     let symbol = symbols[node];
     if 2 <= symbol {
-        let arrival = overlay::leaf_arrival(symbol, load);
+        let arrival = overlay::leaf_arrival_at(symbol, pattern, pin + PatternRow::LOAD);
         if arrival < end {
             return arrival;
         }
@@ -114,7 +114,7 @@ fn input_best(
     if end == 0 {
         return Words::ABSENT;
     }
-    look_up(work, most, Words::BINS * node + bin, end)
+    look_up(work, most, Words::BINS * node + pattern[pin] as usize, end)
 }
 
 fn wide(x: u32) -> u64
@@ -175,14 +175,13 @@ fn input_word(
         pattern[figures + PatternRow::DRIVE],
         load,
     );
-    let own = pattern[figures + PatternRow::LOAD];
     let w = input_best(
         symbols,
         work,
         most,
         row[place + Row::NODE] as usize,
-        pattern[figures] as usize,
-        own,
+        pattern,
+        figures,
         less(end, d),
     );
     if w == Words::ABSENT {

@@ -3,6 +3,7 @@ use shapes::Packed;
 use sheets::library::PatternRow;
 ghost use mathlib.Core.Path.{_≡_};
 ghost use Prim.Native.Nat.{_+_, _-_, _<_, _≤_, max};
+ghost use lib.ListN.{length, getD};
 ghost use Rattle.sheets.specs.Model.{Shape, size};
 ghost use Rattle.covers.specs.Crossing.{exchanged, crossingLimit};
 ghost use Rattle.covers.specs.Cover.{leafArrival};
@@ -199,4 +200,16 @@ pub fn leaf_arrival(symbol: u32, load: u32) -> u64
 {
     let packed = symbol - Packed::LEAF;
     (packed % Packed::DRIVE + packed / Packed::DRIVE * load) as u64
+}
+
+// The same where the load stands in a row of figures: a leaf with no drive does not look at it.
+pub fn leaf_arrival_at(symbol: u32, figures: &[u32], load: usize) -> u64
+    requires { ⌜ (2 ≤ symbol) × (symbol ≤ symbolLimit) × (load < length (now figures)) × (getD (now figures) load 0 ≤ 255) ⌝ }
+    ensures { λ r. ⌜ (r ≡ leafArrival (leafOf symbol) (getD (now (figures .entry)) load 0)) × (r < base) ⌝ }
+{
+    let number = symbol - Packed::LEAF;
+    if number < Packed::DRIVE {
+        return number as u64;
+    }
+    leaf_arrival(symbol, figures[load])
 }
