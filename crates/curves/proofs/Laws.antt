@@ -5,7 +5,7 @@ use mathlib.Core.Logic.{_⊎_, inl, inr}
 use native.Mathlib.Decide.{ℕ-discrete}
 use mathlib.Core.Option.{Option, none, some, Option·map}
 use Prim.Native.Nat.{ℕ, zero, suc, _+_, _-_, _*_, _/_, _%_, _≤_, _<_, min, max}
-use native.Mathlib.Nat.{div-add-mod', mul-suc, mul-le-mul, mul-le-mul-left, mod-eq-of-lt, div-eq-of-lt}
+use native.Mathlib.Nat.{add-zero, div-add-mod', mul-suc, mul-le-mul, mul-le-mul-left, mod-eq-of-lt, div-eq-of-lt}
 use native.Mathlib.Numerals.{add-one}
 use native.Mathlib.Omega.{arith}
 use lib.ListN.{length, getD, take, drop, length-drop, length-take, drop-of-length-le, List·getD-eq-default}
@@ -143,6 +143,16 @@ module _ (most : ℕ) (symbols work : List ℕ) (node bin load end : ℕ) where
   gate-best h = simp (lt-leb 2 (getD symbols node 0) h)
 
 -- ---- an input as its match sees it
+
+-- A pin's figures, in the part of a pattern's row that has them.
+abbrev pub pinPart : List ℕ → ℕ → List ℕ
+pinPart pattern at = take (at + 4 - at) (drop at pattern)
+
+pub figure-is : (pattern : List ℕ) (at j : ℕ) → j < 4 → getD (pinPart pattern at) j 0 ≡ getD pattern (at + j) 0
+figure-is pattern at j h = getD-take (at + 4 - at) (drop at pattern) j 0 (omega arith) ∙ getD-drop at pattern j 0
+
+pub bin-is : (pattern : List ℕ) (at : ℕ) → getD (pinPart pattern at) 0 0 ≡ getD pattern at 0
+bin-is pattern at = figure-is pattern at 0 (omega arith) ∙ ap (λ (i : ℕ). getD pattern i 0) (add-zero at)
 
 pub drive-bound : (d l : ℕ) → d ≤ 255 → l ≤ 255 → d * l ≤ 65025
 drive-bound d l h g = mul-le-mul h g

@@ -96,9 +96,9 @@ module _ (most : ℕ) (symbols work : List ℕ) where
 
 -- ---- what is required of the tables
 
--- A pin's load bin and that bin's load, from a place of a pattern's row on, are within the limits.
-abbrev pub PinSafe : List ℕ → ℕ → Type 0
-PinSafe pattern pin = (pin + 1 < length pattern) × (getD pattern pin 0 < 4) × (getD pattern (pin + 1) 0 ≤ 255)
+-- The first two of a pin's figures, its load bin and that bin's load, are within the limits.
+abbrev pub PinSafe : List ℕ → Type 0
+PinSafe pin = (1 < length pin) × (getD pin 0 0 < 4) × (getD pin 1 0 ≤ 255)
 
 -- Input k of a match is within the limits.
 pub record InputSafe (pattern row : List ℕ) (k : ℕ) : Type 0 where

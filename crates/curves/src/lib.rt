@@ -89,23 +89,15 @@ pub fn look_up(work: &[u64], most: usize, at: usize, end: u64) -> u64
     find(&work[first..first + (most + 1)], end)
 }
 
-// The least point before `end` of an input at the pin whose figures stand in a pattern's row from `pin` on.
-fn input_best(
-    symbols: &[u32],
-    work: &[u64],
-    most: usize,
-    node: usize,
-    pattern: &[u32],
-    pin: usize,
-    end: u64,
-) -> u64
+// The least point before `end` of an input at a pin with these figures.
+fn input_best(symbols: &[u32], work: &[u64], most: usize, node: usize, pin: &[u32], end: u64) -> u64
     requires { ⌜ Sources most (now symbols) (now work) ⌝ }
-    requires { ⌜ (node < 64) × PinSafe (now pattern) pin ⌝ }
-    ensures { λ r. ⌜ Worth pointLimit end r (inputBest most (now (symbols .entry)) (now (work .entry)) node (getD (now (pattern .entry)) pin 0) (getD (now (pattern .entry)) (pin + 1) 0) end) ⌝ }
+    requires { ⌜ (node < 64) × PinSafe (now pin) ⌝ }
+    ensures { λ r. ⌜ Worth pointLimit end r (inputBest most (now (symbols .entry)) (now (work .entry)) node (getD (now (pin .entry)) 0 0) (getD (now (pin .entry)) 1 0) end) ⌝ }
 {
     let symbol = symbols[node];
     if 2 <= symbol {
-        let arrival = overlay::leaf_arrival_at(symbol, pattern, pin + PatternRow::LOAD);
+        let arrival = overlay::leaf_arrival_at(symbol, pin, PatternRow::LOAD);
         if arrival < end {
             return arrival;
         }
@@ -114,7 +106,12 @@ fn input_best(
     if end == 0 {
         return Words::ABSENT;
     }
-    look_up(work, most, Words::BINS * node + pattern[pin] as usize, end)
+    look_up(
+        work,
+        most,
+        Words::BINS * node + pin[PatternRow::BIN] as usize,
+        end,
+    )
 }
 
 fn wide(x: u32) -> u64
@@ -170,20 +167,10 @@ fn input_word(
 {
     let place = Row::INPUTS + Row::INPUT * k;
     let figures = PatternRow::FIGURES + PatternRow::PIN * (row[place] as usize);
-    let d = delay(
-        pattern[figures + PatternRow::INTRINSIC],
-        pattern[figures + PatternRow::DRIVE],
-        load,
-    );
-    let w = input_best(
-        symbols,
-        work,
-        most,
-        row[place + Row::NODE] as usize,
-        pattern,
-        figures,
-        less(end, d),
-    );
+    let pin = &pattern[figures..figures + PatternRow::PIN];
+    let d = delay(pin[PatternRow::INTRINSIC], pin[PatternRow::DRIVE], load);
+    let node = row[place + Row::NODE] as usize;
+    let w = input_best(symbols, work, most, node, pin, less(end, d));
     if w == Words::ABSENT {
         return Words::ABSENT;
     }

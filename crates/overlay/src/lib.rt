@@ -202,7 +202,7 @@ pub fn leaf_arrival(symbol: u32, load: u32) -> u64
     (packed % Packed::DRIVE + packed / Packed::DRIVE * load) as u64
 }
 
-// The same where the load stands in a row of figures: a leaf with no drive does not look at it.
+// The same where the load stands among figures: a leaf with no drive does not look at it.
 pub fn leaf_arrival_at(symbol: u32, figures: &[u32], load: usize) -> u64
     requires { ⌜ (2 ≤ symbol) × (symbol ≤ symbolLimit) × (load < length (now figures)) × (getD (now figures) load 0 ≤ 255) ⌝ }
     ensures { λ r. ⌜ (r ≡ leafArrival (leafOf symbol) (getD (now (figures .entry)) load 0)) × (r < base) ⌝ }

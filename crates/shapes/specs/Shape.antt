@@ -55,11 +55,8 @@ nandSymbol = 1
 abbrev pub driveUnit : ℕ
 driveUnit = 1048576
 
-abbrev pub packed : Leaf → ℕ
-packed x = x .drive * driveUnit + x .number
-
 abbrev pub leafSymbol : Leaf → ℕ
-leafSymbol x = 2 + packed x
+leafSymbol x = 2 + (x .drive * driveUnit + x .number)
 
 -- A pattern's leaf has no drive.
 abbrev pub pinSymbol : ℕ → ℕ

@@ -1,7 +1,6 @@
 use borrow.Author.Needs.{needs}
 use native.Mathlib.Omega.{arith}
 use mathlib.Core.Path.{sym, subst, _∙_}
-use Prim.Native.Nat.{_+_}
 use lib.ListN.{getD}
 use Rattle.curves.specs.Words.{pointLimit, tableOf}
 use Rattle.curves.specs.Promises.{Worth}
@@ -16,17 +15,17 @@ returns : tie.Need-returns
 returns c =
     let a = c .before .before .before .before .before .before .before .args in
     let e = c .before .leaf-arrival-at .ensures in
-    leaf-timely (a .most) (a .symbols .now) (a .work .now) (a .node) (getD (a .pattern .now) (a .pin) 0) (getD (a .pattern .now) (a .pin + 1) 0) (a .end) (c .before .leaf-arrival-at .result) (c .before .before .if1 .taken) (e .0) (e .1) (c .if2 .taken)
+    leaf-timely (a .most) (a .symbols .now) (a .work .now) (a .node) (getD (a .pin .now) 0 0) (getD (a .pin .now) 1 0) (a .end) (c .before .leaf-arrival-at .result) (c .before .before .if1 .taken) (e .0) (e .1) (c .if2 .taken)
 
 returns-2 : tie.Need-returns-2
 returns-2 c =
     let a = c .before .before .before .before .before .before .before .args in
-    worth-none pointLimit (a .end) _ (leaf-late (a .most) (a .symbols .now) (a .work .now) (a .node) (getD (a .pattern .now) (a .pin) 0) (getD (a .pattern .now) (a .pin + 1) 0) (a .end) (c .before .leaf-arrival-at .result) (c .before .before .if1 .taken) (c .before .leaf-arrival-at .ensures .0) (c .if2 .left))
+    worth-none pointLimit (a .end) _ (leaf-late (a .most) (a .symbols .now) (a .work .now) (a .node) (getD (a .pin .now) 0 0) (getD (a .pin .now) 1 0) (a .end) (c .before .leaf-arrival-at .result) (c .before .before .if1 .taken) (c .before .leaf-arrival-at .ensures .0) (c .if2 .left))
 
 returns-3 : tie.Need-returns-3
 returns-3 c =
     let a = c .before .before .before .before .before .before .args in
-    worth-none pointLimit (a .end) _ (sym (gate-best (a .most) (a .symbols .now) (a .work .now) (a .node) (getD (a .pattern .now) (a .pin) 0) (getD (a .pattern .now) (a .pin + 1) 0) (a .end) (omega (arith, c .before .if1 .left))) ∙ found-never (tableOf (a .most) (a .work .now) (a .node) (getD (a .pattern .now) (a .pin) 0)) (a .end) (c .if3 .taken))
+    worth-none pointLimit (a .end) _ (sym (gate-best (a .most) (a .symbols .now) (a .work .now) (a .node) (getD (a .pin .now) 0 0) (getD (a .pin .now) 1 0) (a .end) (omega (arith, c .before .if1 .left))) ∙ found-never (tableOf (a .most) (a .work .now) (a .node) (getD (a .pin .now) 0 0)) (a .end) (c .if3 .taken))
 
 look-up-requires : tie.Need-look-up-requires
 look-up-requires c κs = (c .before .before .before .before .before .before .before .pre .0 .curves, omega (arith, c .before .before .before .before .before .before .before .pre .1))
@@ -34,7 +33,7 @@ look-up-requires c κs = (c .before .before .before .before .before .before .bef
 returns-4 : tie.Need-returns-4
 returns-4 c =
     let a = c .before .before .before .before .before .before .before .before .args in
-    subst (Worth pointLimit (a .end) (c .look-up .result)) (gate-best (a .most) (a .symbols .now) (a .work .now) (a .node) (getD (a .pattern .now) (a .pin) 0) (getD (a .pattern .now) (a .pin + 1) 0) (a .end) (omega (arith, c .before .before .before .if1 .left))) (c .look-up .ensures)
+    subst (Worth pointLimit (a .end) (c .look-up .result)) (gate-best (a .most) (a .symbols .now) (a .work .now) (a .node) (getD (a .pin .now) 0 0) (getD (a .pin .now) 1 0) (a .end) (omega (arith, c .before .before .before .if1 .left))) (c .look-up .ensures)
 
 pub input-best-spec : {M : Type 1} → statement M
 input-best-spec =
@@ -42,12 +41,10 @@ input-best-spec =
     (tie.spec
     (λ c. search needs)
     (λ c. search needs)
-    (λ c. search needs)
     leaf-arrival-at-requires
     returns
     returns-2
     returns-3
-    (λ c. search needs)
     (λ c. search needs)
     (λ c. search needs)
     (λ c. search needs)
