@@ -8,8 +8,9 @@ use mathlib.Core.List.{List, [], _∷_, List·Memᴰ, List·Memᴰ·head, List·
 use native.Mathlib.Nat.{mul-le-mul, mul-le-mul-right}
 use native.Mathlib.Omega.{arith}
 use Rattle.sheets.specs.Model.{Leaf, arrivalOf, Shape, size, leaves, Pin, Cell, Library, Pattern, drawn, patternsFrom, patterns}
+use Rattle.sheets.specs.Sound.{SoundLeaf}
 use Rattle.covers.specs.Match.{Input, Match, IsMatch, pinAt, pinLoad, delay}
-use Rattle.covers.specs.Cover.{Point, Cover, IsCover, bare, matching, AreCovers, done, more, leafArrival, leafPoint, leafCover, nothing, beside, late, raised, together, delayed, topped, feeds, inputDelay}
+use Rattle.covers.specs.Cover.{Point, Cover, latestArrival, largestArea, IsCover, bare, matching, AreCovers, done, more, leafArrival, leafPoint, leafCover, nothing, beside, late, raised, together, delayed, topped, feeds, inputDelay}
 use Rattle.covers.specs.Enumeration.{covers}
 use Rattle.covers.specs.Tradeoff.{Node, nodes}
 use Rattle.covers.proofs.Basics.{at-in, at-all}
@@ -92,13 +93,13 @@ module _ {l : Library} {a i d b : ℕ} (lim : Limited l a i d b) where
       inputs-within (more {cell = cell} {i = j} f r e) h m (next u v w) k = rw e (within-more (delay-limit m h j) v (cover-within f (load-limit (feeds cell j)) (k j (List·Memᴰ·head refl))) (inputs-within r h m w (λ x y. k x (List·Memᴰ·tail y))))
 
 -- For areas and intrinsic delays of 16 bits, drives and loads of 8, leaves with arrivals up to 1,000,000, and 64 nodes.
-module _ {l : Library} (lim : Limited l 65_535 65_535 255 255) {load n : ℕ} {s : Shape} {c : Cover} (legal : IsCover l load n s c) (light : load ≤ 255) (few : size s ≤ 64) (timely : (x : Leaf) → List·Memᴰ x (leaves s) → (arrivalOf x ≤ 1_000_000) × (x .drive ≤ 255)) where
-  pub area-bound : c .point .area ≤ 4_128_705
+module _ {l : Library} (lim : Limited l 65_535 65_535 255 255) {load n : ℕ} {s : Shape} {c : Cover} (legal : IsCover l load n s c) (light : load ≤ 255) (few : size s ≤ 64) (timely : (x : Leaf) → List·Memᴰ x (leaves s) → SoundLeaf x) where
+  pub area-bound : c .point .area ≤ largestArea
   area-bound = omega (arith, cover-within lim 1_000_000 legal light timely .area, gates-lt-size s)
 
-  pub arrival-bound : c .point .arrival ≤ 9_290_305
+  pub arrival-bound : c .point .arrival ≤ latestArrival
   arrival-bound = omega (arith, cover-within lim 1_000_000 legal light timely .arrival, gates-lt-size s)
 
--- So every cover of every node arrives before 9,290,306, and a search for a curve may begin there or later.
-pub arrive-before : {l : Library} → Limited l 65_535 65_535 255 255 → (root : Shape) → size root ≤ 64 → ((x : Leaf) → List·Memᴰ x (leaves root) → (arrivalOf x ≤ 1_000_000) × (x .drive ≤ 255)) → {x : Node} → List·Memᴰ x (nodes 0 root) → {load : ℕ} → load ≤ 255 → (c : Cover) → List·Memᴰ c (covers l load (x .number) (x .shape)) → c .point .arrival < 9_290_306
+-- So a search for a curve may begin there or later.
+pub arrive-before : {l : Library} → Limited l 65_535 65_535 255 255 → (root : Shape) → size root ≤ 64 → ((x : Leaf) → List·Memᴰ x (leaves root) → SoundLeaf x) → {x : Node} → List·Memᴰ x (nodes 0 root) → {load : ℕ} → load ≤ 255 → (c : Cover) → List·Memᴰ c (covers l load (x .number) (x .shape)) → c .point .arrival ≤ latestArrival
 arrive-before {l} lim root few timely {x} m {load} light c k = omega (arith, arrival-bound lim (covers-are l load (x .number) (x .shape) k) light (omega (arith, node-ends 0 root m)) (λ a j. timely a (leaves-within 0 root m j)))

@@ -7,7 +7,7 @@ use lib.ListN.{length}
 use Rattle.sheets.specs.Model.{Library, Tree}
 use Rattle.sheets.specs.Sound.{SoundLibrary, SoundTree}
 use Rattle.covers.specs.Capacity.{capacity}
-use Rattle.covers.specs.Cover.{Point, Cover}
+use Rattle.covers.specs.Cover.{Point, Cover, latestArrival, largestArea}
 use Rattle.covers.specs.Tradeoff.{IsTradeoff}
 use Rattle.covers.specs.Promise.{RootCover}
 use Rattle.covers.proofs.Ascending.{ascending-range}
@@ -28,7 +28,7 @@ pub binned : {l : Library} → SoundLibrary l → Binned l
 binned h = record { some-bin = h .some-bin; pins = λ c m p k. h .cells c m .pins p k .0 }
 
 -- What a cover of the root may cost.
-pub root-bounds : {l : Library} {t : Tree} {c : Cover} → SoundLibrary l → SoundTree t → RootCover l t c → (c .point .area ≤ 4_128_705) × (c .point .arrival ≤ 9_290_305)
+pub root-bounds : {l : Library} {t : Tree} {c : Cover} → SoundLibrary l → SoundTree t → RootCover l t c → (c .point .area ≤ largestArea) × (c .point .arrival ≤ latestArrival)
 root-bounds h k legal = (area-bound (limited h) legal (k .load) (k .size) (k .leaves), arrival-bound (limited h) legal (k .load) (k .size) (k .leaves))
 
 -- So a cover sheet and a list sheet have room for what they say.

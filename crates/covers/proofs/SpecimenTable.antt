@@ -1,4 +1,4 @@
--- The specimen table and the examples of exchanged inputs and of driven leaves hold, by computation from the definitions alone.
+-- The specimen table and the examples of exchanged inputs and of driven leaves hold, by computation from the definitions alone, but that row l, for any load, is one law.
 use mathlib.Core.Path.{_≡_, refl, ap, ap₂, _∙_}
 use mathlib.Core.Bool.{false, cond, _||_}
 use mathlib.Core.List.{List, [], _∷_, _++_, map}
@@ -6,7 +6,7 @@ use mathlib.Core.Option.{Option, none, some}
 use Prim.Native.Nat.{ℕ}
 use native.Mathlib.Omega.{arith}
 use lib.Dec.{leb, ltb}
-use lib.ListN.{length}
+use lib.ListN.{length, take}
 use Rattle.fields.specs.Answer.{Answer}
 use Rattle.sheets.specs.Model.{Leaf, leaf, Library}
 use Rattle.covers.specs.Crossing.{redrawn, crossings}
@@ -14,7 +14,7 @@ use Rattle.covers.specs.Cover.{Point, Cover, leafArrival, leafPoint, lea
 use Rattle.covers.specs.Choice.{choiceStep}
 use Rattle.covers.specs.Capacity.{capacity}
 use Rattle.covers.specs.Answer.{answered, mapped}
-use Rattle.covers.specs.Specimens.{specimen, tree, Case, gateCases, Specimens}
+use Rattle.covers.specs.Specimens.{specimen, tree, Case, cases, Specimens}
 use Rattle.covers.specs.Exchanges.{Redrawings, Crossings, Exchanges}
 use Rattle.covers.specs.Drivers.{Drivers}
 use Rattle.covers.proofs.Tradeoffs.{leaf-tradeoffs}
@@ -39,7 +39,7 @@ specimen-l any time =
 pub specimens : Specimens
 unfolding mapped
 specimens any =
-    ap₂ (λ (p q : Answer Cover). map (λ (c : Case). mapped capacity specimen (c .tree)) gateCases ++ (p ∷ q ∷ [])) (specimen-l any 7) (specimen-l any 6)
+    ap₂ (λ (p q : Answer Cover). map (λ (c : Case). mapped capacity specimen (c .tree)) (take 11 (cases any)) ++ (p ∷ q ∷ [])) (specimen-l any 7) (specimen-l any 6)
 
 pub redrawings : Redrawings
 unfolding redrawn

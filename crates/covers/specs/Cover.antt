@@ -76,6 +76,13 @@ unfoldable pub inputDelay : Cell → ℕ → Input → ℕ
 unfolding feeds delay
 inputDelay c load i = delay (feeds c i) load
 
+-- "No arrival now exceeds 9,290,305", and no area 4,128,705, where library and tree are sound.
+abbrev pub latestArrival : ℕ
+latestArrival = 9_290_305
+
+abbrev pub largestArea : ℕ
+largestArea = 4_128_705
+
 mutual
   -- A legal cover of the node n, over the subtree s, under a load.
   pub data IsCover (l : Library) : ℕ → ℕ → Shape → Cover → Type 0 where

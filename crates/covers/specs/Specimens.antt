@@ -2,7 +2,7 @@
 use Prim.Native.Nat.{ℕ}
 use mathlib.Core.Path.{_≡_}
 use mathlib.Core.Bool.{false}
-use mathlib.Core.List.{List, [], _∷_, _++_, map}
+use mathlib.Core.List.{List, [], _∷_, map}
 use Rattle.sheets.specs.Model.{plainLeaf, Shape, inv, nand, Pin, Cell, Library, Tree}
 use Rattle.fields.specs.Answer.{Answer, refused, success}
 use Rattle.covers.specs.Capacity.{capacity}
@@ -14,7 +14,7 @@ abbrev pub pin : ℕ → ℕ → ℕ → Pin
 pin b i d = record { bin = b; intrinsic = i; drive = d }
 
 -- A cell, not held, by its area, highest load, pins and drawing.
-abbrev cell : ℕ → ℕ → List Pin → Shape → Cell
+abbrev pub cell : ℕ → ℕ → List Pin → Shape → Cell
 cell a h ps s = record { held = false; area = a; highest = h; pins = ps; drawings = s ∷ [] }
 
 -- Cell number is pattern number.
@@ -35,7 +35,7 @@ abbrev pub tree : Shape → ℕ → ℕ → Tree
 tree s load time = record { load = load; required = time; shape = s }
 
 -- A match by its node and pattern, as drawn.
-abbrev at : ℕ → ℕ → Placed
+abbrev pub at : ℕ → ℕ → Placed
 at n p = record { node = n; pattern = p; crossing = 0 }
 
 -- A result by its matches, area and arrival.
@@ -43,7 +43,7 @@ abbrev pub cover : List Placed → ℕ → ℕ → Answer Cover
 cover ps a t = success (record { point = record { area = a; arrival = t }; placed = ps })
 
 -- The table's 8.
-abbrev noCover : Answer Cover
+abbrev pub noCover : Answer Cover
 noCover = refused 8 0
 
 -- A case of the table: the tree with its root load and its required time, and the result.
@@ -66,8 +66,8 @@ abbrev INV-NAND : Shape
 INV-NAND = inv (nand (plainLeaf 0) (plainLeaf 0))
 
 -- The cases, with any root load in l.
-abbrev pub gateCases : List Case
-gateCases =
+abbrev pub cases : ℕ → List Case
+cases any =
     case INV 1 6 (cover (at 0 0 ∷ []) 1 6)  -- a
     ∷ case INV 1 5 (cover (at 0 1 ∷ []) 2 5)  -- b
     ∷ case INV 1 4 noCover  -- c
@@ -79,16 +79,9 @@ gateCases =
     ∷ case INV-INV 1 12 (cover (at 0 0 ∷ at 1 0 ∷ []) 2 12)  -- i
     ∷ case INV-INV 1 11 (cover (at 0 0 ∷ at 1 1 ∷ []) 3 11)  -- j
     ∷ case (nand (plainLeaf 3) (plainLeaf 0)) 1 11 (cover (at 0 2 ∷ []) 2 11)  -- k
-    ∷ []
-
-abbrev pub leafCases : ℕ → List Case
-leafCases any =
-    case (plainLeaf 7) any 7 (cover [] 0 7)  -- l
+    ∷ case (plainLeaf 7) any 7 (cover [] 0 7)  -- l
     ∷ case (plainLeaf 7) any 6 noCover  -- l
     ∷ []
-
-abbrev pub cases : ℕ → List Case
-cases any = gateCases ++ leafCases any
 
 -- What is claimed: every case's result is what map hands over.
 abbrev pub Specimens : Type 0

@@ -11,7 +11,7 @@ use native.Mathlib.Omega.{arith}
 use lib.ListN.{length, getD, take, drop, length-drop, length-take, drop-of-length-le, List·getD-eq-default}
 use lib.Seq.{length-take-le, getD-take, getD-drop, drop-cons}
 use borrow.Author.Tests.{eq-eqb, ne-eqb, lt-ltb, le-ltb, le-leb, lt-leb}
-use Rattle.sheets.specs.Layout.{rowWords}
+use Rattle.sheets.specs.Layout.{figuresAt, pinWords, rowWords}
 use Rattle.covers.specs.Cover.{Point, late, raised, beside, leafArrival, leafPoint}
 use Rattle.covers.specs.Choice.{before, lesser}
 use Rattle.covers.specs.Curve.{base, both, lookup, pointOf, wordOf}
@@ -20,7 +20,7 @@ use Rattle.covers.proofs.Basics.{lt-or-le}
 use Rattle.curves.specs.Words.{absent, areaLimit, pointLimit, matchLimit, stored, slot, tableOf, Small, ZeroBelow, WorkArea}
 use Rattle.sheets.specs.Layout.{heldAt, highestAt}
 use Rattle.matching.specs.Found.{matchBytes}
-use Rattle.curves.specs.Best.{rowOf, patternOf, rowArea, rowCount, rowLegal, inputNode, inputBin, inputLoad, inputIntrinsic, inputDrive, rowDelay, inputBest, inputLate, inputsBest, rowBest, legalBest, rowsBest, Sources, Tables, RowKnown, Matches}
+use Rattle.curves.specs.Best.{rowOf, patternOf, rowArea, rowCount, rowLegal, inputPin, inputNode, rowDelay, inputBest, inputLate, inputsBest, rowBest, legalBest, rowsBest, Sources, Tables, RowKnown, Matches}
 use Rattle.curves.specs.Promises.{Worth, matchBefore, Kept}
 use Rattle.overlay.specs.Held.{leafOf}
 
@@ -178,19 +178,26 @@ module _ {most : ℕ} {pattern row symbols work : List ℕ} (t : Tables most pat
   all = rowBest most symbols work pattern row load end
 
   -- Input k, from its least point before what its pin leaves of the bound.
-  module _ (k d left w : ℕ) (ed : d ≡ inputIntrinsic pattern row k + inputDrive pattern row k * load) (el : left ≡ end - d) where
+  module _ (k d left w : ℕ) where
+    -- The pin's figures stand in a part of the pattern's row.
+    abbrev pin : List ℕ
+    pin = pinPart pattern (figuresAt + pinWords * inputPin pattern row k)
+
     abbrev own : Option Point
-    own = inputBest most symbols work (inputNode pattern row k) (inputBin pattern row k) (inputLoad pattern row k) left
+    own = inputBest most symbols work (inputNode pattern row k) (getD pin 0 0) (getD pin 1 0) left
 
-    seen : Option·map (late d) own ≡ one k
-    unfolding inputLate rowDelay
-    seen = rw (el, ed)
+    module _ (ed : d ≡ getD pin 2 0 + getD pin 3 0 * load) (el : left ≡ end - d) where
+      seen : Option·map (late d) own ≡ one k
+      unfolding inputLate rowDelay
+      seen =
+          let at = figuresAt + pinWords * inputPin pattern row k in
+          rw (el, ed, bin-is pattern at, figure-is pattern at 1 (omega arith), figure-is pattern at 2 (omega arith), figure-is pattern at 3 (omega arith))
 
-    pub input-missing : Worth pointLimit left w own → w ≡ absent → Worth pointLimit end absent (one k)
-    input-missing g z = worth-none pointLimit end (one k) (sym seen ∙ ap (Option·map (late d)) (g .missing z))
+      pub input-missing : Worth pointLimit left w own → w ≡ absent → Worth pointLimit end absent (one k)
+      input-missing g z = worth-none pointLimit end (one k) (sym seen ∙ ap (Option·map (late d)) (g .missing z))
 
-    pub input-found : end ≤ base → Worth pointLimit left w own → (w ≡ absent → ⊥) → Worth pointLimit end (w + d) (one k)
-    input-found h g n = subst (Worth pointLimit end (w + d)) seen (worth-late end d w own h (subst (λ (b : ℕ). Worth pointLimit b w own) el g) n)
+      pub input-found : end ≤ base → Worth pointLimit left w own → (w ≡ absent → ⊥) → Worth pointLimit end (w + d) (one k)
+      input-found h g n = subst (Worth pointLimit end (w + d)) seen (worth-late end d w own h (subst (λ (b : ℕ). Worth pointLimit b w own) el g) n)
 
   -- ---- a match: its inputs one after another
 

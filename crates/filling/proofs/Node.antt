@@ -31,7 +31,7 @@ use Rattle.fields.proofs.Lists.{at-mem}
 use Rattle.overlay.specs.Standing.{Stands, Subject}
 use Rattle.overlay.specs.Held.{PinHeld, CellHeld}
 use Rattle.overlay.proofs.Patterns.{noInput, noPattern, patternAt, rows-long, row-held}
-use Rattle.overlay.proofs.Standing.{opens-everywhere, subject-everywhere}
+use Rattle.overlay.proofs.Standing.{heads-everywhere, subject-everywhere}
 use Rattle.matching.specs.Found.{matchMost, matchBytes, inputPlace, matchRow}
 use Rattle.matching.specs.Promises.{Ready}
 use Rattle.matching.proofs.Written.{length-row, row-pin, row-node}
@@ -88,7 +88,7 @@ module _ {l : Library} {t : Tree} {rows ss zs : List ℕ} {n room : ℕ} {s : Sh
   sound-match = fitting-sound l n s (g .decoded .library)
 
   pub headed : {m : Match} → List·Memᴰ m (fitting l n s) → Headed ss (m .inputs)
-  headed {m} k i j = opens-everywhere (g .decoded) (nodeOf i) (nodes-within 0 (t .shape) (g .here) (fits-in (redrawn (m .crossing) (m .pattern .drawing)) n s (m .inputs) (fitting-are l n s k .fits) i j))
+  headed {m} k i j = heads-everywhere (g .decoded) (nodeOf i) (nodes-within 0 (t .shape) (g .here) (fits-in (redrawn (m .crossing) (m .pattern .drawing)) n s (m .inputs) (fitting-are l n s k .fits) i j))
 
   -- Where an input stands.
   place-of : {m : Match} → List·Memᴰ m (fitting l n s) → (i : Input) → List·Memᴰ i (m .inputs) → (n < i .node) × (i .node < 64)

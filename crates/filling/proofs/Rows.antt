@@ -27,12 +27,12 @@ use Rattle.matching.specs.Found.{inputPlace, matchRow}
 use Rattle.matching.proofs.Written.{length-row, row-pin, row-node}
 use Rattle.curves.specs.Words.{tableOf}
 use Rattle.curves.specs.Best.{rowOf, patternOf, rowLegal, inputNode, inputBin, inputLoad, inputIntrinsic, inputDrive, inputBest, inputLate, rowDelay, inputsBest, rowBest, legalBest, rowsBest}
-use Rattle.overlay.specs.Standing.{Opens}
+use Rattle.overlay.specs.Standing.{Heads}
 use Rattle.overlay.proofs.Symbols.{leaf-told}
 
 -- What stands at an input's node is the head of its shape.
 abbrev pub Headed : List ℕ → List Input → Type 0
-Headed symbols is = (i : Input) → List·Memᴰ i is → Opens (getD symbols (i .node) 0) (i .shape)
+Headed symbols is = (i : Input) → List·Memᴰ i is → Heads (getD symbols (i .node) 0) (i .shape)
 
 -- A row holds a match.
 abbrev pub Holds : List ℕ → Match → Type 0
@@ -70,12 +70,12 @@ module _ (most : ℕ) (l : Library) (symbols work : List ℕ) where
   abbrev from : Input → Pin → ℕ → Bool → Option Point
   from i p end b = cond b (before end (leafPoint (leafOf (getD symbols (i .node) 0)) (pinLoad l p))) (lookup end (table (i .node) (p .bin)))
 
-  input-is : (i : Input) (p : Pin) (end : ℕ) → Opens (getD symbols (i .node) 0) (i .shape) →
+  input-is : (i : Input) (p : Pin) (end : ℕ) → Heads (getD symbols (i .node) 0) (i .shape) →
       inputBest most symbols work (i .node) (p .bin) (pinLoad l p) end ≡ fromTable l table p i end
   unfolding inputBest fromTable
   input-is i p end h = go (i .shape) h
     where
-      go : (s : Shape) → Opens (getD symbols (i .node) 0) s → from i p end (leb 2 (getD symbols (i .node) 0)) ≡ fromCurve s (pinLoad l p) (table (i .node) (p .bin)) end
+      go : (s : Shape) → Heads (getD symbols (i .node) 0) s → from i p end (leb 2 (getD symbols (i .node) 0)) ≡ fromCurve s (pinLoad l p) (table (i .node) (p .bin)) end
       go (leaf x) e =
           unfold fromCurve in
           ap (from i p end) (le-leb 2 (getD symbols (i .node) 0) (omega arith)) ∙ ap (λ (a : Leaf). before end (leafPoint a (pinLoad l p))) (leaf-told (getD symbols (i .node) 0) x e)

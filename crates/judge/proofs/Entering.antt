@@ -19,7 +19,7 @@ use Rattle.overlay.proofs.Patterns.{noInput, noted}
 use Rattle.judgement.specs.Walk.{Walk, comeTo, comeToInputs}
 use Rattle.judge.specs.declared.WalkRecord.{WalkRecord}
 use Rattle.judge.specs.Inside.{Kept, Entering}
-use Rattle.overlay.specs.Standing.{Opens}
+use Rattle.overlay.specs.Standing.{Heads}
 
 module _ {l : Library} {row ss : List ℕ} {walked : Walked} {load delay₀ : ℕ} {r : WalkRecord} {m : Match} {w : Walk} (h : Entering l row ss walked load delay₀ r m w) where
   abbrev cell : Cell
@@ -53,7 +53,7 @@ module _ {l : Library} {row ss : List ℕ} {walked : Walked} {load delay₀ : �
     pub room : length (from (k + 1) .left) < 64
     -- One input more.
     pub kept : {a b : WalkRecord} → Kept (from (k + 1)) a →
-        ((v : Walk) (s : Shape) → Kept v a → Opens (getD ss (node k) 0) s → Kept (comeTo (getD row (figures k + 1) 0) (getD row (figures k + 2) 0 + getD row (figures k + 3) 0 * load + delay₀) (node k) s v) b) → Kept (from k) b
+        ((v : Walk) (s : Shape) → Kept v a → Heads (getD ss (node k) 0) s → Kept (comeTo (getD row (figures k + 1) 0) (getD row (figures k + 2) 0 + getD row (figures k + 3) 0 * load + delay₀) (node k) s v) b) → Kept (from k) b
 
   pub input-read : (k : ℕ) → k < walked .count → InputRead k
   unfolding comeToInputs inputDelay feeds delay pinLoad
@@ -72,7 +72,7 @@ module _ {l : Library} {row ss : List ℕ} {walked : Walked} {load delay₀ : �
         symbols-long = h .symbols-long;
         k-small = omega (arith, h .held .few);
         pin-small = omega (arith, pin-is, h .held .pinned i among, h .held .sound .few-pins);
-        node-small = omega (arith, node-is, h .opens i among .1);
+        node-small = omega (arith, node-is, h .heads i among .1);
         load-small = omega (arith, held .load-is, at-all (λ (x : ℕ). x ≤ 255) (l .bins) (pin .bin) 0 (omega arith) (h .loads-small));
         intrinsic-small = omega (arith, held .intrinsic-is, limits .0);
         delay-small = subst (λ (d : ℕ). d * load ≤ 65025) (sym (held .drive-is)) (mul-le-mul (limits .1) (h .light));
@@ -83,5 +83,5 @@ module _ {l : Library} {row ss : List ℕ} {walked : Walked} {load delay₀ : �
             ap (λ (js : List Input). comeToInputs l cell load delay₀ js w) (drop-cons is k noInput here ∙ ap (λ (j : ℕ). i ∷ drop j is) (sym (add-one k))) in
             let same : comeTo (getD row (figures k + 1) 0) (getD row (figures k + 2) 0 + getD row (figures k + 3) 0 * load + delay₀) (node k) (i .shape) (from (k + 1)) ≡ from k =
             (λ j. comeTo (held .load-is j) (held .intrinsic-is j + held .drive-is j * load + delay₀) (node-is j) (i .shape) (from (k + 1))) ∙ sym step in
-            subst (λ (v : Walk). Kept v b) same (came (from (k + 1)) (i .shape) was (subst (λ (n : ℕ). Opens (getD ss n 0) (i .shape)) (sym node-is) (h .opens i among .0)));
+            subst (λ (v : Walk). Kept v b) same (came (from (k + 1)) (i .shape) was (subst (λ (n : ℕ). Heads (getD ss n 0) (i .shape)) (sym node-is) (h .heads i among .0)));
       }

@@ -24,7 +24,7 @@ use Rattle.judge.specs.Public.{ofCoverJudged}
 use Rattle.judge.specs.declared.WalkRecord.{WalkRecord}
 use Rattle.judge.specs.Inside.{nothingYet, arrived, pushed, popped, lastOf, Stacked, Kept}
 use Rattle.overlay.specs.Held.{leafOf}
-use Rattle.overlay.specs.Standing.{Opens}
+use Rattle.overlay.specs.Standing.{Heads}
 use Rattle.overlay.proofs.Symbols.{leaf-told}
 
 pub kept-nothing : Kept (record { left = []; point = record { area = 0; arrival = 0 } }) nothingYet
@@ -69,7 +69,7 @@ module _ {w : Walk} {r : WalkRecord} (k : Kept w r) where
   }
 
   -- A node with a symbol: a leaf arrives, an inverter or NAND is to be covered.
-  pub come-arrived : (symbol load delay n t : ℕ) (s : Shape) → Opens symbol s → 2 ≤ symbol → t ≡ leafArrival (leafOf symbol) load + delay → Kept (comeTo load delay n s w) (arrived r t)
+  pub come-arrived : (symbol load delay n t : ℕ) (s : Shape) → Heads symbol s → 2 ≤ symbol → t ≡ leafArrival (leafOf symbol) load + delay → Kept (comeTo load delay n s w) (arrived r t)
   unfolding comeTo beside late leafPoint
   come-arrived symbol load delay n t (leaf x) e h f = record {
     area-is = omega (arith, k .area-is);
@@ -83,7 +83,7 @@ module _ {w : Walk} {r : WalkRecord} (k : Kept w r) where
   come-arrived symbol load delay n t (inv s) e h f = absurd (omega arith)
   come-arrived symbol load delay n t (nand s u) e h f = absurd (omega arith)
 
-  pub come-pushed : (symbol load delay n : ℕ) (s : Shape) → Opens symbol s → symbol < 2 → r .count < 64 → Kept (comeTo load delay n s w) (pushed r n load delay)
+  pub come-pushed : (symbol load delay n : ℕ) (s : Shape) → Heads symbol s → symbol < 2 → r .count < 64 → Kept (comeTo load delay n s w) (pushed r n load delay)
   unfolding comeTo
   come-pushed symbol load delay n (leaf x) e h f = absurd (omega arith)
   come-pushed symbol load delay n (inv s) e h f = kept-pushed f (record { node = n; shape = inv s; load = load; delay = delay })

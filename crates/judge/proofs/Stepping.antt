@@ -10,7 +10,7 @@ use lib.ListN.{length, getD, getElem?, take, drop}
 use Rattle.sheets.specs.Model.{Shape, size, Library, Pattern, Tree, patterns}
 use Rattle.sheets.specs.Layout.{rowWords}
 use Rattle.covers.specs.Cover.{Placed}
-use Rattle.overlay.proofs.Standing.{opens-everywhere}
+use Rattle.overlay.proofs.Standing.{heads-everywhere}
 use Rattle.overlay.proofs.Symbols.{symbols-small}
 use Rattle.overlay.proofs.Patterns.{noPattern, patternAt, rows-long, at-hand, row-held, walkable}
 use Rattle.judgement.specs.Walk.{Uncovered, Walk, lowestAt, matchAt, taken, placedAt, step}
@@ -119,7 +119,7 @@ module _ {l : Library} {t : Tree} {rows ss zs : List ℕ} {k : ℕ} {w : Walk} {
                   cell = held .cell;
                   sound = sound .cell;
                   drawing = sound .drawing;
-                  opens = opens-everywhere (h .decoded);
+                  heads = heads-everywhere (h .decoded);
                   tree = h .decoded .tree;
                   symbols-small = symbols-small ss (t .shape) (h .decoded .symbols-are) (h .decoded .tree .leaves);
                   loads-small = h .decoded .library .loads;

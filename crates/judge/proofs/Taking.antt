@@ -178,7 +178,7 @@ module _ {l : Library} {t : Tree} {row ss zs : List ℕ} {k : ℕ} {p : Pattern}
         entering walks few pinned = record {
           kept = kept-popped kept (p .cell .area);
           held = record { walks = walks; cell = h .cell; sound = h .sound; few = omega (arith, few, h .sound .few-pins); pinned = pinned };
-          opens = λ i a. (h .opens (nodeOf i) (in-tree i a), omega (arith, node-ends 0 (t .shape) (in-tree i a), size-pos (i .shape), h .tree .size));
+          heads = λ i a. (h .heads (nodeOf i) (in-tree i a), omega (arith, node-ends 0 (t .shape) (in-tree i a), size-pos (i .shape), h .tree .size));
           symbols-long = h .walkable (measured measures) .subject .symbols-long;
           symbols-small = h .symbols-small;
           loads-small = h .loads-small;

@@ -22,8 +22,8 @@ use Rattle.covers.proofs.Bounds.{match-cell}
 use Rattle.sheets.specs.declared.tree.TreeRecord.{TreeRecord}
 use Rattle.sheets.specs.Layout.{treeLaid}
 use Rattle.overlay.specs.Held.{symbolLimit}
-use Rattle.overlay.specs.Standing.{Opens, Subject}
-use Rattle.overlay.proofs.Standing.{opens-everywhere, subject-everywhere}
+use Rattle.overlay.specs.Standing.{Heads, Subject}
+use Rattle.overlay.proofs.Standing.{heads-everywhere, subject-everywhere}
 use Rattle.overlay.proofs.Symbols.{symbols-small}
 use Rattle.judgement.specs.Walk.{Uncovered, Walk, comeTo, comeToInputs, started, step, matchNumber, ended, onward, walk}
 use Rattle.judgement.specs.Order.{Apart}
@@ -220,9 +220,9 @@ module _ {l : Library} {t : Tree} {rows : List ℕ} {tree : TreeRecord} (h : Jud
   pub load-small : tree .load ≤ 255
   load-small = omega (arith, load-is, h .decoded .tree .load)
 
-  pub started-kept : (b r : WalkRecord) → b ≡ nothingYet → ((w : Walk) (s : Shape) → Kept w b → Opens (getD (tree .symbols) 0 0) s → Kept (comeTo (tree .load) 0 0 s w) r) → Kept (started t) r
+  pub started-kept : (b r : WalkRecord) → b ≡ nothingYet → ((w : Walk) (s : Shape) → Kept w b → Heads (getD (tree .symbols) 0 0) s → Kept (comeTo (tree .load) 0 0 s w) r) → Kept (started t) r
   unfolding started
   started-kept b r e f =
       let none : Walk = record { left = []; point = record { area = 0; arrival = 0 } } in
       subst (λ (load : ℕ). Kept (comeTo load 0 0 (t .shape) none) r) load-is
-      (f none (t .shape) (subst (Kept none) (sym e) kept-nothing) (opens-everywhere (h .decoded) (record { number = 0; shape = t .shape }) (root-in 0 (t .shape))))
+      (f none (t .shape) (subst (Kept none) (sym e) kept-nothing) (heads-everywhere (h .decoded) (record { number = 0; shape = t .shape }) (root-in 0 (t .shape))))

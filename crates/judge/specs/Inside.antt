@@ -13,7 +13,7 @@ use Rattle.covers.specs.Match.{Input, Match}
 use Rattle.covers.specs.Curve.{base}
 use Rattle.covers.specs.Tradeoff.{Node, nodes}
 use Rattle.overlay.specs.declared.Walked.{Walked}
-use Rattle.overlay.specs.Standing.{Opens, DrawingHeld, Measured}
+use Rattle.overlay.specs.Standing.{Heads, DrawingHeld, Measured}
 use Rattle.overlay.specs.Held.{symbolLimit, CellHeld, Walkable, MatchHeld, Decoded}
 use Rattle.judgement.specs.Walk.{Uncovered, Walk, comeToInputs}
 use Rattle.judgement.specs.Order.{Apart}
@@ -65,7 +65,7 @@ slowest = 65535 + 255 * 255
 pub record Entering (l : Library) (row ss : List ℕ) (walked : Walked) (load delay : ℕ) (r : WalkRecord) (m : Match) (w : Walk) : Type 0 where
   pub kept : Kept w r
   pub held : MatchHeld l walked row m
-  pub opens : (i : Input) → List·Memᴰ i (m .inputs) → Opens (getD ss (i .node) 0) (i .shape) × (i .node < 64)
+  pub heads : (i : Input) → List·Memᴰ i (m .inputs) → Heads (getD ss (i .node) 0) (i .shape) × (i .node < 64)
   pub symbols-long : length ss ≡ 64
   pub symbols-small : (k : ℕ) → getD ss k 0 ≤ symbolLimit
   pub loads-small : (x : ℕ) → List·Memᴰ x (l .bins) → x ≤ 255
@@ -105,7 +105,7 @@ pub record Taking (l : Library) (t : Tree) (row ss zs : List ℕ) (k : ℕ) (p :
   pub cell : CellHeld l row (p .cell)
   pub sound : SoundCell (length (l .bins)) (p .cell)
   pub drawing : SoundDrawing (length (p .cell .pins)) (p .drawing)
-  pub opens : (x : Node) → List·Memᴰ x (nodes 0 (t .shape)) → Opens (getD ss (x .number) 0) (x .shape)
+  pub heads : (x : Node) → List·Memᴰ x (nodes 0 (t .shape)) → Heads (getD ss (x .number) 0) (x .shape)
   pub tree : SoundTree t
   pub symbols-small : (j : ℕ) → getD ss j 0 ≤ symbolLimit
   pub loads-small : (x : ℕ) → List·Memᴰ x (l .bins) → x ≤ 255

@@ -20,7 +20,7 @@ ghost use Rattle.covers.specs.Curve.{base};
 ghost use Rattle.covers.specs.CoverSheet.{coverRead};
 ghost use Rattle.covers.specs.Outcome.{withTree};
 ghost use Rattle.results.specs.Public.{coverOf};
-ghost use Rattle.overlay.specs.Standing.{Opens};
+ghost use Rattle.overlay.specs.Standing.{Heads};
 ghost use Rattle.overlay.specs.Held.{symbolLimit, LibraryHeld, SheetsHeld};
 ghost use Rattle.judgement.specs.Walk.{Walk, comeTo, comeToInputs, matchAt, taken, step as stepOf, started, walk as walkOf};
 ghost use Rattle.judgement.specs.Judgement.{figures, coverJudged, judgement, PointBounded};
@@ -116,7 +116,7 @@ fn pop(walk: WalkRecord, area: u32) -> WalkRecord
 // The walk comes to a node with a symbol, under a load and with a delay from there to the root.
 fn come_to(walk: WalkRecord, symbol: u32, node: usize, load: u32, delay: u32) -> WalkRecord
     requires { ⌜ (symbol ≤ symbolLimit) × (walk .count < 64) × (node < 64) × (load ≤ 255) × (delay < base) ⌝ }
-    ensures { λ r. ⌜ ((w : Walk) (s : Shape) → Kept w walk → Opens symbol s → Kept (comeTo load delay node s w) r) ⌝ }
+    ensures { λ r. ⌜ ((w : Walk) (s : Shape) → Kept w walk → Heads symbol s → Kept (comeTo load delay node s w) r) ⌝ }
 {
     if 2 <= symbol {
         return arrive(walk, overlay::leaf_arrival(symbol, load) as u32 + delay);

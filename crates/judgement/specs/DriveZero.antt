@@ -2,7 +2,7 @@
 use Prim.Native.Nat.{ℕ}
 use mathlib.Core.Path.{_≡_}
 use mathlib.Core.List.{List}
-use Rattle.sheets.specs.TreeWritten.{Coded, treeSheet, SoundCoded, plainly, Undriven}
+use Rattle.sheets.specs.TreeWritten.{CodedTree, treeSheet, SoundCoded, plainly, Undriven}
 use Rattle.covers.specs.Outcome.{mapOutcome, listOutcome}
 use Rattle.judgement.specs.Judgement.{judgement}
 
@@ -14,4 +14,4 @@ pub record AnsweredAlike (ls ts ts′ : List ℕ) : Type 0 where
 
 -- A tree whose driven leaves all have drive 0 is answered as the same tree with plain leaves.
 abbrev pub DriveZero : Type 0
-DriveZero = (ls : List ℕ) (load required : ℕ) (x : Coded) → SoundCoded load required x → Undriven x → AnsweredAlike ls (treeSheet load required x) (treeSheet load required (plainly x))
+DriveZero = (ls : List ℕ) (load required : ℕ) (x : CodedTree) → SoundCoded load required x → Undriven x → AnsweredAlike ls (treeSheet load required x) (treeSheet load required (plainly x))

@@ -12,9 +12,9 @@ use lib.ListN.{length, getD, take, drop, set, length-map, length-reverse}
 use lib.Seq.{take-suc, take-take, length-take-le, drop-length, getD-set-same}
 use Rattle.fields.specs.Answer.{success}
 use Rattle.sheets.specs.declared.tree.TreeRecord.{TreeRecord}
-use Rattle.sheets.specs.Model.{leaf, Library, Tree}
+use Rattle.sheets.specs.Model.{Library, Tree}
 use Rattle.covers.specs.Cover.{Point, leafArrival, leafPoint}
-use Rattle.covers.specs.Tradeoff.{points, tradeoffs, Node, nodes, considered, overfull}
+use Rattle.covers.specs.Tradeoff.{tradeoffs, Node, nodes, considered, overfull}
 use Rattle.covers.specs.Answer.{answered, nonempty, listed}
 use Rattle.covers.proofs.Basics.{lt-or-le}
 use Rattle.covers.specs.Curve.{base, curve, pointOf}

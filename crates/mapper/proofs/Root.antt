@@ -24,9 +24,9 @@ use Rattle.covers.proofs.Listing.{few-matches}
 use Rattle.covers.proofs.Matching.{gates-lt-size}
 use Rattle.covers.proofs.Nodes.{root-in}
 use Rattle.covers.proofs.Unroll.{choice-unroll}
-use Rattle.overlay.specs.Standing.{Opens, Stands}
+use Rattle.overlay.specs.Standing.{Heads, Stands}
 use Rattle.overlay.specs.Held.{leafOf, symbolLimit}
-use Rattle.overlay.proofs.Standing.{opens-everywhere, stands-everywhere, subject-everywhere}
+use Rattle.overlay.proofs.Standing.{heads-everywhere, stands-everywhere, subject-everywhere}
 use Rattle.curves.specs.Words.{absent, pointLimit, stored, curveAt}
 use Rattle.curves.specs.Promises.{Worth}
 use Rattle.choosing.specs.Promises.{at-root, Chooses, appended}
@@ -74,8 +74,8 @@ module _ {most : ℕ} {l : Library} {t : Tree} {rows : List ℕ} {tree : TreeRec
   abbrev Root : Shape → Type 0
   Root = Stands (tree .symbols) (tree .sizes) 0
 
-  root-opens : Opens first (t .shape)
-  root-opens = opens-everywhere (given .prepared .decoded) (record { number = 0; shape = t .shape }) (root-in 0 (t .shape))
+  root-heads : Heads first (t .shape)
+  root-heads = heads-everywhere (given .prepared .decoded) (record { number = 0; shape = t .shape }) (root-in 0 (t .shape))
 
   root-stands : Root (t .shape)
   root-stands = stands-everywhere (given .prepared .decoded) (record { number = 0; shape = t .shape }) (root-in 0 (t .shape))
@@ -92,9 +92,9 @@ module _ {most : ℕ} {l : Library} {t : Tree} {rows : List ℕ} {tree : TreeRec
       go (nand a b) h g = unfold gates in omega arith
 
   pub leaf-root : 2 ≤ first → t .shape ≡ leaf (leafOf first)
-  leaf-root = go (t .shape) root-opens
+  leaf-root = go (t .shape) root-heads
     where
-      go : (x : Shape) → Opens first x → 2 ≤ first → x ≡ leaf (leafOf first)
+      go : (x : Shape) → Heads first x → 2 ≤ first → x ≡ leaf (leafOf first)
       go (leaf y) h g = ap leaf (sym (leaf-told first y h))
       go (inv a) h g = absurd (omega arith)
       go (nand a b) h g = absurd (omega arith)

@@ -9,10 +9,11 @@ use lib.ListN.{length, getD, set, replicate}
 use lib.Seq.{sets, getD-set-same, getD-set-other, set-out}
 use Rattle.fields.proofs.Lists.{zeros-at}
 use Rattle.shapes.specs.Shape.{driveUnit, leafSymbol, symbols as symbolsOf}
-use Rattle.sheets.specs.Model.{Leaf, arrivalOf, Shape, leaf, inv, nand, leaves}
+use Rattle.sheets.specs.Sound.{SoundLeaf}
+use Rattle.sheets.specs.Model.{Leaf, Shape, leaf, inv, nand, leaves}
 use Rattle.sheets.specs.Layout.{padded}
 use Rattle.covers.proofs.Basics.{lt-or-le}
-use Rattle.overlay.specs.Standing.{Opens}
+use Rattle.overlay.specs.Standing.{Heads}
 use Rattle.overlay.specs.Held.{leafOf, symbolLimit}
 
 -- No word of a list is above a bound, written into or not.
@@ -26,8 +27,8 @@ sets-most b l i (x ∷ xs) h g = sets-most b (set l i x) (suc i) xs (λ k. go k 
     go k (yes e) (inr z) = rw (set-out l i x z) (h k)
 
 -- The leaves of a sound tree.
-abbrev SoundLeaves : Shape → Type 0
-SoundLeaves s = (x : Leaf) → List·Memᴰ x (leaves s) → (arrivalOf x ≤ 1000000) × (x .drive ≤ 255)
+abbrev pub SoundLeaves : Shape → Type 0
+SoundLeaves s = (x : Leaf) → List·Memᴰ x (leaves s) → SoundLeaf x
 
 symbol-most : (s : Shape) → SoundLeaves s → (y : ℕ) → List·Memᴰ y (symbolsOf s) → y ≤ symbolLimit
 unfolding leaves symbolsOf
@@ -43,6 +44,6 @@ pub symbols-small : (symbols : List ℕ) (s : Shape) → symbols ≡ padded 64 0
 symbols-small symbols s e h k = rw e (sets-most symbolLimit (replicate 64 0) 0 (symbolsOf s) (λ i. rw (zeros-at 64 i) (omega arith)) (symbol-most s h) k)
 
 -- A leaf is told from its symbol.
-pub leaf-told : (symbol : ℕ) (x : Leaf) → Opens symbol (leaf x) → leafOf symbol ≡ x
+pub leaf-told : (symbol : ℕ) (x : Leaf) → Heads symbol (leaf x) → leafOf symbol ≡ x
 unfolding leafOf
 leaf-told symbol x h = let number : (symbol - 2) % driveUnit ≡ x .number = omega arith in let drive : (symbol - 2) / driveUnit ≡ x .drive = omega arith in λ i. record { number = number i; drive = drive i }

@@ -9,10 +9,10 @@ use Rattle.sheets.specs.Layout.{sizeAt, symbolsAt, rowWords}
 use Rattle.covers.specs.Tradeoff.{Node, nodes}
 
 -- The symbol of a shape's first node; a tree's leaf can be told from it.
-abbrev pub Opens : ℕ → Shape → Type 0
-Opens symbol (leaf x) = (symbol ≡ leafSymbol x) × (arrivalOf x < driveUnit)
-Opens symbol (inv s) = symbol ≡ invSymbol
-Opens symbol (nand s t) = symbol ≡ nandSymbol
+abbrev pub Heads : ℕ → Shape → Type 0
+Heads symbol (leaf x) = (symbol ≡ leafSymbol x) × (arrivalOf x < driveUnit)
+Heads symbol (inv s) = symbol ≡ invSymbol
+Heads symbol (nand s t) = symbol ≡ nandSymbol
 
 module _ (symbols sizes : List ℕ) where
   -- From node n on: a NAND's second branch stands after all of its first.

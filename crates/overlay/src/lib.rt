@@ -193,7 +193,7 @@ pub fn walk<'a>(
     }
 }
 
-// When a leaf arrives under the load that it drives: the one place that knows, and where a leaf's two numbers are taken apart.
+// When a leaf arrives under the load that it drives. A leaf's two numbers are taken apart here and nowhere else: by this function and the next.
 pub fn leaf_arrival(symbol: u32, load: u32) -> u64
     requires { ⌜ (2 ≤ symbol) × (symbol ≤ symbolLimit) × (load ≤ 255) ⌝ }
     ensures { λ r. ⌜ (r ≡ leafArrival (leafOf symbol) load) × (r < base) ⌝ }
@@ -207,9 +207,9 @@ pub fn leaf_arrival_at(symbol: u32, figures: &[u32], load: usize) -> u64
     requires { ⌜ (2 ≤ symbol) × (symbol ≤ symbolLimit) × (load < length (now figures)) × (getD (now figures) load 0 ≤ 255) ⌝ }
     ensures { λ r. ⌜ (r ≡ leafArrival (leafOf symbol) (getD (now (figures .entry)) load 0)) × (r < base) ⌝ }
 {
-    let number = symbol - Packed::LEAF;
-    if number < Packed::DRIVE {
-        return number as u64;
+    let whole = symbol - Packed::LEAF;
+    if whole < Packed::DRIVE {
+        return whole as u64;
     }
     leaf_arrival(symbol, figures[load])
 }

@@ -18,12 +18,16 @@ use Rattle.fields.proofs.Laws.{field-near, free-small, live-sound}
 use Rattle.shapes.specs.declared.Rules.{Rules}
 use Rattle.shapes.specs.Shape.{plain, leafSymbol, Shape, leaf, symbols}
 use Rattle.shapes.specs.Drawing.{leafVerdict, leafNode, drivenNode}
-use Rattle.shapes.specs.Promises.{plainBits, leafBits, openReach, outcome, cursorOf, stoodAt, nextOf, reached, Laid, LeafRead, Kept}
+use Rattle.shapes.specs.Promises.{plainBits, leafBits, openReach, outcome, cursorOf, stoodAt, nextOf, reached, LeafRoom, Laid, LeafRead, Kept}
 use Rattle.shapes.proofs.Laws.{outcome-dead, outcome-place, field-truncated, field-sound, found-used, moved-cursor, moved-next}
 use Rattle.shapes.proofs.Drawn.{leaf-passes}
 
+-- There is a place in the array for the leaf.
+pub leaf-in : {e : List ℕ} {bytes : ℕ} {rules : Rules} {words l : List ℕ} → LeafRoom e bytes rules words l → nextOf words < length l
+leaf-in r = omega (arith, r .wide, r .room, r .rules-are .nodes)
+
 -- A number was read, and with it the reader ended in the words `words₁`.
-module _ (s : List ℕ) (rules : Rules) (words l words₁ l₁ : List ℕ) (end : ℕ)
+module _ {s : List ℕ} {rules : Rules} (words : List ℕ) {l words₁ l₁ : List ℕ} {end : ℕ}
     (first : LeafRead s rules (At (cursorOf words)) (nextOf words) l l₁ (reached end words₁) plainBits (leafNode s rules)) (kept : Kept rules end words₁ l₁) where
   abbrev number : ℕ × Scan
   number = field s (rules .width) (leafVerdict rules (take (nextOf words) l)) (At (cursorOf words))

@@ -53,7 +53,7 @@ module _ (s : List ℕ) (rules : Rules) where
     drive ← field s 8 free
     done (leaf (record { number = number; drive = drive }))
 
-  -- A NAND's two branches. `node` reads one of them, and `seen` has the symbols of the nodes read before.
+  -- A NAND's two branches. `node` reads one of them, and `seen` has the symbols of the nodes read before: of a tree's only how many they are counts.
   unfoldable pub pair : (List ℕ → Reader Shape) → List ℕ → Reader (Shape × Shape)
   pair node seen = do
     a ← node seen

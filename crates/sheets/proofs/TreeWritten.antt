@@ -1,5 +1,5 @@
 -- A tree sheet that is written says its tree: the reader reads it back.
-use Prim.Native.Nat.{ℕ, zero, suc, _+_, _^_, _≤_, _<_}
+use Prim.Native.Nat.{ℕ, zero, suc, _+_, _≤_, _<_}
 use mathlib.Core.Path.{_≡_, refl, sym, ap, ap₂, subst, _∙_}
 use mathlib.Core.List.{List, [], _∷_, _++_, append-nil}
 use native.Mathlib.Omega.{arith}
@@ -16,7 +16,7 @@ use Rattle.shapes.specs.Drawing.{codeVerdict, leafVerdict, leafNode, drivenNode
 use Rattle.shapes.proofs.Drawn.{length-symbols}
 use Rattle.sheets.specs.Model.{plainLeaf, Shape, leaf, inv, nand, size, Tree}
 use Rattle.sheets.specs.TreeSheet.{treeRules, tree}
-use Rattle.sheets.specs.TreeWritten.{Coded, code0, code1, code2, code3, codedFields, shapeOf, treeFields, treeSheet, Ranged, SoundCoded, plainly, Undriven}
+use Rattle.sheets.specs.TreeWritten.{CodedTree, code0, code1, code2, code3, codedFields, shapeOf, treeFields, treeSheet, Ranged, SoundCoded, plainly, Undriven}
 
 -- A code passes while there is room for its node, and an arrival up to the latest.
 code-passes : (n code : ℕ) → n < 64 → codeVerdict treeRules n code ≡ Sound
@@ -27,9 +27,9 @@ arrival-passes : (seen : List ℕ) (x : ℕ) → x ≤ 1000000 → leafVerdict t
 unfolding leafVerdict
 arrival-passes seen x h = rw (le-leb x 1000000 h) refl
 
-range-passes : (most x : ℕ) → x ≤ most → within 0 most x ≡ Sound
+passes-range : (most x : ℕ) → x ≤ most → within 0 most x ≡ Sound
 unfolding within
-range-passes most x h = rw (le-leb 0 x (omega arith), le-leb x most h) refl
+passes-range most x h = rw (le-leb 0 x (omega arith), le-leb x most h) refl
 
 module _ (all : List Field) where
   abbrev s : List ℕ
@@ -44,7 +44,7 @@ module _ (all : List Field) where
   arrival-says : (seen : List ℕ) {rest : List Field} {x : ℕ} → x ≤ 1000000 → Says all (field s 20 (leafVerdict treeRules seen)) (record { value = x; width = 20 } ∷ []) rest x
   arrival-says seen {x = x} h = says-sound 20 (leafVerdict treeRules seen) (omega arith) (arrival-passes seen x h)
 
-  node-says : (x : Coded) (d : ℕ) (seen : List ℕ) (rest : List Field) → Ranged x → length seen + size (shapeOf x) ≤ 64 → size (shapeOf x) ≤ d → Says all (node s treeRules d seen) (codedFields x) rest (shapeOf x)
+  node-says : (x : CodedTree) (d : ℕ) (seen : List ℕ) (rest : List Field) → Ranged x → length seen + size (shapeOf x) ≤ 64 → size (shapeOf x) ≤ d → Says all (node s treeRules d seen) (codedFields x) rest (shapeOf x)
   unfolding codedFields shapeOf size branch leafNode drivenNode pair
   node-says (code0 x) zero seen rest h room deep = absurd (omega arith)
   node-says (code0 x) (suc d) seen rest h room deep = coded d seen 0 (omega arith) (omega arith) (says-then (λ y. done (plainLeaf y)) (arrival-says seen h) (says-done (plainLeaf x)))
@@ -73,7 +73,7 @@ module _ (all : List Field) where
       (says-then (λ z. done (leaf (record { number = x; drive = z }))) (says-field 8 (omega (arith, h .1))) (says-done (leaf (record { number = x; drive = e })))))
 
 -- The whole sheet.
-pub tree-reads : (load required : ℕ) (x : Coded) → SoundCoded load required x →
+pub tree-reads : (load required : ℕ) (x : CodedTree) → SoundCoded load required x →
     tree (treeSheet load required x) start ≡ (record { load = load; required = required; shape = shapeOf x }, At (cursorAt (widths (treeFields load required x))))
 unfolding tree treeSheet treeFields shape
 tree-reads load required x h =
@@ -82,25 +82,25 @@ tree-reads load required x h =
     let last : ℕ → ℕ → Shape → Reader Tree = λ l r y c. (record { load = l; required = r; shape = y }, ended s c) in
     let timed : ℕ → Reader Tree = λ l. field s 24 (within 0 16777215) >>= (λ r. shape s treeRules >>= last l r) in
     says-all (ap (λ (fs : List Field). record { value = load; width = 8 } ∷ record { value = required; width = 24 } ∷ fs) (append-nil (codedFields x)))
-    (says-then timed (says-sound 8 (within 0 255) (omega (arith, h .light)) (range-passes 255 load (h .light)))
-    (says-then (λ r. shape s treeRules >>= last load r) (says-sound 24 (within 0 16777215) (omega (arith, h .timed)) (range-passes 16777215 required (h .timed)))
+    (says-then timed (says-sound 8 (within 0 255) (omega (arith, h .light)) (passes-range 255 load (h .light)))
+    (says-then (λ r. shape s treeRules >>= last load r) (says-sound 24 (within 0 16777215) (omega (arith, h .timed)) (passes-range 16777215 required (h .timed)))
     (says-then (last load required) (node-says all x 65 [] _ (h .ranged) (omega (arith, h .nodes)) (omega (arith, h .nodes)))
     (says-end (record { load = load; required = required; shape = shapeOf x })))))
 
 -- Driven leaves with drive 0 stand for plain ones.
-pub plainly-same : (x : Coded) → Undriven x → shapeOf (plainly x) ≡ shapeOf x
+pub plainly-same : (x : CodedTree) → Undriven x → shapeOf (plainly x) ≡ shapeOf x
 unfolding shapeOf plainly
 plainly-same (code0 x) h = refl
 plainly-same (code1 a) h = ap inv (plainly-same a h)
 plainly-same (code2 a b) h = ap₂ nand (plainly-same a (h .0)) (plainly-same b (h .1))
 plainly-same (code3 x d) h = ap (λ (k : ℕ). leaf (record { number = x; drive = k })) (sym h)
 
-plainly-ranged : (x : Coded) → Ranged x → Ranged (plainly x)
+plainly-ranged : (x : CodedTree) → Ranged x → Ranged (plainly x)
 unfolding plainly
 plainly-ranged (code0 x) h = h
 plainly-ranged (code1 a) h = plainly-ranged a h
 plainly-ranged (code2 a b) h = (plainly-ranged a (h .0), plainly-ranged b (h .1))
 plainly-ranged (code3 x d) h = h .0
 
-pub plainly-sound : (load required : ℕ) (x : Coded) → SoundCoded load required x → Undriven x → SoundCoded load required (plainly x)
+pub plainly-sound : (load required : ℕ) (x : CodedTree) → SoundCoded load required x → Undriven x → SoundCoded load required (plainly x)
 plainly-sound load required x h u = record { light = h .light; timed = h .timed; nodes = rw (plainly-same x u) (h .nodes); ranged = plainly-ranged x (h .ranged) }

@@ -39,8 +39,12 @@ pub record SoundLibrary (l : Library) : Type 0 where
   pub few-patterns : length (patterns l) ≤ 128
   pub cells : (c : Cell) → List·Memᴰ c (l .cells) → SoundCell (length (l .bins)) c
 
+-- A leaf of a tree.
+abbrev pub SoundLeaf : Leaf → Type 0
+SoundLeaf x = (arrivalOf x ≤ 1000000) × (x .drive ≤ 255)
+
 pub record SoundTree (t : Tree) : Type 0 where
   pub load : t .load ≤ 255
   pub required : t .required ≤ 16777215
   pub size : size (t .shape) ≤ 64
-  pub leaves : (x : Leaf) → List·Memᴰ x (leaves (t .shape)) → (arrivalOf x ≤ 1000000) × (x .drive ≤ 255)
+  pub leaves : (x : Leaf) → List·Memᴰ x (leaves (t .shape)) → SoundLeaf x

@@ -1,4 +1,4 @@
--- The tree sheet, as document 01 lists it.
+-- The tree sheet, as document 01 lists it, with document 02's driven leaves.
 use Prim.Native.Nat.{ℕ}
 use mathlib.Core.List.{List}
 use mathlib.Core.Bool.{false}
@@ -7,7 +7,7 @@ use Rattle.fields.specs.Reading.{Reader, _>>=_, within, field, ended}
 use Rattle.shapes.specs.Drawing.{shape}
 use Rattle.sheets.specs.Model.{Tree}
 
--- A tree: at most 64 nodes, its leaves' arrivals in 20 bits, at most 1,000,000.
+-- A tree: at most 64 nodes, its leaves' arrivals in 20 bits, at most 1,000,000; driven leaves, since it is no pattern.
 abbrev pub treeRules : Rules
 treeRules = record { width = 20; most = 1000000; nodes = 64; pattern = false }
 

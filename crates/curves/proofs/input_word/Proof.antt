@@ -1,12 +1,9 @@
 use borrow.Author.Needs.{needs}
 use native.Mathlib.Omega.{arith}
-use Prim.Native.Nat.{ℕ, _+_, _-_, _*_}
-use mathlib.Core.Path.{_≡_, ap₂, subst₂, _∙_}
+use Prim.Native.Nat.{_+_, _-_, _*_}
+use mathlib.Core.Path.{_≡_}
 use lib.ListN.{length, getD, drop, length-drop}
 use lib.Seq.{length-take-le}
-use Rattle.curves.specs.Words.{pointLimit}
-use Rattle.curves.specs.Best.{inputNode, inputBest}
-use Rattle.curves.specs.Promises.{Worth}
 use Rattle.curves.proofs.Laws.{pinPart, figure-is, bin-is, input-missing, input-found}
 use Rattle.curves.proofs.input_word.Statement.{statement}
 use Rattle.curves.proofs.input_word.Tie as tie
@@ -35,12 +32,7 @@ returns c =
     let d = c .before .before .before .before .delay in
     let l = c .before .before .less in
     let w = c .before .input-best in
-    let pattern = s .args .pattern .now in
-    let at = 5 + 4 * getD (s .args .row .now) (3 + 2 * s .args .k) 0 in
-    let delayed = d .ensures .0 ∙ ap₂ (λ (i j : ℕ). i + j * s .args .load) (figure-is pattern at 2 (omega arith)) (figure-is pattern at 3 (omega arith)) in
-    let best = subst₂ (λ (b o : ℕ). Worth pointLimit (l .result) (w .result) (inputBest (s .args .most) (s .args .symbols .now) (s .args .work .now) (inputNode pattern (s .args .row .now) (s .args .k)) b o (l .result)))
-    (bin-is pattern at) (figure-is pattern at 1 (omega arith)) (w .ensures) in
-    input-missing (s .pre .0) (s .args .load) (s .args .end) (s .args .k) (d .result) (l .result) (w .result) delayed (l .ensures) best (c .if1 .taken)
+    input-missing (s .pre .0) (s .args .load) (s .args .end) (s .args .k) (d .result) (l .result) (w .result) (d .ensures .0) (l .ensures) (w .ensures) (c .if1 .taken)
 
 add-result : tie.Need-add-result
 add-result c = omega (arith, c .before .input-best .ensures .small (c .if1 .left), c .before .before .before .before .delay .ensures .1)
@@ -51,12 +43,7 @@ returns-2 c =
     let d = c .before .before .before .before .delay in
     let l = c .before .before .less in
     let w = c .before .input-best in
-    let pattern = s .args .pattern .now in
-    let at = 5 + 4 * getD (s .args .row .now) (3 + 2 * s .args .k) 0 in
-    let delayed = d .ensures .0 ∙ ap₂ (λ (i j : ℕ). i + j * s .args .load) (figure-is pattern at 2 (omega arith)) (figure-is pattern at 3 (omega arith)) in
-    let best = subst₂ (λ (b o : ℕ). Worth pointLimit (l .result) (w .result) (inputBest (s .args .most) (s .args .symbols .now) (s .args .work .now) (inputNode pattern (s .args .row .now) (s .args .k)) b o (l .result)))
-    (bin-is pattern at) (figure-is pattern at 1 (omega arith)) (w .ensures) in
-    input-found (s .pre .0) (s .args .load) (s .args .end) (s .args .k) (d .result) (l .result) (w .result) delayed (l .ensures) (s .pre .1 .1 .1) best (c .if1 .left)
+    input-found (s .pre .0) (s .args .load) (s .args .end) (s .args .k) (d .result) (l .result) (w .result) (d .ensures .0) (l .ensures) (s .pre .1 .1 .1) (w .ensures) (c .if1 .left)
 
 pub input-word-spec : {M : Type 1} → statement M
 input-word-spec =

@@ -7,8 +7,8 @@ use Rattle.overlay.specs.Held.{leafOf}
 use Rattle.overlay.proofs.leaf_arrival_at.Statement.{statement}
 use Rattle.overlay.proofs.leaf_arrival_at.Tie as tie
 
-sub-number : tie.Need-sub-number
-sub-number c = search needs
+sub-whole : tie.Need-sub-whole
+sub-whole c = search needs
 
 cast-result : tie.Need-cast-result
 cast-result c = search needs
@@ -34,4 +34,4 @@ returns-2 : tie.Need-returns-2
 returns-2 c = search needs
 
 pub leaf-arrival-at-spec : {M : Type 1} → statement M
-leaf-arrival-at-spec = tie.close (tie.spec sub-number cast-result returns mul-leaf-arrival shared-slice-read-leaf-arrival leaf-arrival-requires returns-2)
+leaf-arrival-at-spec = tie.close (tie.spec sub-whole cast-result returns mul-leaf-arrival shared-slice-read-leaf-arrival leaf-arrival-requires returns-2)

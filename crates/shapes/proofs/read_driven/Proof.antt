@@ -3,12 +3,12 @@ use Prim.Native.Nat.{ℕ, _<_, _+_, _*_}
 use mathlib.Core.Path.{sym, ap, subst, _∙_}
 use mathlib.Core.List.{List}
 use lib.ListN.{getD, set}
-use Rattle.fields.specs.declared.Scan.the-variants.{At}
-use Rattle.shapes.specs.Drawing.{drivenNode}
 use Rattle.bits.specs.declared.Cursor.{Cursor}
 use Rattle.bits.specs.Bits.{placeOf, fieldAt}
+use Rattle.fields.specs.declared.Scan.the-variants.{At}
+use Rattle.shapes.specs.Drawing.{drivenNode}
 use Rattle.shapes.specs.Promises.{leafBits, reached, cursorOf, nextOf, LeafRead, Kept}
-use Rattle.shapes.proofs.Driven.{number-refused, drive-inside, driven-number, driven-most, drive-truncated, drive-small, drive-sound}
+use Rattle.shapes.proofs.Driven.{leaf-in, number-refused, drive-inside, driven-number, driven-most, drive-truncated, drive-small, drive-sound}
 use borrow.Author.Needs.{needs}
 use Rattle.shapes.proofs.read_driven.Statement.{statement}
 use Rattle.shapes.proofs.read_driven.Tie as tie
@@ -20,16 +20,23 @@ read-leaf-requires : tie.Need-read-leaf-requires
 read-leaf-requires c κs = search needs
 
 returns : tie.Need-returns
-returns c s opens = number-refused s (c .before .before .before .before .before .args .rules) (c .before .before .before .before .before .args .words .now) (c .before .before .before .before .before .args .symbols .now) (c .before .read-leaf .last .1 .1 .1 .0) (c .before .read-leaf .last .1 .1 .1 .1 .0) (c .before .read-leaf .result) (c .before .read-leaf .ensures s opens .0) (c .before .read-leaf .ensures s opens .1) (omega (arith, c .if1 .taken))
+returns c s opens =
+    let done = c .before .read-leaf .ensures s opens in
+    number-refused (c .before .before .before .before .before .args .words .now) (done .0) (done .1) (omega (arith, c .if1 .taken))
 
 stood-requires : tie.Need-stood-requires
 stood-requires c κs = search needs
 
 field-of-requires : tie.Need-field-of-requires
 field-of-requires c κs =
+    let a = c .before .before .before .before .before .before .before .args in
+    let pre = c .before .before .before .before .before .before .before .pre .0 in
+    let s = pre .opened .sheet in
+    let opens = pre .opened .opens in
+    let done = c .before .before .before .read-leaf .ensures s opens in
     let at = c .stood .ensures in
-    let inside = drive-inside (c .before .before .before .before .before .before .before .pre .0 .opened .sheet) (c .before .before .before .before .before .before .before .args .rules) (c .before .before .before .before .before .before .before .args .words .now) (c .before .before .before .before .before .before .before .args .symbols .now) (c .before .before .before .read-leaf .last .1 .1 .1 .0) (c .before .before .before .read-leaf .last .1 .1 .1 .1 .0) (c .before .before .before .read-leaf .result) (c .before .before .before .read-leaf .ensures (c .before .before .before .before .before .before .before .pre .0 .opened .sheet) (c .before .before .before .before .before .before .before .pre .0 .opened .opens) .0) (c .before .before .before .read-leaf .ensures (c .before .before .before .before .before .before .before .pre .0 .opened .sheet) (c .before .before .before .before .before .before .before .pre .0 .opened .opens) .1) (c .before .before .if1 .left) (c .before .before .before .before .before .before .before .pre .0 .near) in
-    (c .before .before .before .before .before .before .before .pre .0 .opened, omega (arith, ap (λ (k : Cursor). k .used) at, inside), omega (arith, ap (λ (k : Cursor). k .byte) at, inside), omega arith)
+    let inside = drive-inside (a .words .now) (done .0) (done .1) (c .before .before .if1 .left) (pre .near) in
+    (pre .opened, omega (arith, ap (λ (k : Cursor). k .used) at, inside), omega (arith, ap (λ (k : Cursor). k .byte) at, inside), omega arith)
 
 enum-known-drive : tie.Need-enum-known-drive
 enum-known-drive c = search needs
@@ -39,12 +46,20 @@ enum-told c = search needs
 
 returns-2 : tie.Need-returns-2
 returns-2 c s opens =
-    drive-truncated s (c .before .before .before .before .before .before .before .before .before .before .args .rules) (c .before .before .before .before .before .before .before .before .before .before .args .words .now) (c .before .before .before .before .before .before .before .before .before .before .args .symbols .now) (c .before .before .before .before .before .before .read-leaf .last .1 .1 .1 .0) (c .before .before .before .before .before .before .read-leaf .last .1 .1 .1 .1 .0) (c .before .before .before .before .before .before .read-leaf .result) (c .before .before .before .before .before .before .read-leaf .ensures s opens .0) (c .before .before .before .before .before .before .read-leaf .ensures s opens .1) (c .before .before .before .before .before .if1 .left) (omega (arith, c .before .before .before .before .before .before .before .before .before .before .pre .0 .wide, c .before .before .before .before .before .before .before .before .before .before .pre .0 .room, c .before .before .before .before .before .before .before .before .before .before .pre .0 .rules-are .nodes)) (c .before .before .field-of .result) (c .before .before .field-of .ensures s opens ∙ ap (λ (k : Cursor). fieldAt s (placeOf k) 8) (c .before .before .before .stood .ensures)) (c .enum-told .given .1)
+    let a = c .before .before .before .before .before .before .before .before .before .before .args in
+    let pre = c .before .before .before .before .before .before .before .before .before .before .pre .0 in
+    let done = c .before .before .before .before .before .before .read-leaf .ensures s opens in
+    drive-truncated (a .words .now) (done .0) (done .1) (c .before .before .before .before .before .if1 .left) (leaf-in pre) (c .before .before .field-of .result) (c .before .before .field-of .ensures s opens ∙ ap (λ (k : Cursor). fieldAt s (placeOf k) 8) (c .before .before .before .stood .ensures)) (c .enum-told .given .1)
 
 -- the drive is small
 small : (c : tie.After-known-told) → c .before .drive .given .0 .0 < 256
 small c =
-    drive-small (c .before .before .before .before .before .before .before .before .before .before .before .pre .0 .opened .sheet) (c .before .before .before .before .before .before .before .before .before .before .before .args .rules) (c .before .before .before .before .before .before .before .before .before .before .before .args .words .now) (c .before .before .before .before .before .before .before .before .before .before .before .args .symbols .now) (c .before .before .before .before .before .before .before .read-leaf .last .1 .1 .1 .0) (c .before .before .before .before .before .before .before .read-leaf .last .1 .1 .1 .1 .0) (c .before .before .before .before .before .before .before .read-leaf .result) (c .before .before .before .before .before .before .before .read-leaf .ensures (c .before .before .before .before .before .before .before .before .before .before .before .pre .0 .opened .sheet) (c .before .before .before .before .before .before .before .before .before .before .before .pre .0 .opened .opens) .0) (c .before .before .before .before .before .before .before .read-leaf .ensures (c .before .before .before .before .before .before .before .before .before .before .before .pre .0 .opened .sheet) (c .before .before .before .before .before .before .before .before .before .before .before .pre .0 .opened .opens) .1) (c .before .before .before .before .before .before .if1 .left) (omega (arith, c .before .before .before .before .before .before .before .before .before .before .before .pre .0 .wide, c .before .before .before .before .before .before .before .before .before .before .before .pre .0 .room, c .before .before .before .before .before .before .before .before .before .before .before .pre .0 .rules-are .nodes)) (c .before .before .before .field-of .result) (c .before .before .before .field-of .ensures (c .before .before .before .before .before .before .before .before .before .before .before .pre .0 .opened .sheet) (c .before .before .before .before .before .before .before .before .before .before .before .pre .0 .opened .opens) ∙ ap (λ (k : Cursor). fieldAt (c .before .before .before .before .before .before .before .before .before .before .before .pre .0 .opened .sheet) (placeOf k) 8) (c .before .before .before .before .stood .ensures)) _ _ (c .before .drive .given .1)
+    let a = c .before .before .before .before .before .before .before .before .before .before .before .args in
+    let pre = c .before .before .before .before .before .before .before .before .before .before .before .pre .0 in
+    let s = pre .opened .sheet in
+    let opens = pre .opened .opens in
+    let done = c .before .before .before .before .before .before .before .read-leaf .ensures s opens in
+    drive-small (a .words .now) (done .0) (done .1) (c .before .before .before .before .before .before .if1 .left) (leaf-in pre) (c .before .before .before .field-of .result) (c .before .before .before .field-of .ensures s opens ∙ ap (λ (k : Cursor). fieldAt s (placeOf k) 8) (c .before .before .before .before .stood .ensures)) _ _ (c .before .drive .given .1)
 
 cast-symbols : tie.Need-cast-symbols
 cast-symbols c = omega (arith, small c)
@@ -60,7 +75,12 @@ element-copy-out-symbols c = search needs
 
 add-symbols : tie.Need-add-symbols
 add-symbols c =
-    omega (arith, small (c .before), c .before .before .before .before .before .before .before .before .before .before .before .before .pre .0 .rules-are .most, driven-number (c .before .before .before .before .before .before .before .before .before .before .before .before .pre .0 .opened .sheet) (c .before .before .before .before .before .before .before .before .before .before .before .before .args .rules) (c .before .before .before .before .before .before .before .before .before .before .before .before .args .words .now) (c .before .before .before .before .before .before .before .before .before .before .before .before .args .symbols .now) (c .before .before .before .before .before .before .before .before .read-leaf .last .1 .1 .1 .0) (c .before .before .before .before .before .before .before .before .read-leaf .last .1 .1 .1 .1 .0) (c .before .before .before .before .before .before .before .before .read-leaf .result) (c .before .before .before .before .before .before .before .before .read-leaf .ensures (c .before .before .before .before .before .before .before .before .before .before .before .before .pre .0 .opened .sheet) (c .before .before .before .before .before .before .before .before .before .before .before .before .pre .0 .opened .opens) .0) (c .before .before .before .before .before .before .before .before .read-leaf .ensures (c .before .before .before .before .before .before .before .before .before .before .before .before .pre .0 .opened .sheet) (c .before .before .before .before .before .before .before .before .before .before .before .before .pre .0 .opened .opens) .1) (c .before .before .before .before .before .before .before .if1 .left) (omega (arith, c .before .before .before .before .before .before .before .before .before .before .before .before .pre .0 .wide, c .before .before .before .before .before .before .before .before .before .before .before .before .pre .0 .room, c .before .before .before .before .before .before .before .before .before .before .before .before .pre .0 .rules-are .nodes)), driven-most (c .before .before .before .before .before .before .before .before .before .before .before .before .pre .0 .opened .sheet) (c .before .before .before .before .before .before .before .before .before .before .before .before .args .rules) (c .before .before .before .before .before .before .before .before .before .before .before .before .args .words .now) (c .before .before .before .before .before .before .before .before .before .before .before .before .args .symbols .now) (c .before .before .before .before .before .before .before .before .read-leaf .last .1 .1 .1 .0) (c .before .before .before .before .before .before .before .before .read-leaf .last .1 .1 .1 .1 .0) (c .before .before .before .before .before .before .before .before .read-leaf .result) (c .before .before .before .before .before .before .before .before .read-leaf .ensures (c .before .before .before .before .before .before .before .before .before .before .before .before .pre .0 .opened .sheet) (c .before .before .before .before .before .before .before .before .before .before .before .before .pre .0 .opened .opens) .0) (c .before .before .before .before .before .before .before .before .read-leaf .ensures (c .before .before .before .before .before .before .before .before .before .before .before .before .pre .0 .opened .sheet) (c .before .before .before .before .before .before .before .before .before .before .before .before .pre .0 .opened .opens) .1) (c .before .before .before .before .before .before .before .if1 .left) (omega (arith, c .before .before .before .before .before .before .before .before .before .before .before .before .pre .0 .wide, c .before .before .before .before .before .before .before .before .before .before .before .before .pre .0 .room, c .before .before .before .before .before .before .before .before .before .before .before .before .pre .0 .rules-are .nodes)))
+    let a = c .before .before .before .before .before .before .before .before .before .before .before .before .args in
+    let pre = c .before .before .before .before .before .before .before .before .before .before .before .before .pre .0 in
+    let s = pre .opened .sheet in
+    let opens = pre .opened .opens in
+    let done = c .before .before .before .before .before .before .before .before .read-leaf .ensures s opens in
+    omega (arith, small (c .before), pre .rules-are .most, driven-number (a .words .now) (done .0) (done .1) (c .before .before .before .before .before .before .before .if1 .left) (leaf-in pre), driven-most (a .words .now) (done .0) (done .1) (c .before .before .before .before .before .before .before .if1 .left) (leaf-in pre))
 
 mul-symbols-3 : tie.Need-mul-symbols-3
 mul-symbols-3 c = search needs
@@ -73,11 +93,14 @@ stand-requires c κs = search needs
 
 returns-3 : tie.Need-returns-3
 returns-3 c s opens =
-    let done = drive-sound s (c .before .before .before .before .before .before .before .before .before .before .before .before .before .before .args .rules) (c .before .before .before .before .before .before .before .before .before .before .before .before .before .before .args .words .now) (c .before .before .before .before .before .before .before .before .before .before .before .before .before .before .args .symbols .now) (c .before .before .before .before .before .before .before .before .before .before .read-leaf .last .1 .1 .1 .0) (c .before .before .before .before .before .before .before .before .before .before .read-leaf .last .1 .1 .1 .1 .0) (c .before .before .before .before .before .before .before .before .before .before .read-leaf .result) (c .before .before .before .before .before .before .before .before .before .before .read-leaf .ensures s opens .0) (c .before .before .before .before .before .before .before .before .before .before .read-leaf .ensures s opens .1) (c .before .before .before .before .before .before .before .before .before .if1 .left) (omega (arith, c .before .before .before .before .before .before .before .before .before .before .before .before .before .before .pre .0 .wide, c .before .before .before .before .before .before .before .before .before .before .before .before .before .before .pre .0 .room, c .before .before .before .before .before .before .before .before .before .before .before .before .before .before .pre .0 .rules-are .nodes)) (c .before .before .before .before .before .before .field-of .result) (c .before .before .before .before .before .before .field-of .ensures s opens ∙ ap (λ (k : Cursor). fieldAt s (placeOf k) 8) (c .before .before .before .before .before .before .before .stood .ensures)) _ _ (c .before .before .before .before .drive .given .1) (c .before .before .before .before .before .before .before .before .before .before .before .before .before .before .pre .1) in
     let a = c .before .before .before .before .before .before .before .before .before .before .before .before .before .before .args in
+    let pre = c .before .before .before .before .before .before .before .before .before .before .before .before .before .before .pre .0 in
+    let done = c .before .before .before .before .before .before .before .before .before .before .read-leaf .ensures s opens in
     let l = c .before .before .before .before .before .before .before .before .before .before .read-leaf .last .1 .1 .1 .1 .0 in
     let l′ = set l (nextOf (a .words .now)) (1048576 * c .before .before .before .before .drive .given .0 .0 + getD l (nextOf (a .words .now)) 0) in
-    subst (λ (w : List ℕ). LeafRead s (a .rules) (At (cursorOf (a .words .now))) (nextOf (a .words .now)) (a .symbols .now) l′ (reached 0 w) leafBits (drivenNode s (a .rules)) × Kept (a .rules) 0 w l′) (sym (c .stand .ensures)) done
+    let Done : List ℕ → Type 0 = λ w.
+    LeafRead s (a .rules) (At (cursorOf (a .words .now))) (nextOf (a .words .now)) (a .symbols .now) l′ (reached 0 w) leafBits (drivenNode s (a .rules)) × Kept (a .rules) 0 w l′ in
+    subst Done (sym (c .stand .ensures)) (drive-sound (a .words .now) (done .0) (done .1) (c .before .before .before .before .before .before .before .before .before .if1 .left) (leaf-in pre) (c .before .before .before .before .before .before .field-of .result) (c .before .before .before .before .before .before .field-of .ensures s opens ∙ ap (λ (k : Cursor). fieldAt s (placeOf k) 8) (c .before .before .before .before .before .before .before .stood .ensures)) _ _ (c .before .before .before .before .drive .given .1) (c .before .before .before .before .before .before .before .before .before .before .before .before .before .before .pre .1))
 
 pub read-driven-spec : {M : Type 1} → statement M
 read-driven-spec =
