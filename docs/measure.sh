@@ -8,7 +8,7 @@ mappers="product plain plain_kept merging"
 judges="product reference wordwise"
 [ -z "${TREECOVER_BEFORE_DIR:-}" ] || { features=before; mappers="$mappers before"; judges="$judges before"; }
 rows="typical chain comb deep full crosscomb driven"
-sheets="longest_library longest_tree longest_plain_tree"
+sheets="longest_library longest_tree longest_plain_tree longest_functions"
 scratch=$(mktemp -d)
 trap 'rm -rf "$scratch"' EXIT
 
@@ -19,7 +19,7 @@ cargo build -q --release --offline --manifest-path reference/Cargo.toml --featur
 bench=$PWD/target/reference/release/bench
 fresh=$PWD/target/reference/release/fresh
 
-instructions() { # WHO ROW: of one map or judgement, the difference of two runs; nothing if the delivery before refuses the row
+instructions() { # WHO ROW: of one map or judgement, the difference of two runs; nothing if the delivery before refuses the row or has no such judge
     [ "$1" != before ] || "$bench" repeat 1 "$1" "$2" >/dev/null 2>&1 || return 0
     for count in 1 2; do
         valgrind --tool=callgrind --callgrind-out-file="$scratch/cg" "$bench" repeat $count "$1" "$2" 2>&1 | awk '/Collected/ { print $4 }'
@@ -50,8 +50,8 @@ while it is in time, and passes over a match whose last point is not below the l
 taking turns in one run (medians of 31 rounds), each answer compared with the expected sheet$([ "$features" = product ] || echo ' (of `before` area and arrival; it is left out where it refuses the sheets)'). A ratio is the product's time over the other's. \`typical\` is a usual
 problem; \`chain\` and \`comb\` are the worst that were found before inputs could be exchanged; \`deep\` has nearly nothing to find and the deepest choice; \`full\` and \`crosscomb\` have many crossings; \`driven\` is \`typical\` with all leaves driven.
 
-The judges are timed on the longest sound library, the longest sound tree, whose leaves are all driven, and the same tree with plain leaves. Beside the product stand the separate implementation, which keeps what it reads (\`reference\`), and judges
-written by hand for speed, which take each field from one word of 64 bits, check every rule and keep nothing, and divide places, which the product must not (\`reference/src/wordwise.rs\`, \`wordwise\`).
+The judges are timed on the longest sound library, the longest sound tree, whose leaves are all driven, and the same tree with plain leaves; the judge of functions on a library as long and its function sheet, all of it right (\`longest_functions\`). Beside the product stand the separate implementation, which keeps what it reads and works a drawing out setting by setting (\`reference\`), and judges
+written by hand for speed, which take each field from one word of 64 bits, check every rule and keep nothing, divide places, which the product must not, and work a drawing out as they read it (\`reference/src/wordwise.rs\`, \`wordwise\`).
 
 The bars that we set: on chain and comb no more instructions than before inputs could be exchanged; on full and crosscomb at most 1.25 times plain Rust with all savings
 (crossings that are ruled out together, points that are kept, matches that are passed over: \`plain_kept\`); faster than merging on every row but deep; for the judges of sheets half of the time
@@ -88,6 +88,8 @@ $ fresh cover 200000 33
 $("$fresh" cover 200000 33)
 $ fresh bill 200000 34
 $("$fresh" bill 200000 34)
+$ fresh functions 200000 35
+$("$fresh" functions 200000 35)
 \`\`\`
 
 ## The gate

@@ -28,6 +28,9 @@ extern "C" {
  *   23  a match is misplaced or not legal, or its crossing is wrong; place: its position from 0; or the list ends early; place: the
  *       match count
  *   24  the stated area or arrival is not that of the cover listed; place 0
+ *   31  the function sheet ends before or inside a field; place: the field's first bit
+ *   32  a set bit in the function sheet's last byte after the last field, or a byte after it; place: the bit after the last field
+ *   33  a drawing computes another function than its cell's; place: the lowest such pattern's number
  */
 
 /* The least lengths of an output in bytes and of a work area in words. */
@@ -40,6 +43,12 @@ extern "C" {
 
 /* Judges a library: cells * 256 + patterns, or a refusal with a number from 2 to 6. */
 uint64_t treecover_judge_library(const uint8_t *library, size_t library_len);
+
+/*
+ * Judges a function sheet: cells * 256 + patterns if each drawing of the library, held cells' too, computes the function that the
+ * sheet states of its cell; or a refusal, the library's (2 to 6), 31, 32 or 33.
+ */
+uint64_t treecover_judge_functions(const uint8_t *library, size_t library_len, const uint8_t *functions, size_t functions_len);
 
 /* Judges a tree: its node count, or a refusal with the number 12, 13, 14 or 16. */
 uint64_t treecover_judge_tree(const uint8_t *tree, size_t tree_len);

@@ -9,6 +9,7 @@ pub mod crossing;
 pub mod curve;
 pub mod deadline;
 pub mod form;
+pub mod functions;
 pub mod generate;
 pub mod hex;
 pub mod judging;

@@ -27,6 +27,12 @@ extern "C" {
         cover: *const u8,
         cover_len: usize,
     ) -> u64;
+    fn treecover_judge_functions(
+        library: *const u8,
+        library_len: usize,
+        functions: *const u8,
+        functions_len: usize,
+    ) -> u64;
 }
 
 /// The product's verdict, in the form of `Verdict::coded`.
@@ -57,6 +63,12 @@ pub fn judge_cover(library: &[u8], tree: &[u8], cover: &[u8]) -> u64 {
     unsafe {
         treecover_judge_cover(library.as_ptr(), library.len(), tree.as_ptr(), tree.len(), cover.as_ptr(), cover.len())
     }
+}
+
+/// The product's verdict on a library and its function sheet, in the same form.
+pub fn judge_functions(library: &[u8], functions: &[u8]) -> u64 {
+    // It only reads, and only within the slices.
+    unsafe { treecover_judge_functions(library.as_ptr(), library.len(), functions.as_ptr(), functions.len()) }
 }
 
 type Mapper = unsafe extern "C" fn(*const u8, usize, *const u8, usize, *mut u8, usize, *mut u64, usize) -> u64;

@@ -24,6 +24,10 @@ pub const COVER_SHEET: u32 = 22;
 pub const COVER_MATCH: u32 = 23;
 /// Area or arrival is not the cover's.
 pub const COVER_FIGURES: u32 = 24;
+/// Added to a sheet's number when the sheet is a function sheet: 31 if it is torn, 32 if it has a bad tail.
+pub const IN_FUNCTIONS: u32 = 29;
+/// A drawing computes another function than its cell's.
+pub const OTHER_FUNCTION: u32 = 33;
 
 #[derive(Clone, Copy, PartialEq, Eq, Debug)]
 pub struct Refusal {

@@ -4,13 +4,14 @@ use crate::cover::Pair;
 use crate::generate::damage::Kind;
 use crate::judging::Judged;
 use crate::refusal::Refusal;
-use crate::{library, tree};
+use crate::{functions, library, tree};
 
 #[derive(Clone, Copy, PartialEq, Eq, Debug)]
 pub enum Verdict {
     Library { cells: usize, patterns: usize },
     Tree { nodes: usize },
     Cover(Pair),
+    Functions { cells: usize, patterns: usize },
     Refused(Refusal),
 }
 
@@ -29,12 +30,19 @@ impl Verdict {
         accepted.unwrap_or_else(Verdict::Refused)
     }
 
+    /// Of a library and its function sheet.
+    pub fn of_functions(library: &[u8], functions: &[u8]) -> Verdict {
+        let accepted = functions::judge(library, functions);
+        accepted.map_or_else(Verdict::Refused, |(cells, patterns)| Verdict::Functions { cells, patterns })
+    }
+
     /// As a line of the stored results.
     pub fn line(&self) -> String {
         match self {
             Verdict::Library { cells, patterns } => format!("library {cells} {patterns}"),
             Verdict::Tree { nodes } => format!("tree {nodes}"),
             Verdict::Cover(pair) => format!("accepted {} {}", pair.area, pair.arrival),
+            Verdict::Functions { cells, patterns } => format!("functions {cells} {patterns}"),
             Verdict::Refused(refusal) => refusal.line(),
         }
     }
@@ -42,7 +50,9 @@ impl Verdict {
     /// As the C interface hands it over.
     pub fn coded(&self) -> u64 {
         match self {
-            Verdict::Library { cells, patterns } => (cells * 256 + patterns) as u64,
+            Verdict::Library { cells, patterns } | Verdict::Functions { cells, patterns } => {
+                (cells * 256 + patterns) as u64
+            }
             Verdict::Tree { nodes } => *nodes as u64,
             Verdict::Cover(pair) => 1 << 63 | (pair.area as u64) << 24 | pair.arrival as u64,
             Verdict::Refused(refusal) => refusal.coded(),

@@ -1,18 +1,22 @@
-//! Both judges once more, written by hand for speed: the yardstick of the benchmark for reading. Every field is taken
-//! from one word of 64 bits and every rule is checked, but nothing of a sheet is kept: a shape is only the number of its
-//! branches that are still open, and the pins met in a pattern are a set of bits. A place is divided for every field,
-//! which Paper 4 forbids to the product.
+//! The judges once more, written by hand for speed: the yardstick of the benchmark for reading. Every field is taken
+//! from one word of 64 bits and every rule is checked, but nothing of a sheet is kept that the judge does not need: a
+//! shape is only the number of its branches that are still open, and the pins met in a pattern are a set of bits. The
+//! judge of functions also keeps what each drawing computes. A place is divided for every field, which Paper 4 forbids
+//! to the product.
+
+pub mod functions;
+mod sheet;
 
 use crate::generate::damage::Kind;
 use crate::library::{MOST_PATTERNS, MOST_PATTERN_NODES};
-use crate::refusal::{Refusal, DRAWING, IN_TREE, RANGE, SIZE, TAIL, TRUNCATED};
+use crate::refusal::{DRAWING, IN_TREE, RANGE, SIZE};
 use crate::tree::{LATEST_LEAF, MOST_TREE_NODES};
-use std::ops::RangeInclusive;
+use sheet::{is_gate, Read, Sheet, CODE, DRIVEN, LEAF, MOST_BRANCHES};
 
 /// The verdict, in the form of `Verdict::coded`.
 pub fn judge(kind: Kind, sheet: &[u8]) -> u64 {
     let judged = match kind {
-        Kind::Library => library(sheet),
+        Kind::Library => library(sheet, &mut |_| ()),
         Kind::Tree => tree(sheet),
     };
     judged.map_or_else(|refusal| refusal.coded(), |sizes| sizes as u64)
@@ -30,17 +34,10 @@ mod width {
     pub const INTRINSIC: usize = 16;
     pub const DRIVE: usize = 8;
     pub const PATTERN_COUNT: usize = 3;
-    pub const CODE: usize = 2;
     pub const PIN: usize = 3;
     pub const REQUIRED: usize = 24;
     pub const ARRIVAL: usize = 20;
 }
-
-/// A gate's code is the number of its branches: 1 or 2. Code 0 is a leaf; 3 is a driven one in a tree, and out of range
-/// in a pattern.
-const LEAF: usize = 0;
-const MOST_BRANCHES: usize = 2;
-const DRIVEN: usize = 3;
 
 const MOST_BINS: usize = 4;
 const MOST_LOAD: usize = 255;
@@ -51,108 +48,18 @@ const MOST_PINS: usize = 6;
 /// By how much a library's cell count stands above its pattern count in the verdict.
 const CELLS: usize = 256;
 
-const BYTE: usize = 8;
-/// Bytes of a word.
-const WORD: usize = 8;
-
-type Read<T> = Result<T, Refusal>;
-
-/// A sheet and its first bit not yet read; `base` is added to the number of every refusal.
-struct Sheet<'a> {
-    bytes: &'a [u8],
-    at: usize,
-    base: u32,
+/// What is met in a library, for those who keep something of it.
+enum Met {
+    /// A gate of a pattern, with so many branches.
+    Gate(usize),
+    /// A leaf of a pattern, with its pin.
+    Leaf(usize),
+    /// A cell's end.
+    Cell { pins: usize, patterns: usize },
 }
 
-// Everything that a field passes through is inlined, so that widths and limits are constants where they are used and
-// the place stays in a register.
-impl<'a> Sheet<'a> {
-    fn new(bytes: &'a [u8], base: u32) -> Self {
-        Sheet { bytes, at: 0, base }
-    }
-
-    #[inline(always)]
-    fn refuse<T>(&self, number: u32, place: usize) -> Read<T> {
-        Err(Refusal::new(self.base + number, place))
-    }
-
-    /// The next field, any value. Where eight bytes are left no field can be torn, so that one comparison is enough.
-    #[inline(always)]
-    fn any(&mut self, width: usize) -> Read<usize> {
-        let first = self.at >> 3;
-        let word = if let Some(eight) = self.bytes.get(first..first + WORD) {
-            u64::from_be_bytes(eight.try_into().expect("eight bytes"))
-        } else if self.at + width <= self.bytes.len() * BYTE {
-            padded(&self.bytes[first..])
-        } else {
-            return self.refuse(TRUNCATED, self.at);
-        };
-        let value = word << (self.at & 7) >> (u64::BITS as usize - width);
-        self.at += width;
-        Ok(value as usize)
-    }
-
-    /// The next field, which must lie in `range`.
-    #[inline(always)]
-    fn within(&mut self, width: usize, range: RangeInclusive<usize>) -> Read<usize> {
-        let place = self.at;
-        let value = self.any(width)?;
-        if !range.contains(&value) {
-            return self.refuse(RANGE, place);
-        }
-        Ok(value)
-    }
-
-    /// The nodes of `open` branches in preorder, after `nodes` others of the shape; answers how many it has now. `leaf`
-    /// is called after a code that is no gate's, with that code, and reads the rest of the leaf, if it is one.
-    /// No jump tells INV from NAND, because a processor can hardly foresee which of them comes.
-    #[inline(always)]
-    fn branches<F>(&mut self, mut open: usize, mut nodes: usize, most: usize, mut leaf: F) -> Read<usize>
-    where
-        F: FnMut(&mut Self, usize) -> Read<()>,
-    {
-        while open > 0 {
-            let place = self.at;
-            let code = self.any(width::CODE)?;
-            if nodes == most {
-                return self.refuse(SIZE, place);
-            }
-            nodes += 1;
-            open -= 1;
-            if is_gate(code) {
-                open += code;
-            } else {
-                leaf(self, code)?;
-            }
-        }
-        Ok(nodes)
-    }
-
-    /// The rest of the last byte is zero bits, and no byte follows.
-    fn end(&self) -> Read<()> {
-        let left = self.bytes.len() * BYTE - self.at;
-        if left == 0 || left < BYTE && self.bytes[self.at >> 3] << (self.at & 7) == 0 {
-            return Ok(());
-        }
-        self.refuse(TAIL, self.at)
-    }
-}
-
-#[inline(always)]
-fn is_gate(code: usize) -> bool {
-    (1..=MOST_BRANCHES).contains(&code)
-}
-
-/// The word of the last bytes, fewer than eight, with zeros after them.
-#[cold]
-#[inline(never)]
-fn padded(rest: &[u8]) -> u64 {
-    let mut eight = [0; WORD];
-    eight[..rest.len()].copy_from_slice(rest);
-    u64::from_be_bytes(eight)
-}
-
-fn library(bytes: &[u8]) -> Read<usize> {
+/// A library's cells and patterns, counted; `meet` is told what is met.
+fn library(bytes: &[u8], meet: &mut impl FnMut(Met)) -> Read<usize> {
     let mut sheet = Sheet::new(bytes, 0);
     let bins = sheet.within(width::BIN_COUNT, 1..=MOST_BINS)?;
     let mut load = 0;
@@ -162,7 +69,7 @@ fn library(bytes: &[u8]) -> Read<usize> {
     let cells = sheet.within(width::CELL_COUNT, 1..=MOST_CELLS)?;
     let mut patterns = 0;
     for _ in 0..cells {
-        patterns += cell(&mut sheet, bins, MOST_PATTERNS - patterns)?;
+        patterns += cell(&mut sheet, bins, MOST_PATTERNS - patterns, meet)?;
     }
     sheet.end()?;
     Ok(cells * CELLS + patterns)
@@ -170,7 +77,7 @@ fn library(bytes: &[u8]) -> Read<usize> {
 
 /// A cell's fields; answers its pattern count, at most `room`.
 #[inline(always)]
-fn cell(sheet: &mut Sheet, bins: usize, room: usize) -> Read<usize> {
+fn cell(sheet: &mut Sheet, bins: usize, room: usize, meet: &mut impl FnMut(Met)) -> Read<usize> {
     sheet.any(width::HOLD)?;
     sheet.within(width::AREA, 1..=MOST_AREA)?;
     sheet.any(width::LOAD)?;
@@ -182,8 +89,9 @@ fn cell(sheet: &mut Sheet, bins: usize, room: usize) -> Read<usize> {
     }
     let count = pattern_count(sheet, room)?;
     for _ in 0..count {
-        pattern(sheet, pins)?;
+        pattern(sheet, pins, meet)?;
     }
+    meet(Met::Cell { pins, patterns: count });
     Ok(count)
 }
 
@@ -202,14 +110,18 @@ fn pattern_count(sheet: &mut Sheet, room: usize) -> Read<usize> {
 
 /// A gate opens as many branches as its code says.
 #[inline(always)]
-fn pattern(sheet: &mut Sheet, pins: usize) -> Read<()> {
+fn pattern(sheet: &mut Sheet, pins: usize, meet: &mut impl FnMut(Met)) -> Read<()> {
     let first = sheet.at;
-    let opening = sheet.within(width::CODE, 0..=MOST_BRANCHES)?;
+    let opening = sheet.within(CODE, 0..=MOST_BRANCHES)?;
     if opening == LEAF {
         return sheet.refuse(DRAWING, first);
     }
+    meet(Met::Gate(opening));
     let mut met = 0;
-    sheet.branches(opening, 1, MOST_PATTERN_NODES, |sheet, code| pin(sheet, code, pins, &mut met))?;
+    sheet.branches(opening, 1, MOST_PATTERN_NODES, |sheet, code| {
+        meet(if is_gate(code) { Met::Gate(code) } else { Met::Leaf(pin(sheet, code, pins, &mut met)?) });
+        Ok(())
+    })?;
     if met != (1 << pins) - 1 {
         return sheet.refuse(DRAWING, first);
     }
@@ -218,31 +130,35 @@ fn pattern(sheet: &mut Sheet, pins: usize) -> Read<()> {
 
 /// The pin number of a leaf, whose bit joins those met before.
 #[inline(always)]
-fn pin(sheet: &mut Sheet, code: usize, pins: usize, met: &mut u32) -> Read<()> {
+fn pin(sheet: &mut Sheet, code: usize, pins: usize, met: &mut u32) -> Read<usize> {
     let place = sheet.at;
     if code == DRIVEN {
-        return sheet.refuse(RANGE, place - width::CODE);
+        return sheet.refuse(RANGE, place - CODE);
     }
-    let bit = 1 << sheet.within(width::PIN, 0..=pins - 1)?;
+    let pin = sheet.within(width::PIN, 0..=pins - 1)?;
+    let bit = 1 << pin;
     if *met & bit != 0 {
         return sheet.refuse(DRAWING, place);
     }
     *met |= bit;
-    Ok(())
+    Ok(pin)
 }
 
 fn tree(bytes: &[u8]) -> Read<usize> {
     let mut sheet = Sheet::new(bytes, IN_TREE);
     sheet.any(width::LOAD)?;
     sheet.any(width::REQUIRED)?;
-    let nodes = sheet.branches(1, 0, MOST_TREE_NODES, tree_leaf)?;
+    let nodes = sheet.branches(1, 0, MOST_TREE_NODES, tree_node)?;
     sheet.end()?;
     Ok(nodes)
 }
 
-/// The arrival of a leaf and, if it is driven, its drive.
+/// Of a leaf the arrival and, if it is driven, its drive.
 #[inline(always)]
-fn tree_leaf(sheet: &mut Sheet, code: usize) -> Read<()> {
+fn tree_node(sheet: &mut Sheet, code: usize) -> Read<()> {
+    if is_gate(code) {
+        return Ok(());
+    }
     sheet.within(width::ARRIVAL, 0..=LATEST_LEAF as usize)?;
     if code == DRIVEN {
         sheet.any(width::DRIVE)?;

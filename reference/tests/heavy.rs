@@ -2,6 +2,7 @@
 
 use reference::deadline::Variant;
 use reference::form::Form;
+use reference::generate::functions::{Case, Draft};
 use reference::generate::{heavy, longest};
 use reference::merging::{extent, Extent};
 use reference::operation::{Lent, Operation, LEAST_WORK};
@@ -19,6 +20,9 @@ const ROWS: [(&str, u64, u64, usize, usize); 7] = [
 
 /// The digests of the sheets that the judges are timed on: the longest library, tree, and tree with plain leaves.
 const SHEETS: [u64; 3] = [0x8fe4_1739_1a1e_0c88, 0x934a_0a14_e612_9670, 0xdd3c_706a_f906_0633];
+
+/// The digests of the library and the function sheet that the judge of functions is timed on.
+const FUNCTIONS: [u64; 2] = [0xfeb7_4068_f72c_5afc, 0xc14b_4281_4ae3_5028];
 
 /// FNV-1a: sheets that change are noticed, so that times can be compared over the years.
 fn digest(sheet: &[u8]) -> u64 {
@@ -41,6 +45,13 @@ fn the_longest_sheets_are_what_they_were() {
     let sheets = [library, Form::of_tree(&longest::tree()), Form::of_tree(&longest::plain_tree())];
     let digests = sheets.map(|form| digest(&form.bytes()));
     assert_eq!(digests, SHEETS, "{digests:#x?}");
+}
+
+#[test]
+fn the_longest_functions_are_what_they_were() {
+    let Case { library, functions } = Draft::of(longest::agreeing_library()).case();
+    let digests = [library, functions].map(|sheet| digest(&sheet));
+    assert_eq!(digests, FUNCTIONS, "{digests:#x?}");
 }
 
 /// Only the leaves' drives part it from `typical`.

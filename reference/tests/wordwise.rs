@@ -1,18 +1,26 @@
 //! The judges written for speed against the others.
 
 use reference::form::Form;
-use reference::generate::damage::{any_sheet, edge_values, Kind};
+use reference::generate::damage::{any_sheet, edge_values, flipped_at, Kind};
+use reference::generate::functions::damage::any_case;
+use reference::generate::functions::{Case, Draft};
 use reference::generate::{limits, longest};
 use reference::hex::hex;
 use reference::rng::Rng;
 use reference::verdict::Verdict;
-use reference::wordwise::judge;
+use reference::wordwise::{functions, judge};
 use reference::{bill, text};
 use std::path::Path;
 
 fn compare(kind: Kind, sheet: &[u8]) {
     let expected = Verdict::of(kind, sheet);
     assert_eq!(judge(kind, sheet), expected.coded(), "{kind:?} {}: {expected:?}", hex(sheet));
+}
+
+fn compare_functions(library: &[u8], sheet: &[u8]) -> Verdict {
+    let expected = Verdict::of_functions(library, sheet);
+    assert_eq!(functions::judge(library, sheet), expected.coded(), "{} {}: {expected:?}", hex(library), hex(sheet));
+    expected
 }
 
 /// A file of the stored cases.
@@ -90,10 +98,58 @@ fn fresh_sheets() {
     }
 }
 
+/// Of the function sheet every bit, of the library every third.
+#[test]
+fn longest_functions_with_any_bit_changed() {
+    let Case { library, functions } = Draft::of(longest::agreeing_library()).case();
+    assert_eq!(compare_functions(&library, &functions).line(), "functions 64 128");
+    for bit in 0..functions.len() * 8 {
+        let line = compare_functions(&library, &flipped_at(&functions, bit)).line();
+        assert_eq!(line, format!("refused 33 {}", bit / 64 * 2));
+    }
+    for bit in (0..library.len() * 8).step_by(3) {
+        compare_functions(&flipped_at(&library, bit), &functions);
+    }
+}
+
+#[test]
+fn longest_functions_cut_anywhere_or_followed_by_bytes() {
+    let Case { library, functions } = Draft::of(longest::agreeing_library()).case();
+    for length in 0..functions.len() {
+        let line = compare_functions(&library, &functions[..length]).line();
+        assert_eq!(line, format!("refused 31 {}", length / 8 * 64));
+    }
+    for more in [&[0][..], &[1], &[0; 7], &[0; 8], &[255; 9]] {
+        assert_eq!(compare_functions(&library, &[&functions, more].concat()).line(), "refused 32 4096");
+    }
+}
+
+#[test]
+fn fresh_functions() {
+    let mut rng = Rng::new(65);
+    for _ in 0..40_000 {
+        let Case { library, functions } = any_case(&mut rng);
+        compare_functions(&library, &functions);
+    }
+}
+
+#[test]
+fn every_stored_function_sheet() {
+    let file = stored("functions.bin");
+    let lines = String::from_utf8(stored("functions.expected")).expect("text");
+    let mut records = Records { rest: &file };
+    for line in lines.lines() {
+        assert_eq!(records.bytes(1), [7]);
+        let [library, functions] = records.sheets::<2, 2>();
+        assert_eq!(compare_functions(library, functions).line(), line);
+    }
+    assert!(records.rest.is_empty());
+}
+
 #[test]
 fn every_stored_sheet() {
     let mut count = 0;
-    for name in ["stored.bin", "covers.bin", "bills.bin"] {
+    for name in ["stored.bin", "covers.bin", "bills.bin", "functions.bin"] {
         let file = stored(name);
         let mut records = Records { rest: &file };
         while !records.rest.is_empty() {
@@ -127,6 +183,7 @@ impl<'a> Records<'a> {
                 let sheets = bill::sheets(self.sheets::<1, 1>()[0]);
                 sheets.map_or(vec![], |[library, tree, _]| problem([library, tree]))
             }
+            7 => vec![(Kind::Library, self.sheets::<2, 2>()[0])],
             kind => panic!("kind {kind}"),
         }
     }

@@ -42,22 +42,10 @@ read s i w = go (leb (i + w) (8 * length s))
     go true = reads (value-small s i w w (omega arith))
     go false = ends
 
--- The value that was found, and the cursor.
-abbrev foundValue : FieldRead.FieldRead → ℕ
-foundValue FieldRead.the-variants.Truncated = 0
-foundValue (FieldRead.the-variants.Value x n) = x
-
+-- The cursor after what was found.
 abbrev pub cursorIn : FieldRead.FieldRead → Cursor
 cursorIn FieldRead.the-variants.Truncated = cursorAt 0
 cursorIn (FieldRead.the-variants.Value x n) = n
-
--- What was found has w bits.
-pub found-fits : (s : List ℕ) (i w x : ℕ) (n : Cursor) (f : FieldRead.FieldRead) → f ≡ fieldAt s i w → f ≡ FieldRead.the-variants.Value x n → x < 2 ^ w
-found-fits s i w x n f e q = subst (λ (v : ℕ). v < 2 ^ w) (ap foundValue (sym e ∙ q)) (go (fieldAt s i w) (read s i w))
-  where
-    go : (f : FieldRead.FieldRead) → Read s i w f → foundValue f < 2 ^ w
-    go f ends = pow-pos w
-    go f (reads l) = l
 
 -- The greatest value that a verdict lets pass.
 abbrev pub Passes : (ℕ → Verdict) → ℕ → ℕ → Type 0
@@ -211,6 +199,19 @@ pub settling-faulty : (before : Scan) (got : Got) (v : Verdict) (c : Cursor) (f 
     _≡_ {A = Got} (record { value = 0; scan = Refused f p }) (settling before got v)
 settling-faulty before got v c f p e ev ep =
     ap (λ (q : ℕ). record { value = 0; scan = Refused f q }) ep ∙ ap (settlingAt before got (At c)) (sym ev) ∙ ap (λ (k : Scan). settlingAt before got k v) (sym e)
+
+-- A scan that was not refused at the end was not refused before, and it stands where it stood.
+pub ended-live : (s : List ℕ) (c : Scan) → Live (ended s c) → Live c
+ended-live s (At c) h = tt
+ended-live s (Refused f p) h = h
+
+pub ended-place : (s : List ℕ) (c : Scan) → place (ended s c) ≡ place c
+ended-place s (At c) = go (endsAt s (placeOf c))
+  where
+    go : (b : Bool) → place (cond b (At c) (Refused Tail (placeOf c))) ≡ placeOf c
+    go true = refl
+    go false = refl
+ended-place s (Refused f p) = refl
 
 pub ended-at : (s : List ℕ) (scan : Scan) (c : Cursor) (b : Bool) → scan ≡ At c → b ≡ endsAt s (placeOf c) → cond b (At c) (Refused Tail (placeOf c)) ≡ ended s scan
 ended-at s scan c b e eb = ap (λ (t : Bool). cond t (At c) (Refused Tail (placeOf c))) eb ∙ sym (ap (ended s) e)

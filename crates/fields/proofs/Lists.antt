@@ -2,10 +2,10 @@
 use mathlib.Core.Path.{_≡_, refl, sym, ap, _∙_}
 use mathlib.Core.List.{List, [], _∷_, _++_, map, append-assoc, List·Memᴰ, List·Memᴰ·head, List·Memᴰ·tail}
 use Prim.Native.Nat.{ℕ, zero, suc, _+_, _≤_, _<_}
-use native.Mathlib.Nat.{add-zero, zero-add, add-suc, suc-add}
+use native.Mathlib.Nat.{add-zero, zero-add, add-suc, suc-add, add-assoc}
 use native.Mathlib.Omega.{arith}
-use lib.ListN.{length, getD, take, drop, set, length-append, length-drop, length-set, take-append-drop}
-use lib.Seq.{sets, getD-set-same, getD-set-other, sets-eq, set-comm, take-at, length-take-le, drop-append-le, drop-drop}
+use lib.ListN.{length, getD, take, drop, set, length-append, length-drop, length-set, take-append-drop, List·getD-append}
+use lib.Seq.{sets, getD-set-same, getD-set-other, sets-eq, set-comm, take-at, length-take-le, drop-append-le, drop-drop, getD-append-add}
 use borrow.Rule.Slice.PartMut.{putMid}
 pub use Rattle.bits.proofs.Words.{zeros-at}
 
@@ -68,3 +68,20 @@ module _ {A : Type 0} where
   at-map f [] k d e h = absurd (omega arith)
   at-map f (x ∷ l) zero d e h = refl
   at-map f (x ∷ l) (suc k) d e h = at-map f l k d e (omega arith)
+
+-- A list stands in another from place i on.
+abbrev pub Held : List ℕ → ℕ → List ℕ → Type 0
+Held l i xs = (k : ℕ) → k < length xs → getD l (i + k) 0 ≡ getD xs k 0
+
+pub held-head : (l : List ℕ) (i x : ℕ) (xs : List ℕ) → Held l i (x ∷ xs) → getD l i 0 ≡ x
+held-head l i x xs h = ap (λ (k : ℕ). getD l k 0) (sym (add-zero i)) ∙ h 0 (omega arith)
+
+pub held-tail : (l : List ℕ) (i x : ℕ) (xs : List ℕ) → Held l i (x ∷ xs) → Held l (suc i) xs
+held-tail l i x xs h k g = ap (λ (j : ℕ). getD l j 0) (suc-add i k ∙ sym (add-suc i k)) ∙ h (suc k) (omega arith)
+
+pub held-left : (l : List ℕ) (i : ℕ) (xs ys : List ℕ) → Held l i (xs ++ ys) → Held l i xs
+held-left l i xs ys h k g = h k (omega (arith, length-append xs ys)) ∙ List·getD-append xs ys 0 k g
+
+pub held-right : (l : List ℕ) (i : ℕ) (xs ys : List ℕ) → Held l i (xs ++ ys) → Held l (i + length xs) ys
+held-right l i xs ys h k g =
+    ap (λ (j : ℕ). getD l j 0) (add-assoc i (length xs) k) ∙ h (length xs + k) (omega (arith, length-append xs ys)) ∙ getD-append-add xs ys k 0

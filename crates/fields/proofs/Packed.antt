@@ -22,7 +22,7 @@ use Rattle.fields.specs.Reading.{Reader, times, start, place, field, tak
 use Rattle.fields.specs.Promises.{Live}
 use Rattle.fields.specs.Written.{Field, widths, written, packed}
 use Rattle.bits.proofs.Words.{zeros-at}
-use Rattle.fields.proofs.Laws.{Read, ends, reads, read}
+use Rattle.fields.proofs.Laws.{Read, ends, reads, read, ended-live}
 use Rattle.fields.proofs.Written.{packed-reads, packed-ends, widths-append}
 
 bytes-written : (fs : List Field) (i : ℕ) (s : List ℕ) → Bytes s → Bytes (written fs i s)
@@ -143,10 +143,6 @@ module _ {A : Type 0} (s : List ℕ) (entry : A → List Field) (laid : List A �
       rw (laid-more (xs .0) (r (xs .0) (xs .1) .0)) (found-then (found-times turn n c (found-live last)) last)
 
 -- The end was looked for at a scan that was not refused.
-pub ended-live : (s : List ℕ) (c : Scan) → Live (ended s c) → Live c
-ended-live s (At c) h = tt
-ended-live s (Refused f p) h = h
-
 ended-there : (s : List ℕ) (c : Cursor) → Live (ended s (At c)) → (endsAt s (placeOf c) ≡ true) × (ended s (At c) ≡ At c)
 ended-there s c h = go (endsAt s (placeOf c)) refl h
   where

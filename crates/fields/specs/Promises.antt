@@ -2,6 +2,7 @@
 use Prim.Native.Nat.{ℕ, _≤_}
 use mathlib.Core.Path.{_≡_}
 use Rattle.fields.specs.declared.Got.{Got}
+use Rattle.fields.specs.declared.GotWide.{GotWide}
 use Rattle.fields.specs.declared.Scan.{Scan}
 use Rattle.fields.specs.declared.Scan.the-variants.{At, Refused}
 use Rattle.fields.specs.declared.Verdict.{Verdict}
@@ -14,6 +15,9 @@ pub record Reads (r : Got) (x : ℕ × Scan) (reach most : ℕ) : Type 0 where
   pub scan : r .scan ≡ x .1
   pub near : place (r .scan) ≤ reach
   pub small : r .value ≤ most
+
+abbrev pub ReadsWide : GotWide → ℕ × Scan → (reach most : ℕ) → Type 0
+ReadsWide r = Reads (record { value = r .value; scan = r .scan })
 
 -- A verdict on a field that was read at `before`.
 abbrev pub settlingAt : Scan → Got → Scan → Verdict → Got

@@ -4,7 +4,7 @@ use bits::FieldRead;
 ghost use mathlib.Core.Path.{_≡_};
 ghost use Prim.Native.Nat.{_+_, _-_, _<_, _≤_, _^_};
 ghost use Rattle.fields.specs.Reading.{start, place, free, within, field, ended};
-ghost use Rattle.fields.specs.Promises.{Reads, settling};
+ghost use Rattle.fields.specs.Promises.{ReadsWide, Reads, settling};
 
 // What can be wrong with a sheet: its bytes end in a field ("torn"), go on after the last ("loose tail"), a value is out of range
 // ("off the scale"), a pattern is wrongly drawn ("misdrawn"), or there is one node or pattern too many ("overgrown").
@@ -34,6 +34,12 @@ pub struct Got {
     pub scan: Scan,
 }
 
+// The same of a field of up to 64 bits.
+pub struct GotWide {
+    pub value: u64,
+    pub scan: Scan,
+}
+
 // The scan of a whole sheet: at its first bit.
 pub fn begin() -> Scan
     ensures { λ r. ⌜ (r ≡ start) × (place r ≡ 0) ⌝ }
@@ -52,23 +58,36 @@ pub fn place_of(scan: Scan) -> usize
     }
 }
 
+// A field of up to 64 bits, of any value.
+pub fn wide(scan: Scan, s: &[u8], width: usize) -> GotWide
+    requires { ⌜ (place scan < 2 ^ 32) × (width ≤ 64) ⌝ }
+    ensures { λ r. ⌜ ReadsWide r (field (now (s .entry)) width free scan) (place scan + width) (2 ^ width - 1) ⌝ }
+{
+    let Scan::At(c) = scan else {
+        return GotWide { value: 0, scan };
+    };
+    let FieldRead::Value(value, next) = c.field(s, width) else {
+        return GotWide {
+            value: 0,
+            scan: Scan::Refused(Fault::Truncated, c.place()),
+        };
+    };
+    GotWide {
+        value,
+        scan: Scan::At(next),
+    }
+}
+
 // A field of any value.
 pub fn raw(scan: Scan, s: &[u8], width: usize) -> Got
     requires { ⌜ (place scan < 2 ^ 32) × (width ≤ 24) ⌝ }
     ensures { λ r. ⌜ Reads r (field (now (s .entry)) width free scan) (place scan + width) (2 ^ width - 1) ⌝ }
 {
-    let Scan::At(c) = scan else {
-        return Got { value: 0, scan };
-    };
-    let FieldRead::Value(value, next) = c.field(s, width) else {
-        return Got {
-            value: 0,
-            scan: Scan::Refused(Fault::Truncated, c.place()),
-        };
-    };
+    let got = wide(scan, s, width);
+    let after = got.scan;
     Got {
-        value: value as u32,
-        scan: Scan::At(next),
+        value: got.value as u32,
+        scan: after,
     }
 }
 

@@ -8,7 +8,9 @@ ghost use mathlib.Core.Path.{_≡_};
 ghost use Prim.Native.Nat.{_+_, _*_, _<_, _≤_};
 ghost use lib.ListN.{length};
 ghost use Rattle.fields.specs.Answer.{onSuccess, places, word, ofWord, Bounded};
-ghost use Rattle.sheets.specs.Report.{libraryWord, libraryReport, treeReport};
+ghost use Rattle.sheets.specs.Report.{ofLibraryJudged, libraryWord, ofLibraryWord, libraryReport, treeReport};
+ghost use Rattle.functions.specs.Report.{functionsReport};
+ghost use Rattle.functions.specs.Demands.{FunctionDemands};
 ghost use Rattle.covers.specs.Outcome.{mapBytes, listBytes, told, observed, mapOutcome, listOutcome};
 ghost use Rattle.covers.specs.Demands.{MapDemands, ListDemands, WhereSound};
 ghost use Rattle.operations.specs.Public.{ofReply, Leaves};
@@ -34,16 +36,34 @@ fn refusal(number: u32, place: usize) -> u64
     number as u64 * Word::PLACES + place as u64
 }
 
+// What is said of a library in one word: cells × 256 + patterns, or the refusal.
+fn counts_word(judged: LibraryJudged) -> u64
+    requires { ⌜ Bounded (onSuccess libraryWord (ofLibraryJudged judged)) ⌝ }
+    ensures { λ r. ⌜ r ≡ word (onSuccess libraryWord (ofLibraryJudged judged)) ⌝ }
+{
+    match judged {
+        LibraryJudged::Sound(cells, patterns) => (cells * 256 + patterns) as u64,
+        LibraryJudged::Refused(number, place) => refusal(number, place),
+    }
+}
+
 // Judges a library: cells × 256 + patterns, or the refusal.
 #[no_mangle]
 pub extern "C" fn treecover_judge_library(library: &[u8]) -> u64
     ensures { λ r. ⌜ r ≡ word (onSuccess libraryWord (libraryReport (now (library .entry)))) ⌝ }
 {
     let judged = sheets::library::judge_library(library);
-    match judged {
-        LibraryJudged::Sound(cells, patterns) => (cells * 256 + patterns) as u64,
-        LibraryJudged::Refused(number, place) => refusal(number, place),
-    }
+    counts_word(judged)
+}
+
+// Judges the functions of a library's drawings: cells × 256 + patterns, or the refusal.
+#[no_mangle]
+pub extern "C" fn treecover_judge_functions(library: &[u8], functions: &[u8]) -> u64
+    ensures { λ r. ⌜ r ≡ word (onSuccess libraryWord (functionsReport (now (library .entry)) (now (functions .entry)))) ⌝ }
+    ensures { λ r. ⌜ FunctionDemands (now (library .entry)) (now (functions .entry)) (onSuccess ofLibraryWord (ofWord r)) ⌝ }
+{
+    let judged = functions::judge_functions(library, functions);
+    counts_word(judged)
 }
 
 // Judges a tree: its node count, or the refusal.

@@ -11,8 +11,8 @@ use Rattle.fields.specs.declared.Scan.the-variants.{At}
 use Rattle.fields.specs.Promises.{Live}
 use Rattle.fields.specs.Reading.{times, start, free, field}
 use Rattle.fields.specs.Written.{widths}
-use Rattle.fields.proofs.Laws.{length-times}
-use Rattle.fields.proofs.Packed.{Laid, packed-only, Found, found-live, found-field, found-then, found-times, ended-live, found-all}
+use Rattle.fields.proofs.Laws.{length-times, ended-live}
+use Rattle.fields.proofs.Packed.{Laid, packed-only, Found, found-live, found-field, found-then, found-times, found-all}
 use Rattle.covers.specs.Cover.{Placed, Cover}
 use Rattle.covers.specs.CoverSheet.{areaWidth, arrivalWidth, matchCountWidth, nodeWidth, patternWidth, crossingWidth, placedFields, coverFields, coverSheet, placedRead, coverRead, CoverReads}
 

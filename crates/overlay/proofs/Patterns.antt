@@ -14,6 +14,7 @@ use Rattle.sheets.specs.Layout.{padded, pinsMost, pinWords, figuresAt, rowWords
 use Rattle.sheets.specs.Sound.{IsGate, SoundDrawing}
 use Rattle.sheets.proofs.Laws.{in-padded}
 use Rattle.sheets.proofs.Patterns.{SoundPattern, sound-pattern, Told, row-told, table-long, pin-laid}
+pub use Rattle.sheets.proofs.Patterns.{noPattern}
 use Rattle.covers.specs.Crossing.{exchanged, ordered, redrawnFrom, redrawn}
 use Rattle.covers.specs.Match.{Input, joined, laid, matched, pinAt, pinLoad}
 use Rattle.covers.specs.Tradeoff.{nodes}
@@ -162,9 +163,6 @@ noted f ws is k e h g =
     ∙ at-map f is k noInput 0 g
 
 -- ---- the patterns of a decoded library
-
-abbrev pub noPattern : Pattern
-noPattern = record { cellNumber = 0; cell = record { held = false; area = 0; highest = 0; pins = []; drawings = [] }; drawing = plainLeaf 0 }
 
 abbrev pub patternAt : Library → ℕ → Pattern
 patternAt l j = getD (patterns l) j noPattern

@@ -3,10 +3,9 @@ use Prim.Native.Nat.{ℕ, suc, _+_, _<_}
 use mathlib.Core.Path.{_≡_, refl, sym, ap, subst, _∙_}
 use mathlib.Core.Logic.{⊎-elim}
 use mathlib.Core.List.{List, [], _∷_, _++_, List·Memᴰ, List·Memᴰ·head, List·Memᴰ·tail, List·Memᴰ·not-nil, List·Memᴰ·append-cases}
-use native.Mathlib.Nat.{add-zero, add-suc, suc-add, add-assoc}
 use native.Mathlib.Omega.{arith}
-use lib.ListN.{length, getD, replicate, length-append, length-replicate, List·getD-append}
-use lib.Seq.{length-sets, getD-append-add}
+use lib.ListN.{length, getD, replicate, length-replicate}
+use lib.Seq.{length-sets}
 use Rattle.shapes.specs.Shape.{symbols, sizes}
 use Rattle.shapes.proofs.Drawn.{length-symbols, length-sizes}
 use Rattle.sheets.specs.Model.{leaves, Shape, leaf, inv, nand, size, Library, Tree}
@@ -16,24 +15,7 @@ use Rattle.covers.proofs.Nodes.{node-ends, leaves-within}
 use Rattle.overlay.specs.Standing.{Heads, Stands, Subject}
 use Rattle.overlay.specs.Held.{Decoded}
 use Rattle.overlay.proofs.Symbols.{SoundLeaves}
-use Rattle.fields.proofs.Lists.{in-sets}
-
--- A list stands in another from place i on.
-abbrev Held : List ℕ → ℕ → List ℕ → Type 0
-Held l i xs = (k : ℕ) → k < length xs → getD l (i + k) 0 ≡ getD xs k 0
-
-held-head : (l : List ℕ) (i x : ℕ) (xs : List ℕ) → Held l i (x ∷ xs) → getD l i 0 ≡ x
-held-head l i x xs h = ap (λ (k : ℕ). getD l k 0) (sym (add-zero i)) ∙ h 0 (omega arith)
-
-held-tail : (l : List ℕ) (i x : ℕ) (xs : List ℕ) → Held l i (x ∷ xs) → Held l (suc i) xs
-held-tail l i x xs h k g = ap (λ (j : ℕ). getD l j 0) (suc-add i k ∙ sym (add-suc i k)) ∙ h (suc k) (omega arith)
-
-held-left : (l : List ℕ) (i : ℕ) (xs ys : List ℕ) → Held l i (xs ++ ys) → Held l i xs
-held-left l i xs ys h k g = h k (omega (arith, length-append xs ys)) ∙ List·getD-append xs ys 0 k g
-
-held-right : (l : List ℕ) (i : ℕ) (xs ys : List ℕ) → Held l i (xs ++ ys) → Held l (i + length xs) ys
-held-right l i xs ys h k g =
-    ap (λ (j : ℕ). getD l j 0) (add-assoc i (length xs) k) ∙ h (length xs + k) (omega (arith, length-append xs ys)) ∙ getD-append-add xs ys k 0
+use Rattle.fields.proofs.Lists.{in-sets, Held, held-head, held-tail, held-left, held-right}
 
 module _ (ss zs : List ℕ) where
   pub stands-at : (i : ℕ) (s : Shape) → Held ss i (symbols s) → Held zs i (sizes s) → Stands ss zs i s

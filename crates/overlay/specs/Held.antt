@@ -12,7 +12,8 @@ use Rattle.sheets.specs.declared.library.LibraryRecord.{LibraryRecord}
 use Rattle.sheets.specs.declared.tree.TreeRecord.{TreeRecord}
 use Rattle.sheets.specs.Model.{Leaf, pinOf, Shape, size, leaves, nands, Pin, Cell, Library, Pattern, Tree}
 use Rattle.sheets.specs.Sound.{SoundCell, SoundLibrary, SoundTree}
-use Rattle.sheets.specs.Layout.{padded, heldAt, areaAt, highestAt, pinWords, figuresAt, rowWords, patternTable, libraryLaid, treeLaid}
+pub use Rattle.sheets.specs.Sound.{LibraryHeld}
+use Rattle.sheets.specs.Layout.{padded, heldAt, areaAt, highestAt, pinWords, figuresAt, rowWords, patternTable, treeLaid}
 use Rattle.covers.specs.Crossing.{exchanged, redrawn}
 use Rattle.covers.specs.Match.{Input, Match, laid, pinAt, pinLoad}
 use Rattle.overlay.specs.declared.Left.{Left}
@@ -128,10 +129,6 @@ pub record MatchHeld (l : Library) (walked : Walked) (row : List ℕ) (m : Match
 -- ---- a library and a tree
 
 -- A sound library and a sound tree in the records that the readers hand over.
-pub record LibraryHeld (l : Library) (library : LibraryRecord) : Type 0 where
-  pub sound : SoundLibrary l
-  pub library-is : library ≡ libraryLaid l
-
 pub record SheetsHeld (l : Library) (t : Tree) (library : LibraryRecord) (tree : TreeRecord) : Type 0 where
   pub read : LibraryHeld l library
   pub tree-sound : SoundTree t

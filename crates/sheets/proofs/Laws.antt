@@ -15,7 +15,7 @@ use Rattle.fields.specs.declared.Verdict.the-variants.{Sound, Faulty}
 use Rattle.fields.specs.declared.Fault.the-variants.{Size}
 use borrow.Author.Tests.{leb-true, ne-eqb}
 use lib.Dec.{leb, eqb}
-use Rattle.fields.proofs.Laws.{length-times, times-value, times-scan, positive-live, live-sound, range-passes}
+use Rattle.fields.proofs.Laws.{length-times, times-value, times-scan, positive-live, live-sound, range-least, range-passes}
 use Rattle.fields.proofs.Lists.{sets-append, set-sets, mid-sets, front-sets, zeros-at}
 use Rattle.shapes.proofs.Drawn.{live?, length-symbols, node-live}
 use Rattle.shapes.proofs.Wholes.{drawn-is}
@@ -240,12 +240,12 @@ module _ (s : List ℕ) (numbered : NumberedCell) (total : ℕ) (scan : Scan) (l
 
 -- ---- a cell's patterns
 
-pub count-passes : (total x : ℕ) → countVerdict total x ≡ Sound → (total + x ≤ 128) × (x ≤ 7)
+pub count-passes : (total x : ℕ) → countVerdict total x ≡ Sound → (total + x ≤ 128) × (x ≤ 7) × (1 ≤ x)
 unfolding countVerdict
 count-passes total x e = go (leb (total + x) 128) refl e
   where
-    go : (a : Bool) → leb (total + x) 128 ≡ a → cond a (within 1 7 x) (Faulty Size) ≡ Sound → (total + x ≤ 128) × (x ≤ 7)
-    go true ea e = (leb-true (total + x) 128 ea, range-passes 1 7 x e)
+    go : (a : Bool) → leb (total + x) 128 ≡ a → cond a (within 1 7 x) (Faulty Size) ≡ Sound → (total + x ≤ 128) × (x ≤ 7) × (1 ≤ x)
+    go true ea e = (leb-true (total + x) 128 ea, range-passes 1 7 x e, range-least 1 7 x e)
     go false ea e = let z : _≡_ {A = ℕ} 0 1 = cc in absurd (omega arith)
 
 -- A count fits after the patterns before it: it is 0 if it was refused.

@@ -7,3 +7,4 @@ pub mod Whole
 pub mod Sound
 pub mod Patterns
 pub mod TreeWritten
+pub mod Held

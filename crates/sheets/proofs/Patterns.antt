@@ -1,13 +1,13 @@
 -- The patterns of a sound library, and their rows in the table that the core is lent.
-use Prim.Native.Nat.{ℕ, suc, _+_, _*_, _≤_, _<_}
+use Prim.Native.Nat.{ℕ, zero, suc, _+_, _*_, _≤_, _<_}
 use mathlib.Core.Path.{_≡_, refl, sym, ap, subst, _∙_}
 use mathlib.Core.Logic.{⊎-elim}
 use mathlib.Core.Bool.{false, cond}
-use mathlib.Core.List.{List, [], _∷_, map, List·Memᴰ, List·Memᴰ·head, List·Memᴰ·tail, List·Memᴰ·not-nil, List·Memᴰ·append-cases, Memᴰ·of-map}
+use mathlib.Core.List.{List, [], _∷_, _++_, map, List·Memᴰ, List·Memᴰ·head, List·Memᴰ·tail, List·Memᴰ·not-nil, List·Memᴰ·append-cases, Memᴰ·of-map}
 use native.Mathlib.Nat.{add-zero, zero-add, add-suc, suc-add}
 use native.Mathlib.Omega.{arith}
-use lib.ListN.{length, getD, take, drop, replicate, length-map, length-drop, length-replicate}
-use lib.Seq.{length-take-le, getD-take, getD-drop}
+use lib.ListN.{length, getD, take, drop, replicate, length-append, length-map, length-drop, length-replicate}
+use lib.Seq.{length-take-le, getD-take, getD-drop, getD-append-add}
 use Rattle.fields.proofs.Lists.{at-mem, at-map}
 use Rattle.shapes.specs.Shape.{plainLeaf, Shape, size, symbols}
 use Rattle.sheets.specs.Model.{Pin, binLoadOf, Cell, Library, Pattern, drawn, patternsFrom, patterns, cellOf, areaOf}
@@ -61,6 +61,29 @@ listed n (c ∷ cs) {p} h =
       drawing-in = r .drawing-in;
     })
     (List·Memᴰ·append-cases (drawn n c (c .drawings)) h)
+
+-- Each of these cells has a pattern, if each has a drawing.
+pub record Shown (d : Pattern) (ps : List Pattern) (n : ℕ) : Type 0 where
+  pub place : ℕ
+  pub inside : place < length ps
+  pub number : getD ps place d .cellNumber ≡ n
+
+pub shown : (d : Pattern) (n : ℕ) (cs : List Cell) → ((c : Cell) → List·Memᴰ c cs → 1 ≤ length (c .drawings)) → (k : ℕ) → k < length cs → Shown d (patternsFrom n cs) (n + k)
+unfolding patternsFrom drawn
+shown d n [] h k g = absurd (omega arith)
+shown d n (c ∷ cs) h zero g = go (c .drawings) (h c (List·Memᴰ·head refl))
+  where
+    go : (ds : List Shape) → 1 ≤ length ds → Shown d (drawn n c ds ++ patternsFrom (suc n) cs) (n + 0)
+    go [] q = absurd (omega arith)
+    go (x ∷ ds) q = record { place = 0; inside = omega arith; number = sym (add-zero n) }
+shown d n (c ∷ cs) h (suc k) g =
+    let ds = drawn n c (c .drawings) in
+    let r = shown d (suc n) cs (λ x m. h x (List·Memᴰ·tail m)) k (omega arith) in
+    record {
+      place = length ds + r .place;
+      inside = omega (arith, length-append ds (patternsFrom (suc n) cs), r .inside);
+      number = ap (λ (p : Pattern). p .cellNumber) (getD-append-add ds (patternsFrom (suc n) cs) (r .place) d) ∙ r .number ∙ suc-add n k ∙ sym (add-suc n k);
+    }
 
 -- What is known of a pattern of a sound library.
 pub record SoundPattern (l : Library) (p : Pattern) : Type 0 where
@@ -168,10 +191,10 @@ module _ (l : Library) (sound : SoundLibrary l) where
 
 -- ---- a pattern's cell, by the words of the whole table
 
-abbrev noCell : Cell
+abbrev pub noCell : Cell
 noCell = record { held = false; area = 0; highest = 0; pins = []; drawings = [] }
 
-abbrev noPattern : Pattern
+abbrev pub noPattern : Pattern
 noPattern = record { cellNumber = 0; cell = noCell; drawing = plainLeaf 0 }
 
 module _ {l : Library} (sound : SoundLibrary l) (j : ℕ) (h : j < length (patterns l)) where

@@ -13,7 +13,7 @@ use Rattle.fields.specs.Reading.{Reader, place, times, within, free, field, sta
 use Rattle.shapes.specs.Shape.{symbols}
 use Rattle.shapes.specs.Drawing.{hasAll, codeVerdict, leafVerdict, leafNode, drivenNode, pair, branch, node, shape}
 use Rattle.fields.specs.Promises.{Live}
-use Rattle.fields.proofs.Laws.{live-sound, free-small, range-least, range-passes, length-times}
+use Rattle.fields.proofs.Laws.{live-sound, free-small, range-least, range-passes, length-times, ended-live}
 use Rattle.shapes.proofs.Laws.{code-room}
 use Rattle.shapes.proofs.Pins.{fresh, fresh-few, fresh-append, fresh-leaf}
 use Rattle.shapes.proofs.Drawn.{plain-symbol, leaf-passes, length-symbols, leaves-nands, node-live}
@@ -22,9 +22,8 @@ use Rattle.sheets.specs.LibrarySheet.{Head, last, binLoad, head, pin, pa
 use Rattle.sheets.specs.TreeSheet.{tree, treeRules}
 use Rattle.sheets.specs.Inside.{cellAfter}
 use Rattle.sheets.specs.Sound.{IsGate, SoundDrawing, SoundPin, SoundCell, SoundLibrary, SoundTree}
-use Rattle.sheets.proofs.Laws.{complete-live, count-fits}
+use Rattle.sheets.proofs.Laws.{complete-live, count-passes, count-fits}
 use Rattle.sheets.proofs.Cells.{length-drawn, patterns-more}
-use Rattle.sheets.proofs.Whole.{ended-live}
 
 -- ---- readers
 
@@ -195,12 +194,13 @@ pattern-keeps s pins before c l =
       h .1,
     )
 
-drawings-keep : (s : List ℕ) (pins total : ℕ) → Keeps (λ ds. (d : Shape) → List·Memᴰ d ds → 1 ≤ pins → SoundDrawing pins d) (drawings s pins total)
+drawings-keep : (s : List ℕ) (pins total : ℕ) → Keeps (λ ds. (1 ≤ length ds) × ((d : Shape) → List·Memᴰ d ds → 1 ≤ pins → SoundDrawing pins d)) (drawings s pins total)
 unfolding drawings
 drawings-keep s pins total c l =
     let count = field s 3 (countVerdict total) c in
     let all = times-all (λ d. 1 ≤ pins → SoundDrawing pins d) (pattern s pins) (pattern-keeps s pins) (count .0) (count .1) l in
-    (all .0, live-sound s 3 (countVerdict total) c (all .1) .1)
+    let sound = live-sound s 3 (countVerdict total) c (all .1) in
+    ((omega (arith, length-times (count .0) (pattern s pins) (count .1), count-passes total (count .0) (sound .0)), all .0), sound .1)
 
 cell-keeps : (s : List ℕ) (bins total : ℕ) → Keeps (λ c. 1 ≤ bins → SoundCell bins c) (cell s bins total)
 unfolding cell
@@ -219,7 +219,8 @@ cell-keeps s bins total c l =
         some-pin = omega (arith, head-in .0 .some-pin);
         few-pins = omega (arith, head-in .0 .few-pins);
         pins = λ p m. pins-in .0 p m some;
-        drawings = λ d m. rw few (drawn-in .0 d m (head-in .0 .some-pin));
+        some-drawing = drawn-in .0 .0;
+        drawings = λ d m. rw few (drawn-in .0 .1 d m (head-in .0 .some-pin));
       }),
       head-in .1,
     )

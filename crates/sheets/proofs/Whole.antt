@@ -1,16 +1,14 @@
 -- Laws about the whole of each sheet.
 use mathlib.Core.Path.{_≡_, refl, sym, ap, ap₂, subst, subst₂, _∙_}
 use mathlib.Core.List.{List, map}
-use mathlib.Core.Bool.{Bool, true, false, cond}
-use Prim.Native.Nat.{ℕ, _+_, _≤_}
+use Prim.Native.Nat.{ℕ, _+_, _*_, _/_, _%_, _≤_}
 use native.Mathlib.Omega.{arith}
 use lib.ListN.{length, replicate}
-use Rattle.bits.specs.Bits.{placeOf, endsAt}
 use Rattle.bits.specs.declared.Cursor.{Cursor}
 use Rattle.shapes.specs.declared.ShapeRead.{ShapeRead}
 use Rattle.fields.specs.declared.Fault.{Fault}
 use Rattle.fields.specs.declared.Fault.the-variants.{Truncated, Tail, Range, Drawing, Size}
-use Rattle.fields.specs.Answer.{refused, success, Bounded}
+use Rattle.fields.specs.Answer.{Answer, refused, success, onSuccess, word, ofWord, Bounded}
 use Rattle.fields.specs.declared.Got.{Got}
 use Rattle.fields.specs.declared.Scan.{Scan}
 use Rattle.fields.specs.declared.Scan.the-variants.{At, Refused}
@@ -19,7 +17,8 @@ use Rattle.fields.specs.Reading.{start, place, times, field, within, ended}
 use Rattle.shapes.specs.Drawing.{shape}
 use Rattle.fields.specs.Promises.{Live, Reads}
 use Rattle.shapes.specs.Promises.{ShapeIs, Preorder, SizesSet}
-use Rattle.fields.proofs.Laws.{start-place, value-at, scan-at, length-times}
+use Rattle.fields.proofs.Answer.{word-reads}
+use Rattle.fields.proofs.Laws.{start-place, value-at, scan-at, length-times, ended-live, ended-place}
 use Rattle.shapes.proofs.Drawn.{length-symbols}
 use Rattle.shapes.proofs.Wholes.{drawn-is}
 use Rattle.sheets.specs.declared.library.Bins.{Bins}
@@ -28,26 +27,13 @@ use Rattle.sheets.specs.declared.library.CellsRead.{CellsRead}
 use Rattle.sheets.specs.Model.{Pin, binLoadOf, Cell, Pattern, patterns, patternsFrom}
 use Rattle.sheets.specs.LibrarySheet.{binLoad, bins, cells, library}
 use Rattle.sheets.specs.TreeSheet.{tree, treeRules}
-use Rattle.sheets.specs.Report.{LibraryLimits, TreeLimits, libraryNumber, treeNumber, LibraryCounts, libraryWord, libraryRead, treeRead, libraryReport, treeReport}
+use Rattle.sheets.specs.Report.{LibraryLimits, TreeLimits, libraryNumber, treeNumber, LibraryCounts, libraryWord, ofLibraryWord, libraryRead, treeRead, libraryReport, treeReport}
 use Rattle.sheets.specs.declared.library.SheetRead.{SheetRead}
 use Rattle.sheets.specs.declared.tree.TreeHead.{TreeHead}
 use Rattle.sheets.specs.Layout.{padded, pinsMost, cellLaid, rowWords, tableWords, row, tableFrom, patternRow, patternRows, libraryLaid, treeLaid}
 use Rattle.sheets.specs.Public.{LibraryIs, TreeIs}
 use Rattle.sheets.specs.Inside.{BinsAre, CellsAre, cellAfter, SheetIs, NodesAre}
 use Rattle.sheets.proofs.Laws.{padded-at}
-
--- A scan that was not refused at the end was not refused before.
-pub ended-live : (s : List ℕ) (c : Scan) → Live (ended s c) → Live c
-ended-live s (At c) h = tt
-ended-live s (Refused f p) h = h
-
-ended-place : (s : List ℕ) (c : Scan) → place (ended s c) ≡ place c
-ended-place s (At c) = go (endsAt s (placeOf c))
-  where
-    go : (b : Bool) → place (cond b (At c) (Refused Tail (placeOf c))) ≡ placeOf c
-    go true = refl
-    go false = refl
-ended-place s (Refused f p) = refl
 
 pub nodes-are : (s : List ℕ) (c : Scan) (load req : Got) (read : ShapeRead) (l l′ : List ℕ) (res : Scan) → l ≡ replicate 64 0 → c ≡ start →
     Reads load (field s 8 (within 0 255) c) (place c + 8) 255 → Reads req (field s 24 (within 0 16777215) (load .scan)) (place (load .scan) + 24) 16777215 →
@@ -167,6 +153,18 @@ number-bounds Tail = omega arith
 number-bounds Range = omega arith
 number-bounds Drawing = omega arith
 number-bounds Size = omega arith
+
+-- What a caller reads from the word of an answer with counts is the answer.
+pub counts-read : (o : Answer LibraryCounts) → Bounded (onSuccess libraryWord o) → LibraryLimits o → onSuccess ofLibraryWord (ofWord (word (onSuccess libraryWord o))) ≡ o
+unfolding onSuccess libraryWord ofLibraryWord LibraryLimits
+counts-read o h limits = ap (onSuccess ofLibraryWord) (word-reads (onSuccess libraryWord o) h) ∙ go o limits
+  where
+    go : (o : Answer LibraryCounts) → LibraryLimits o → onSuccess ofLibraryWord (onSuccess libraryWord o) ≡ o
+    go (refused number place) g = refl
+    go (success n) g =
+        let cells : (n .cells * 256 + n .patterns) / 256 ≡ n .cells = omega (arith, g .1) in
+        let patterns : (n .cells * 256 + n .patterns) % 256 ≡ n .patterns = omega (arith, g .1) in
+        λ i. success (record { cells = cells i; patterns = patterns i })
 
 module _ (s l l′ : List ℕ) (r : SheetRead) (h : SheetIs s l l′ r) where
   pub library-sound : (c : Cursor) → r .scan ≡ At c →

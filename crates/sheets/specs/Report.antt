@@ -1,5 +1,5 @@
 -- What the two judges answer: document 01's number and place of a refusal, or the counts.
-use Prim.Native.Nat.{ℕ, _+_, _*_, _≤_}
+use Prim.Native.Nat.{ℕ, _+_, _*_, _/_, _%_, _≤_}
 use mathlib.Core.List.{List}
 use lib.ListN.{length}
 use Rattle.fields.specs.Answer.{Answer, refused, success}
@@ -33,6 +33,10 @@ pub record LibraryCounts : Type 0 where
 
 unfoldable pub libraryWord : LibraryCounts → ℕ
 libraryWord n = n .cells * 256 + n .patterns
+
+-- What a caller reads from such a word.
+unfoldable pub ofLibraryWord : ℕ → LibraryCounts
+ofLibraryWord w = record { cells = w / 256; patterns = w % 256 }
 
 unfoldable pub libraryRead : Library × Scan → Answer LibraryCounts
 libraryRead (l, At c) = success (record { cells = length (l .cells); patterns = length (patterns l) })

@@ -3,6 +3,8 @@ use Prim.Native.Nat.{ℕ, _≤_, _<_}
 use mathlib.Core.Path.{_≡_}
 use mathlib.Core.List.{List·Memᴰ}
 use lib.ListN.{length}
+use Rattle.sheets.specs.declared.library.LibraryRecord.{LibraryRecord}
+use Rattle.sheets.specs.Layout.{libraryLaid}
 use Rattle.sheets.specs.Model.{Leaf, pinOf, arrivalOf, Shape, leaf, inv, nand, size, leaves, nands, Pin, Cell, Library, Tree, patterns}
 
 -- An inverter or a NAND.
@@ -29,6 +31,7 @@ pub record SoundCell (bins : ℕ) (c : Cell) : Type 0 where
   pub some-pin : 1 ≤ length (c .pins)
   pub few-pins : length (c .pins) ≤ 6
   pub pins : (p : Pin) → List·Memᴰ p (c .pins) → SoundPin bins p
+  pub some-drawing : 1 ≤ length (c .drawings)
   pub drawings : (d : Shape) → List·Memᴰ d (c .drawings) → SoundDrawing (length (c .pins)) d
 
 pub record SoundLibrary (l : Library) : Type 0 where
@@ -48,3 +51,8 @@ pub record SoundTree (t : Tree) : Type 0 where
   pub required : t .required ≤ 16777215
   pub size : size (t .shape) ≤ 64
   pub leaves : (x : Leaf) → List·Memᴰ x (leaves (t .shape)) → SoundLeaf x
+
+-- A sound library in the record that its reader hands over.
+pub record LibraryHeld (l : Library) (library : LibraryRecord) : Type 0 where
+  pub sound : SoundLibrary l
+  pub library-is : library ≡ libraryLaid l

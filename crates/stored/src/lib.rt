@@ -1,10 +1,11 @@
-// Runs the stored cases on standard input through the judges, map, list, the texts of treecover and of bill and the judge of covers, and writes what each answers.
+// Runs the stored cases on standard input through the judges, map, list, the texts of treecover and of bill, and writes what each answers.
 // A case opens with a kind, and its lengths are two bytes each, high byte first.
 //   0 library, 1 tree: the sheet's length, the sheet.
 //   2 map, 3 list: the lengths of library, tree, output in bytes and work area in words, the library, the tree.
 //   4 treecover: the input's length, the input.
 //   5 a cover to be judged: the lengths of library, tree and cover sheet, the three sheets.
 //   6 bill: the input's length, the input.
+//   7 functions to be judged: the lengths of library and function sheet, the two sheets.
 use judge::CoverJudged;
 use libc::STDOUT_FILENO;
 use mapper::Numbers;
@@ -28,7 +29,7 @@ impl Lent {
     const WORD: u64 = 11936128518282651045;
 }
 
-// The input is not what its lengths say, or a case's kind is none of the seven.
+// The input is not what its lengths say, or a case's kind is none of the eight.
 fn write_spoiled() {
     io::write_all(STDOUT_FILENO, b"spoiled\n");
 }
@@ -64,18 +65,23 @@ fn write_refusal(number: u32, place: usize) {
     end_line();
 }
 
-// "library", cell count, pattern count; or the refusal.
-fn run_library(sheet: &[u8]) {
-    let judged = sheets::library::judge_library(sheet);
+// A word, cell count, pattern count; or the refusal.
+fn write_counts(word: &[u8], judged: LibraryJudged) {
     match judged {
         LibraryJudged::Sound(cells, patterns) => {
-            io::write_all(STDOUT_FILENO, b"library");
+            io::write_all(STDOUT_FILENO, word);
             write_number(cells as u64);
             write_number(patterns as u64);
             end_line();
         }
         LibraryJudged::Refused(number, place) => write_refusal(number, place),
     }
+}
+
+// "library" and its counts; or the refusal.
+fn run_library(sheet: &[u8]) {
+    let judged = sheets::library::judge_library(sheet);
+    write_counts(b"library", judged);
 }
 
 // "tree", node count; or the refusal.
@@ -376,6 +382,29 @@ fn run_judged(s: &[u8], at: usize) -> usize
     end
 }
 
+// "functions" and the library's counts, or the refusal: the case of the judge of functions. Answers where the next case starts.
+fn run_functions(s: &[u8], at: usize) -> usize
+    requires { ⌜ at ≤ length (now s) ⌝ }
+    ensures { λ r. ⌜ at ≤ r ⌝ }
+{
+    if s.len() - at < 4 {
+        write_spoiled();
+        return s.len();
+    }
+    let first = at + 4;
+    let library = length_at(s, at);
+    let functions = length_at(s, at + 2);
+    if s.len() - first < library + functions {
+        write_spoiled();
+        return s.len();
+    }
+    let middle = first + library;
+    let end = middle + functions;
+    let judged = functions::judge_functions(&s[first..middle], &s[middle..end]);
+    write_counts(b"functions", judged);
+    end
+}
+
 // The case at `at`. Answers where the next one starts.
 fn run_case(s: &[u8], at: usize) -> usize
     requires { ⌜ at < length (now s) ⌝ }
@@ -396,6 +425,9 @@ fn run_case(s: &[u8], at: usize) -> usize
     }
     if kind == 6 {
         return run_single(s, kind, at + 1);
+    }
+    if kind == 7 {
+        return run_functions(s, at + 1);
     }
     write_spoiled();
     s.len()

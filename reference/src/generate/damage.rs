@@ -169,3 +169,10 @@ fn flip_bit(rng: &mut Rng, bytes: &mut [u8]) {
         bytes[bit / 8] ^= 128 >> (bit % 8);
     }
 }
+
+/// The same bytes with one bit changed.
+pub fn flipped_at(bytes: &[u8], bit: usize) -> Vec<u8> {
+    let mut flipped = bytes.to_vec();
+    flipped[bit / 8] ^= 128 >> (bit % 8);
+    flipped
+}

@@ -1,9 +1,10 @@
 //! The longest sound sheets.
 
+use super::functions::alike::restated;
 use super::heavy::balanced;
 use super::parts::{self, pin};
 use super::sound;
-use crate::library::{Cell, Library};
+use crate::library::{Cell, Library, MOST_PATTERN_NODES};
 use crate::rng::Rng;
 use crate::shape::{Shape, Step};
 use crate::tree::{Tree, TreeLeaf, LATEST_LEAF, LATEST_REQUIRED, MOST_DRIVE};
@@ -30,6 +31,23 @@ fn pattern(rng: &mut Rng) -> Shape {
     let mut pins = [0, 1, 2, 3, 4, 5];
     rng.shuffle(&mut pins);
     sound::shape(rng, &pins, 5)
+}
+
+/// The same with other second drawings, which compute what the first do, so that there is a right function sheet. In
+/// `library` the two drawings of a cell never compute the same.
+pub fn agreeing_library() -> Library {
+    let mut rng = Rng::new(66);
+    let mut library = library();
+    for cell in &mut library.cells {
+        cell.patterns[1] = agreeing(&mut rng, &cell.patterns[0]);
+    }
+    library
+}
+
+/// Another drawing that is as large.
+fn agreeing(rng: &mut Rng, drawing: &Shape) -> Shape {
+    let suits = |other: &Shape| other.nodes.len() == MOST_PATTERN_NODES && other != drawing;
+    std::iter::repeat_with(|| restated(rng, drawing)).find(suits).expect("another drawing")
 }
 
 /// An inverter over a full tree of 31 NANDs: of 64 nodes as many are leaves as can be, 32. All are driven, so that no

@@ -5,6 +5,7 @@ pub mod chosen;
 pub mod covers;
 pub mod damage;
 pub mod drivers;
+pub mod functions;
 pub mod heavy;
 pub mod limits;
 pub mod longest;

@@ -4,22 +4,26 @@
 //! `bench repeat COUNT WHO ROW`: so many maps of a row (`typical`, `chain`, `comb`, `deep`, `full`,
 //! `crosscomb`, `driven`) by `product`, `plain`, `plain_kept`, `merging` or, if it is linked, `before`, or
 //! judgements of its cover by `judge`; or so many judgements of a sheet (`longest_library`,
-//! `longest_tree`, `longest_plain_tree`) by `product`, `reference`, `wordwise` or `before`. It is for a
+//! `longest_tree`, `longest_plain_tree`) by `product`, `reference`, `wordwise` or `before`, or of a library
+//! with its function sheet (`longest_functions`) by the same but `before`. It is for a
 //! profiler that counts instructions: two counts, and the difference is free of what comes before the
-//! first one. It fails where `before` refuses the row, as a product without driven leaves does; the table
-//! then leaves it out.
+//! first one. It fails where `before` refuses the row, as a product without driven leaves does, or has no
+//! such judge; the table then leaves it out.
 
 mod clock;
 mod cover;
+mod functions;
 mod judge;
 mod map;
 
 fn main() {
     let arguments: Vec<String> = std::env::args().skip(1).collect();
-    if judge::repeat(&arguments) || cover::repeat(&arguments) || map::repeat(&arguments) {
+    let repeats = [judge::repeat, functions::repeat, cover::repeat, map::repeat];
+    if repeats.iter().any(|repeat| repeat(&arguments)) {
         return;
     }
     judge::run();
+    functions::run();
     cover::run();
     map::run();
 }

@@ -11,7 +11,7 @@ use reference::form::Role;
 use reference::generate::covers::damage::{any_case, spoiled, Damage, ELSEWHERE, IN_COVER};
 use reference::generate::covers::draw::{any_cover, loose_cover, Draw};
 use reference::generate::covers::{Case, Draft};
-use reference::generate::damage::{edge_values, Kind};
+use reference::generate::damage::{edge_values, flipped_at, Kind};
 use reference::generate::parts::{cell, chain, pin, tree, INVERTER, NAND};
 use reference::generate::problem::{problem, small_style, Problem};
 use reference::generate::{heavy, limits, longest, specimen};
@@ -419,12 +419,6 @@ pub fn every_refusal() -> Vec<Case> {
         }
     }
     cases
-}
-
-fn flipped_at(bytes: &[u8], bit: usize) -> Vec<u8> {
-    let mut flipped = bytes.to_vec();
-    flipped[bit / 8] ^= 128 >> (bit % 8);
-    flipped
 }
 
 /// The crossings of a match's pattern, and the match's own with each bit changed.

@@ -3,7 +3,7 @@
 
 use crate::stored::Stored;
 use reference::form::{Field, Form, Role};
-use reference::generate::damage::{any_form, any_sheet, damaged, edge_values, torn_in, Kind};
+use reference::generate::damage::{any_form, any_sheet, damaged, edge_values, flipped_at, torn_in, Kind};
 use reference::generate::{limits, longest, sound, specimen};
 use reference::rng::Rng;
 use reference::verdict::Verdict;
@@ -44,11 +44,7 @@ fn originals() -> Vec<(Kind, Form)> {
 
 fn flips(stored: &mut Stored, kind: Kind, form: &Form) {
     let bytes = form.bytes();
-    for bit in 0..bytes.len() * 8 {
-        let mut flipped = bytes.clone();
-        flipped[bit / 8] ^= 128 >> (bit % 8);
-        add(stored, kind, &flipped);
-    }
+    (0..bytes.len() * 8).for_each(|bit| add(stored, kind, &flipped_at(&bytes, bit)));
 }
 
 fn cuts(stored: &mut Stored, kind: Kind, form: &Form) {

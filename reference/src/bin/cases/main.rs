@@ -3,6 +3,7 @@
 
 mod bill;
 mod cover;
+mod functions;
 mod judge;
 mod kinds;
 mod map;
@@ -48,5 +49,8 @@ fn main() -> io::Result<()> {
     bill::add_all(&mut bills);
     bills.write(&directory, "bills")?;
     bills.check_driven(&["driven leaves, bill: answered"]);
+    let mut functions = Stored::default();
+    functions::add_all(&mut functions);
+    functions.write(&directory, "functions")?;
     Ok(())
 }

@@ -1,6 +1,7 @@
 //! Single problems as files of their own: the input of a program and what it is to print.
 
 use reference::form::Form;
+use reference::generate::functions::{Case, Draft};
 use reference::generate::problem::Problem;
 use reference::generate::{bills, longest, specimen};
 use reference::{bill, merging, text};
@@ -11,6 +12,12 @@ pub fn write(directory: &Path) -> io::Result<()> {
     let put = |name: &str, bytes: &[u8]| std::fs::write(directory.join(name), bytes);
     put("longest.library", &Form::of_library(&longest::library()).bytes())?;
     put("longest.tree", &Form::of_tree(&longest::tree()).bytes())?;
+    let Case { library, functions } = Draft::of(specimen::library()).case();
+    put("specimen.library", &library)?;
+    put("specimen.functions", &functions)?;
+    let Case { library, functions } = Draft::of(longest::agreeing_library()).case();
+    put("longest_functions.library", &library)?;
+    put("longest_functions.functions", &functions)?;
     let specimen = input(&Problem { library: specimen::library(), tree: specimen::tree_b() });
     put("specimen.input", &specimen)?;
     put("specimen.expected", text::printed(&specimen).as_bytes())?;

@@ -77,7 +77,7 @@ fn driven_kind(kind: u8, line: &str) -> String {
 
 /// What a record of a kind is of.
 fn word(kind: u8) -> &'static str {
-    ["library", "tree", "map", "list", "treecover", "judge of covers", "bill"][kind as usize]
+    ["library", "tree", "map", "list", "treecover", "judge of covers", "bill", "judge of functions"][kind as usize]
 }
 
 /// The tree among what a record holds, be it sound or not.

@@ -3,12 +3,14 @@
 //! `fresh judge [COUNT] [SEED]`: the two judges.
 //! `fresh map [COUNT] [SEED]`: map and list.
 //! `fresh cover [COUNT] [SEED]`: the judge of covers.
+//! `fresh functions [COUNT] [SEED]`: the judge of functions.
 //! `fresh bill [COUNT] [SEED]`: bill's text, by the program whose path is in `TREECOVER_BILL_CASES`.
 //!
 //! The exit status is 1 if anything disagrees.
 
 mod bill;
 mod cover;
+mod functions;
 mod judge;
 mod map;
 mod tally;
@@ -25,9 +27,10 @@ fn main() -> ExitCode {
         Some("judge") => judge::run(number(1, 100_000), number(2, 1)),
         Some("map") => map::run(number(1, 200_000), number(2, 1)),
         Some("cover") => cover::run(number(1, 200_000), number(2, 1)),
+        Some("functions") => functions::run(number(1, 200_000), number(2, 1)),
         Some("bill") => bill::run(number(1, 200_000), number(2, 1)),
         _ => {
-            eprintln!("usage: fresh judge|map|cover|bill [COUNT] [SEED]");
+            eprintln!("usage: fresh judge|map|cover|functions|bill [COUNT] [SEED]");
             return ExitCode::from(2);
         }
     };

@@ -36,7 +36,8 @@ impl Tally {
         for (key, count) in &self.agreed {
             println!("  {key}: {count}");
         }
-        println!("agreed {agreed} of {}, {} with driven leaves", agreed + self.disagreed, self.driven);
+        let driven = if self.driven > 0 { format!(", {} with driven leaves", self.driven) } else { String::new() };
+        println!("agreed {agreed} of {}{driven}", agreed + self.disagreed);
         if let Some(story) = &self.first {
             println!("first disagreement:\n{story}");
         }

@@ -1,0 +1,4 @@
+// The stored cases of functions.
+fn main() {
+    stored::run();
+}

@@ -1,0 +1,107 @@
+-- A library that was read, the function sheet that was read with its pin counts, and the answer.
+use Prim.Native.Nat.{ℕ, _+_, _*_, _≤_, _<_, _^_}
+use mathlib.Core.Path.{_≡_, refl, sym, ap, ap₂, subst, _∙_}
+use mathlib.Core.List.{List, map}
+use native.Mathlib.Omega.{arith}
+use lib.ListN.{length, getD, take, replicate, length-map, length-replicate}
+use lib.Seq.{getD-take, length-sets}
+use Rattle.bits.specs.declared.Cursor.{Cursor}
+use Rattle.fields.specs.declared.Fault.{Fault}
+use Rattle.fields.specs.declared.Scan.{Scan}
+use Rattle.fields.specs.declared.Scan.the-variants.{At, Refused}
+use Rattle.fields.specs.Reading.{start, place}
+use Rattle.fields.specs.Answer.{Answer, refused}
+use Rattle.fields.proofs.Laws.{length-times}
+use Rattle.fields.proofs.Lists.{at-mem, at-map}
+use Rattle.sheets.specs.Model.{Cell, Library, patterns}
+use Rattle.sheets.specs.Layout.{rowWords}
+use Rattle.sheets.specs.Sound.{SoundLibrary, LibraryHeld}
+use Rattle.sheets.specs.declared.library.LibraryRecord.{LibraryRecord}
+use Rattle.sheets.specs.declared.library.LibraryRead.{LibraryRead}
+use Rattle.sheets.specs.LibrarySheet.{library}
+use Rattle.sheets.specs.Public.{LibraryIs}
+use Rattle.sheets.specs.Report.{LibraryCounts, libraryNumber}
+use Rattle.sheets.proofs.Laws.{padded-at}
+use Rattle.sheets.proofs.Patterns.{noCell}
+use Rattle.sheets.proofs.Whole.{number-bounds}
+use Rattle.sheets.proofs.Held.{row-count, rows-filled}
+use Rattle.functions.specs.declared.FunctionsRead.{FunctionsRead}
+use Rattle.functions.specs.FunctionSheet.{pinCounts, function, functionSheet}
+use Rattle.functions.specs.Report.{countsOf, drawingsJudged, functionsNumber, functionsJudged, withFunctions, functionsReport}
+use Rattle.functions.specs.Inside.{RowsHold, PinsFew, FunctionsAre, Stated}
+use Rattle.functions.proofs.Reading.{field-small}
+use Rattle.functions.proofs.Judged.{judged-same, InLimits, refusal-limits, drawings-limits}
+
+pub rows-hold : {l : Library} {library : LibraryRecord} → LibraryHeld l library → RowsHold l (take (rowWords * library .total) (library .rows)) (library .total)
+rows-hold g = record { sound = g .sound; rows-are = rows-filled g; total-is = row-count g }
+
+module _ {l : Library} (sound : SoundLibrary l) where
+  pub count-pins : length (pinCounts l) ≡ length (l .cells)
+  unfolding pinCounts
+  count-pins = length-map (l .cells) _
+
+  -- The pin counts that were noted can be read with.
+  pub pins-few : (counts : List ℕ) (cells : ℕ) → length counts ≡ 64 → cells ≡ length (l .cells) → take (length (l .cells)) counts ≡ pinCounts l → PinsFew counts cells
+  unfolding pinCounts
+  pins-few counts cells long e all = record {
+    long = long;
+    few-cells = omega (arith, sound .few-cells);
+    few-pins = λ k h.
+        let pins : Cell → ℕ = λ c. length (c .pins) in
+        let in-list : k < length (l .cells) = omega arith in
+        let is : getD counts k 0 ≡ length (getD (l .cells) k noCell .pins) =
+        sym (getD-take (length (l .cells)) counts k 0 in-list) ∙ ap (λ (xs : List ℕ). getD xs k 0) all ∙ at-map pins (l .cells) k noCell 0 in-list in
+        omega (arith, is, sound .cells (getD (l .cells) k noCell) (at-mem (l .cells) k noCell in-list) .few-pins);
+  }
+
+  -- The sheet was read with the library's own pin counts.
+  pub own-pins : (s counts : List ℕ) (cells : ℕ) (r : FunctionsRead) → cells ≡ length (l .cells) → take (length (l .cells)) counts ≡ pinCounts l → FunctionsAre s (take cells counts) r → FunctionsAre s (pinCounts l) r
+  own-pins s counts cells r e all h = subst (λ (pins : List ℕ). FunctionsAre s pins r) (ap (λ (n : ℕ). take n counts) e ∙ all) h
+
+  module _ (s : List ℕ) (r : FunctionsRead) (h : FunctionsAre s (pinCounts l) r) where
+    pub functions-long : length (r .functions) ≡ 64
+    functions-long = ap length (h .functions-are) ∙ length-sets (replicate 64 0) 0 (functionSheet s (pinCounts l) start .0) ∙ length-replicate {A = ℕ} 64 0
+
+    -- What stands in the array is what was read.
+    stands : (k : ℕ) → getD (r .functions) k 0 ≡ getD (functionSheet s (pinCounts l) start .0) k 0
+    unfolding functionSheet
+    stands k =
+        ap (λ (xs : List ℕ). getD xs k 0) (h .functions-are)
+        ∙ padded-at 64 (functionSheet s (pinCounts l) start .0) k (omega (arith, length-times (length (pinCounts l)) (function s (pinCounts l)) start, count-pins, sound .few-cells))
+
+    pub stated : Stated l (r .functions)
+    unfolding functionSheet
+    stated k g = rw (stands k) (field-small s (pinCounts l) start (length (pinCounts l)) k (omega (arith, count-pins)))
+
+    pub sheet-judged : (c : Cursor) → r .scan ≡ At c → drawingsJudged (r .functions) (countsOf l) 0 (patterns l) ≡ functionsJudged l (functionSheet s (pinCounts l) start)
+    unfolding functionsJudged
+    sheet-judged c e =
+        let x = functionSheet s (pinCounts l) start in
+        judged-same (r .functions) (x .0) stands (countsOf l) 0 (patterns l) ∙ sym (ap (λ (q : Scan). functionsJudged l (x .0, q)) (sym (h .scan-is) ∙ e))
+
+    pub sheet-limits : InLimits (drawingsJudged (r .functions) (countsOf l) 0 (patterns l))
+    unfolding countsOf
+    sheet-limits = drawings-limits (r .functions) (countsOf l) (sound .few-cells) (sound .few-patterns) 0 (patterns l) (omega (arith, sound .few-patterns))
+
+    pub sheet-refused : (f : Fault) (p n : ℕ) → r .scan ≡ Refused f p → n ≡ libraryNumber f → refused (29 + n) p ≡ functionsJudged l (functionSheet s (pinCounts l) start)
+    unfolding functionsJudged functionsNumber
+    sheet-refused f p n e en =
+        let x = functionSheet s (pinCounts l) start in
+        let number : 29 + n ≡ libraryNumber f + 29 = omega arith in
+        ap (λ (k : ℕ). refused k p) number ∙ sym (ap (λ (q : Scan). functionsJudged l (x .0, q)) (sym (h .scan-is) ∙ e))
+
+    pub refused-limits : (f : Fault) (p n : ℕ) → r .scan ≡ Refused f p → n ≡ libraryNumber f → InLimits (refused (29 + n) p)
+    refused-limits f p n e en = refusal-limits (29 + n) p (omega arith) (omega (arith, number-bounds f)) (omega (arith, h .near, ap place e))
+
+-- What is said of a library that was read.
+module _ (ls fs : List ℕ) (read : LibraryRead) (h : LibraryIs ls read) where
+  pub library-answered : (c : Cursor) → read .scan ≡ At c → (o : Answer LibraryCounts) → o ≡ functionsJudged (library ls start .0) (functionSheet fs (pinCounts (library ls start .0)) start) → o ≡ functionsReport ls fs
+  unfolding functionsReport withFunctions
+  library-answered c e o eo = eo ∙ ap (λ (q : Scan). withFunctions fs (library ls start .0, q)) (sym e ∙ h .scan-is)
+
+  pub library-refused : (f : Fault) (p n : ℕ) → read .scan ≡ Refused f p → n ≡ libraryNumber f → (refused n p ≡ functionsReport ls fs) × InLimits (refused n p)
+  unfolding functionsReport withFunctions
+  library-refused f p n e en = (
+    ap (λ (k : ℕ). refused k p) en ∙ ap (λ (q : Scan). withFunctions fs (library ls start .0, q)) (sym e ∙ h .scan-is),
+    refusal-limits n p (omega (arith, number-bounds f)) (omega (arith, number-bounds f)) (omega (arith, h .near, ap place e)),
+  )

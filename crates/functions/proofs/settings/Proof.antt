@@ -1,0 +1,21 @@
+use borrow.Author.Needs.{needs}
+use native.Mathlib.Omega.{arith}
+use Prim.Native.Nat.{ℕ, _*_, _%_, _^_, _≤_, _<_}
+use mathlib.Core.Path.{_≡_}
+use lib.Pow.{pow-mono, pow-pos}
+use Rattle.functions.proofs.settings.Statement.{statement}
+use Rattle.functions.proofs.settings.Tie as tie
+
+shl-result : tie.Need-shl-result
+shl-result c = search needs
+
+returns : tie.Need-returns
+returns c =
+    let n = c .args .pins in
+    let few : n ≤ 6 = omega arith in
+    let top : 2 ^ n ≤ 64 = pow-mono few in
+    let some = pow-pos n in
+    (omega arith, omega arith, omega arith)
+
+pub settings-spec : {M : Type 1} → statement M
+settings-spec = tie.close (tie.spec shl-result returns)

@@ -1,0 +1,202 @@
+// The judge of functions: whether each drawing of a library computes what the function sheet states of its cell. 64 settings are worked out at once, one in each bit of a word.
+use fields::Scan;
+use shapes::Packed;
+use sheets::library::LibraryJudged;
+use sheets::library::LibraryRecord;
+use sheets::library::PatternRow;
+ghost use mathlib.Core.Path.{_≡_};
+ghost use Prim.Native.Nat.{_*_, _≤_, _<_, _^_};
+ghost use lib.ListN.{length, take};
+ghost use Rattle.fields.specs.Reading.{start};
+ghost use Rattle.fields.specs.Answer.{onSuccess, Bounded};
+ghost use Rattle.sheets.specs.Model.{Shape, Library, Pattern, patterns};
+ghost use Rattle.sheets.specs.Sound.{LibraryHeld};
+ghost use Rattle.sheets.specs.Report.{ofLibraryJudged, LibraryLimits, libraryWord};
+ghost use Rattle.functions.specs.Function.{settings as settingsOf, pinIn};
+ghost use Rattle.functions.specs.FunctionSheet.{pinCounts, functionSheet};
+ghost use Rattle.functions.specs.Report.{countsOf, isRight, functionsReport, drawingsJudged, functionsJudged};
+ghost use Rattle.functions.specs.Demands.{FunctionDemands};
+ghost use Rattle.functions.specs.Inside.{Tabulates, Standing, EvaluatedIs, RowHolds, Fits, RowsHold, PinsFew, FunctionsAre, Stated};
+
+// Document 02's numbers: what is added to the numbers of a library's faults for those of a function sheet, and a drawing that computes another function.
+pub struct Numbers {}
+
+impl Numbers {
+    pub const SHEET: u32 = 29;
+
+    pub const OTHER: u32 = 33;
+}
+
+// The settings in a word: the first setting's bit is the highest. A cell of fewer pins than six has its settings in the first bits.
+struct Word {}
+
+impl Word {
+    const SETTINGS: usize = 64;
+}
+
+// Each pin in the 64 settings of six pins.
+const COLUMNS: [u64; 6] = [
+    0x5555_5555_5555_5555,
+    0x3333_3333_3333_3333,
+    0x0f0f_0f0f_0f0f_0f0f,
+    0x00ff_00ff_00ff_00ff,
+    0x0000_ffff_0000_ffff,
+    0x0000_0000_ffff_ffff,
+];
+
+// The values of a shape in 64 settings, and where the symbol after it stands.
+pub struct Evaluated {
+    pub word: u64,
+    pub next: usize,
+}
+
+// The functions that a sheet states, by the number of the cell, and the scan after it.
+pub struct FunctionsRead {
+    pub scan: Scan,
+    pub functions: [u64; 64],
+}
+
+// A pin in 64 settings.
+fn column(pin: usize) -> u64
+    requires { ⌜ pin < 6 ⌝ }
+    ensures { λ r. ⌜ Tabulates (λ setting. pinIn setting pin) r ⌝ }
+{
+    COLUMNS[pin]
+}
+
+// The shape that stands in a pattern's row from a place on, in 64 settings.
+fn evaluate(row: &[u32], at: usize) -> Evaluated
+    requires { ⌜ ((d : Shape) × Standing (now row) at d) ⌝ }
+    ensures { λ r. ⌜ ((d : Shape) → Standing (now (row .entry)) at d → EvaluatedIs at d r) ⌝ }
+{
+    let symbol = row[at];
+    if Packed::LEAF <= symbol {
+        return Evaluated {
+            word: column((symbol - Packed::LEAF) as usize),
+            next: at + 1,
+        };
+    }
+    let first = evaluate(row, at + 1);
+    if symbol == 0 {
+        return Evaluated {
+            word: !first.word,
+            next: first.next,
+        };
+    }
+    let second = evaluate(row, first.next);
+    Evaluated {
+        word: !(first.word & second.word),
+        next: second.next,
+    }
+}
+
+// How many settings so many pins have.
+fn settings(pins: u32) -> usize
+    requires { ⌜ pins ≤ 6 ⌝ }
+    ensures { λ r. ⌜ (r ≡ settingsOf pins) × (1 ≤ r) × (r ≤ 64) ⌝ }
+{
+    1usize << pins
+}
+
+// Whether the drawing in a pattern's row computes the function that is stated of its cell: the first bits of its word are that field.
+fn computes(row: &[u32], functions: &[u64]) -> bool
+    requires { ⌜ (length (now functions) ≡ 64) × ((p : Pattern) × RowHolds (now row) p) ⌝ }
+    ensures { λ r. ⌜ ((p : Pattern) → RowHolds (now (row .entry)) p → Fits p (now (functions .entry)) → r ≡ isRight (now (functions .entry)) p) ⌝ }
+{
+    let function = functions[row[PatternRow::CELL] as usize];
+    let count = settings(row[PatternRow::PINS]);
+    let drawn = evaluate(row, PatternRow::SYMBOLS);
+    drawn.word >> (Word::SETTINGS - count) == function
+}
+
+// How many pins each cell has, by its number: every cell has a pattern, and each pattern's row says it.
+fn pin_counts(rows: &[u32], total: usize) -> [u8; 64]
+    requires { ⌜ ((l : Library) × RowsHold l (now rows) total) ⌝ }
+    ensures { λ r. ⌜ (length r ≡ 64) × ((l : Library) → RowsHold l (now (rows .entry)) total → take (length (l .cells)) r ≡ pinCounts l) ⌝ }
+{
+    let mut counts = [0u8; 64];
+    let mut k: usize = 0;
+    while k < total {
+        let first = PatternRow::WORDS * k;
+        counts[rows[first + PatternRow::CELL] as usize] = rows[first + PatternRow::PINS] as u8;
+        k += 1;
+    }
+    counts
+}
+
+// The function sheet of so many cells with these pins.
+fn read_functions(s: &[u8], counts: [u8; 64], cells: usize) -> FunctionsRead
+    requires { ⌜ PinsFew counts cells ⌝ }
+    ensures { λ r. ⌜ FunctionsAre (now (s .entry)) (take cells counts) r ⌝ }
+{
+    let mut functions = [0u64; 64];
+    let mut at = fields::begin();
+    let mut k: usize = 0;
+    while k < cells {
+        let got = fields::wide(at, s, settings(counts[k] as u32));
+        at = got.scan;
+        functions[k] = got.value;
+        k += 1;
+    }
+    FunctionsRead {
+        scan: fields::end(at, s),
+        functions,
+    }
+}
+
+// Each drawing in turn, against the function of its cell.
+fn judge_drawings(rows: &[u32], total: usize, functions: &[u64], cells: usize) -> LibraryJudged
+    requires { ⌜ (length (now functions) ≡ 64) × ((l : Library) × RowsHold l (now rows) total) ⌝ }
+    ensures { λ r. ⌜ ((l : Library) → RowsHold l (now (rows .entry)) total → Stated l (now (functions .entry)) → cells ≡ length (l .cells) → ofLibraryJudged r ≡ drawingsJudged (now (functions .entry)) (countsOf l) 0 (patterns l)) ⌝ }
+{
+    let mut k: usize = 0;
+    while k < total {
+        let first = PatternRow::WORDS * k;
+        if !computes(&rows[first..first + PatternRow::WORDS], functions) {
+            return LibraryJudged::Refused(Numbers::OTHER, k);
+        }
+        k += 1;
+    }
+    LibraryJudged::Sound(cells, total)
+}
+
+// The function sheet of a sound library. All of it is read before a drawing is looked at.
+fn with_library(library: LibraryRecord, s: &[u8]) -> LibraryJudged
+    requires { ⌜ ((l : Library) × LibraryHeld l library) ⌝ }
+    ensures { λ r. ⌜ ((l : Library) → LibraryHeld l library → ofLibraryJudged r ≡ functionsJudged l (functionSheet (now (s .entry)) (pinCounts l) start)) ⌝ }
+    ensures { λ r. ⌜ Bounded (onSuccess libraryWord (ofLibraryJudged r)) × LibraryLimits (ofLibraryJudged r) ⌝ }
+{
+    let rows = library.rows;
+    let total = library.total;
+    let cells = library.count;
+    let words = PatternRow::WORDS * total;
+    let counts = pin_counts(&rows[..words], total);
+    let read = read_functions(s, counts, cells);
+    let scan = read.scan;
+    let functions = read.functions;
+    match scan {
+        Scan::At(_) => judge_drawings(&rows[..words], total, &functions, cells),
+        Scan::Refused(fault, place) => {
+            LibraryJudged::Refused(
+                Numbers::SHEET + sheets::library::library_number(fault),
+                place,
+            )
+        }
+    }
+}
+
+// Whether each drawing of a library computes the function that is stated of its cell.
+pub fn judge_functions(library: &[u8], functions: &[u8]) -> LibraryJudged
+    ensures { λ r. ⌜ ofLibraryJudged r ≡ functionsReport (now (library .entry)) (now (functions .entry)) ⌝ }
+    ensures { λ r. ⌜ FunctionDemands (now (library .entry)) (now (functions .entry)) (ofLibraryJudged r) ⌝ }
+    ensures { λ r. ⌜ Bounded (onSuccess libraryWord (ofLibraryJudged r)) × LibraryLimits (ofLibraryJudged r) ⌝ }
+{
+    let read = sheets::library::read_library(library);
+    let scan = read.scan;
+    match scan {
+        Scan::At(_) => with_library(read.library, functions),
+        Scan::Refused(fault, place) => {
+            LibraryJudged::Refused(sheets::library::library_number(fault), place)
+        }
+    }
+}

@@ -1,0 +1,26 @@
+use borrow.Author.Needs.{needs}
+use mathlib.Core.Path.{_≡_, sym, ap, subst, _∙_}
+use Rattle.fields.specs.Answer.{onSuccess, word, ofWord}
+use Rattle.sheets.specs.Report.{libraryWord, ofLibraryWord, ofLibraryJudged}
+use Rattle.sheets.proofs.Whole.{counts-read}
+use Rattle.functions.specs.Demands.{FunctionDemands}
+use Rattle.interface.proofs.treecover_judge_functions.Statement.{statement}
+use Rattle.interface.proofs.treecover_judge_functions.Tie as tie
+
+judge-functions-requires : tie.Need-judge-functions-requires
+judge-functions-requires c κs = search needs
+
+counts-word-requires : tie.Need-counts-word-requires
+counts-word-requires c κs = search needs
+
+returns : tie.Need-returns
+returns c =
+    let a = c .before .before .before .before .args in
+    let call = c .before .judge-functions in
+    let got = c .counts-word in
+    let said : onSuccess ofLibraryWord (ofWord (got .result)) ≡ ofLibraryJudged (call .result) =
+    ap (λ w. onSuccess ofLibraryWord (ofWord w)) (got .ensures) ∙ counts-read (ofLibraryJudged (call .result)) (call .ensures .1 .1 .0) (call .ensures .1 .1 .1) in
+    (got .ensures ∙ ap (λ q. word (onSuccess libraryWord q)) (call .ensures .0), subst (FunctionDemands (a .library .now) (a .functions .now)) (sym said) (call .ensures .1 .0))
+
+pub treecover-judge-functions-spec : {M : Type 1} → statement M
+treecover-judge-functions-spec = tie.close (tie.spec judge-functions-requires counts-word-requires returns)
