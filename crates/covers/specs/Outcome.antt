@@ -11,7 +11,7 @@ use Rattle.fields.specs.Answer.{Answer, refused, success, onSuccess}
 use Rattle.sheets.specs.Model.{Library, Tree}
 use Rattle.sheets.specs.LibrarySheet.{library}
 use Rattle.sheets.specs.TreeSheet.{tree}
-use Rattle.sheets.specs.Report.{libraryNumber, treeNumber}
+use Rattle.sheets.specs.Report.{afterLibrary, treeNumber}
 use Rattle.covers.specs.Capacity.{capacity, workWords}
 use Rattle.covers.specs.Answer.{shortNumber, overfullNumber, noCoverNumber, mapAnswer, listAnswer}
 
@@ -24,8 +24,7 @@ module _ {A : Type 0} where
   -- The library's refusal, or what follows.
   unfoldable pub withLibrary : (Library → Tree → Answer A) → Library × Scan → Tree × Scan → Answer A
   unfolding withTree
-  withLibrary f (l, At c) t = withTree (f l) t
-  withLibrary f (l, Refused e p) t = refused (libraryNumber e) p
+  withLibrary f x t = afterLibrary (λ l. withTree (f l) t) x
 
   -- Lent too little (document 01's "short tray") is said at 0, before everything else.
   unfoldable pub lent : ℕ → ℕ → ℕ → Answer A → Answer A

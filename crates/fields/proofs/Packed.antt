@@ -22,7 +22,7 @@ use Rattle.fields.specs.Reading.{Reader, times, start, place, field, tak
 use Rattle.fields.specs.Promises.{Live}
 use Rattle.fields.specs.Written.{Field, widths, written, packed}
 use Rattle.bits.proofs.Words.{zeros-at}
-use Rattle.fields.proofs.Laws.{Read, ends, reads, read, ended-live}
+use Rattle.fields.proofs.Laws.{Read, ends, reads, read}
 use Rattle.fields.proofs.Written.{packed-reads, packed-ends, widths-append}
 
 bytes-written : (fs : List Field) (i : ℕ) (s : List ℕ) → Bytes s → Bytes (written fs i s)

@@ -5,7 +5,7 @@ use mathlib.Core.Bool.{Bool, true, false, cond, false≢true}
 use mathlib.Core.List.{List, [], _∷_, List·Memᴰ, List·Memᴰ·head, List·Memᴰ·tail, List·Memᴰ·not-nil, head-eq-of-cons-eq}
 use native.Mathlib.Nat.{zero-add, add-suc, suc-add, add-zero}
 use native.Mathlib.Omega.{arith}
-use lib.Dec.{ltb, eqb}
+use lib.Dec.{ltb}
 use lib.ListN.{length, getD, take, drop}
 use borrow.Author.Tests.{ltb-true, ltb-false, eqb-true, eq-eqb}
 use Rattle.bits.specs.Bits.{bitAt, valueAt, endsAt}
@@ -17,14 +17,14 @@ use Rattle.fields.specs.Answer.{Answer, refused, success}
 use Rattle.sheets.specs.Model.{Library, Pattern, patterns}
 use Rattle.sheets.specs.Sound.{SoundLibrary}
 use Rattle.sheets.specs.LibrarySheet.{library}
-use Rattle.sheets.specs.Report.{LibraryCounts, libraryNumber}
+use Rattle.sheets.specs.Report.{LibraryCounts, libraryNumber, countsOf, afterLibrary, libraryRead, libraryReport}
 use Rattle.sheets.proofs.Patterns.{SoundPattern, sound-pattern}
 use Rattle.sheets.proofs.Sound.{library-limits}
 use Rattle.sheets.proofs.Whole.{number-bounds}
 use Rattle.functions.specs.Function.{settings, value, bitOf, computes}
 use Rattle.functions.specs.FunctionSheet.{pinCounts, functionSheet}
-use Rattle.functions.specs.Report.{otherNumber, tornNumber, tailNumber, countsOf, isRight, drawingsJudged, functionsNumber, functionsJudged, withFunctions, functionsReport}
-use Rattle.functions.specs.Demands.{firstBit, HasStated, Right, Other, SheetSound, FirstOther, Torn, BadTail, libraryOf, LibrarySound, FunctionDemands}
+use Rattle.functions.specs.Report.{otherNumber, tornNumber, tailNumber, isRight, drawingsJudged, functionsNumber, functionsJudged, functionsReport}
+use Rattle.functions.specs.Demands.{firstBit, Right, Other, SheetSound, FirstOther, Torn, BadTail, libraryOf, LibrarySound, FunctionDemands}
 use Rattle.functions.proofs.Words.{bit-read}
 use Rattle.functions.proofs.Every.{every-each, every-some}
 use Rattle.functions.proofs.Rows.{pattern-pins}
@@ -145,10 +145,10 @@ module _ (ls fs : List ℕ) where
       go q (torn-at m h a b) = torn (firstBit (pinCounts l) m) live (record { cell = m; inside = h; first = refl; whole-before = a; torn = b })
 
   case : Case (functionsReport ls fs)
-  unfolding functionsReport withFunctions
+  unfolding functionsReport
   case = go (library ls start .1) refl
     where
-      go : (q : Scan) → library ls start .1 ≡ q → Case (withFunctions fs (l, q))
+      go : (q : Scan) → library ls start .1 ≡ q → Case (afterLibrary (λ m. functionsJudged m (functionSheet fs (pinCounts m) start)) (l, q))
       go (At c) e = sheet-case (subst Live (sym e) tt)
       go (Refused f p) e = unsound (libraryNumber f) p (number-bounds f .0) (number-bounds f .1) (λ h. subst Live e h)
 
@@ -256,8 +256,18 @@ module _ (ls fs : List ℕ) where
   says-tail (other j x y z) live b = absurd (tail-unsound b y)
   says-tail (right x y z) live b = absurd (tail-unsound b y)
 
+  -- A library that its own judge refuses.
+  library-said : (LibrarySound ls → ⊥) → functionsReport ls fs ≡ libraryReport ls
+  unfolding functionsReport libraryReport libraryRead
+  library-said bad = go (library ls start .1) bad
+    where
+      go : (q : Scan) → (Live q → ⊥) → afterLibrary (λ m. functionsJudged m (functionSheet fs (pinCounts m) start)) (l, q) ≡ afterLibrary (λ m. success (countsOf m)) (l, q)
+      go (At c) h = absurd (h tt)
+      go (Refused f p) h = refl
+
   pub demands : FunctionDemands ls fs (functionsReport ls fs)
   demands = record {
+    library-first = library-said;
     accepted-exactly = λ n. (is-right case, λ h. says-right case (h .0) (h .1) (h .2) ∙ ap success (sym (h .3)));
     other-exactly = λ k. (is-other case, λ h. says-other case (h .0) (h .1) (h .2));
     torn-exactly = λ k. (is-torn case, λ h. says-torn case (h .0) (h .1));

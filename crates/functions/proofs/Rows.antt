@@ -2,17 +2,17 @@
 use Prim.Native.Nat.{ℕ, _+_, _*_, _≤_, _<_}
 use mathlib.Core.Path.{_≡_, refl, sym, ap, subst, _∙_}
 use mathlib.Core.Logic.{_⊎_, ⊎-elim}
-use mathlib.Core.List.{List, map}
+use mathlib.Core.List.{List}
 use native.Mathlib.Decide.{ℕ-discrete}
 use native.Mathlib.Nat.{zero-add, eq-or-lt-of-le}
 use native.Mathlib.Omega.{arith}
-use lib.ListN.{length, getD, take, drop, set, length-map, length-set}
+use lib.ListN.{length, getD, take, drop, set, length-map}
 use lib.Seq.{getD-take, getD-drop, getD-set-same, getD-set-other, ext-getD, length-take-le}
 use Rattle.fields.proofs.Lists.{at-mem, at-map}
 use Rattle.shapes.proofs.Drawn.{length-symbols}
 use Rattle.sheets.specs.Model.{Cell, Library, Pattern, patterns}
-use Rattle.sheets.specs.Layout.{symbolsAt, rowWords, patternTable}
-use Rattle.sheets.proofs.Patterns.{SoundPattern, sound-pattern, Told, row-told, table-long, noCell, noPattern, Shown, shown}
+use Rattle.sheets.specs.Layout.{rowWords}
+use Rattle.sheets.proofs.Patterns.{SoundPattern, sound-pattern, Told, row-told, table-long, noCell, noPattern, shown}
 use Rattle.functions.specs.FunctionSheet.{pinCounts}
 use Rattle.functions.specs.Inside.{pinsAt, RowHolds, RowsHold}
 

@@ -1,7 +1,7 @@
 -- A library that was read, the function sheet that was read with its pin counts, and the answer.
-use Prim.Native.Nat.{ℕ, _+_, _*_, _≤_, _<_, _^_}
-use mathlib.Core.Path.{_≡_, refl, sym, ap, ap₂, subst, _∙_}
-use mathlib.Core.List.{List, map}
+use Prim.Native.Nat.{ℕ, _+_, _*_, _<_}
+use mathlib.Core.Path.{_≡_, sym, ap, subst, _∙_}
+use mathlib.Core.List.{List}
 use native.Mathlib.Omega.{arith}
 use lib.ListN.{length, getD, take, replicate, length-map, length-replicate}
 use lib.Seq.{getD-take, length-sets}
@@ -20,14 +20,14 @@ use Rattle.sheets.specs.declared.library.LibraryRecord.{LibraryRecord}
 use Rattle.sheets.specs.declared.library.LibraryRead.{LibraryRead}
 use Rattle.sheets.specs.LibrarySheet.{library}
 use Rattle.sheets.specs.Public.{LibraryIs}
-use Rattle.sheets.specs.Report.{LibraryCounts, libraryNumber}
+use Rattle.sheets.specs.Report.{LibraryCounts, libraryNumber, countsOf, afterLibrary}
 use Rattle.sheets.proofs.Laws.{padded-at}
 use Rattle.sheets.proofs.Patterns.{noCell}
 use Rattle.sheets.proofs.Whole.{number-bounds}
 use Rattle.sheets.proofs.Held.{row-count, rows-filled}
 use Rattle.functions.specs.declared.FunctionsRead.{FunctionsRead}
 use Rattle.functions.specs.FunctionSheet.{pinCounts, function, functionSheet}
-use Rattle.functions.specs.Report.{countsOf, drawingsJudged, functionsNumber, functionsJudged, withFunctions, functionsReport}
+use Rattle.functions.specs.Report.{drawingsJudged, functionsNumber, functionsJudged, functionsReport}
 use Rattle.functions.specs.Inside.{RowsHold, PinsFew, FunctionsAre, Stated}
 use Rattle.functions.proofs.Reading.{field-small}
 use Rattle.functions.proofs.Judged.{judged-same, InLimits, refusal-limits, drawings-limits}
@@ -80,7 +80,6 @@ module _ {l : Library} (sound : SoundLibrary l) where
         judged-same (r .functions) (x .0) stands (countsOf l) 0 (patterns l) ∙ sym (ap (λ (q : Scan). functionsJudged l (x .0, q)) (sym (h .scan-is) ∙ e))
 
     pub sheet-limits : InLimits (drawingsJudged (r .functions) (countsOf l) 0 (patterns l))
-    unfolding countsOf
     sheet-limits = drawings-limits (r .functions) (countsOf l) (sound .few-cells) (sound .few-patterns) 0 (patterns l) (omega (arith, sound .few-patterns))
 
     pub sheet-refused : (f : Fault) (p n : ℕ) → r .scan ≡ Refused f p → n ≡ libraryNumber f → refused (29 + n) p ≡ functionsJudged l (functionSheet s (pinCounts l) start)
@@ -95,13 +94,16 @@ module _ {l : Library} (sound : SoundLibrary l) where
 
 -- What is said of a library that was read.
 module _ (ls fs : List ℕ) (read : LibraryRead) (h : LibraryIs ls read) where
+  abbrev said : Scan → Answer LibraryCounts
+  said q = afterLibrary (λ l. functionsJudged l (functionSheet fs (pinCounts l) start)) (library ls start .0, q)
+
   pub library-answered : (c : Cursor) → read .scan ≡ At c → (o : Answer LibraryCounts) → o ≡ functionsJudged (library ls start .0) (functionSheet fs (pinCounts (library ls start .0)) start) → o ≡ functionsReport ls fs
-  unfolding functionsReport withFunctions
-  library-answered c e o eo = eo ∙ ap (λ (q : Scan). withFunctions fs (library ls start .0, q)) (sym e ∙ h .scan-is)
+  unfolding functionsReport
+  library-answered c e o eo = eo ∙ ap said (sym e ∙ h .scan-is)
 
   pub library-refused : (f : Fault) (p n : ℕ) → read .scan ≡ Refused f p → n ≡ libraryNumber f → (refused n p ≡ functionsReport ls fs) × InLimits (refused n p)
-  unfolding functionsReport withFunctions
+  unfolding functionsReport
   library-refused f p n e en = (
-    ap (λ (k : ℕ). refused k p) en ∙ ap (λ (q : Scan). withFunctions fs (library ls start .0, q)) (sym e ∙ h .scan-is),
+    ap (λ (k : ℕ). refused k p) en ∙ ap said (sym e ∙ h .scan-is),
     refusal-limits n p (omega (arith, number-bounds f)) (omega (arith, number-bounds f)) (omega (arith, h .near, ap place e)),
   )

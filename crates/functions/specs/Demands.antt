@@ -11,10 +11,10 @@ use Rattle.fields.specs.Promises.{Live}
 use Rattle.fields.specs.Answer.{Answer, refused, success}
 use Rattle.sheets.specs.Model.{Library, Pattern, patterns}
 use Rattle.sheets.specs.LibrarySheet.{library}
-use Rattle.sheets.specs.Report.{LibraryCounts}
+use Rattle.sheets.specs.Report.{LibraryCounts, countsOf, libraryReport}
 use Rattle.functions.specs.Function.{settings, value}
 use Rattle.functions.specs.FunctionSheet.{pinCounts}
-use Rattle.functions.specs.Report.{tornNumber, tailNumber, otherNumber, countsOf}
+use Rattle.functions.specs.Report.{tornNumber, tailNumber, otherNumber}
 
 -- The first bit of the field of the cell with a number, where the cells have so many pins: the fields of the cells before stand in front of it. After the last cell it is the first bit after all fields.
 unfoldable pub firstBit : List ℕ → ℕ → ℕ
@@ -69,6 +69,8 @@ LibrarySound ls = Live (library ls start .1)
 
 -- When each answer is said to the library sheet ls and the function sheet fs.
 pub record FunctionDemands (ls fs : List ℕ) (o : Answer LibraryCounts) : Type 0 where
+  -- A library that is not sound is refused as its own judge refuses it, whatever the function sheet.
+  pub library-first : (LibrarySound ls → ⊥) → o ≡ libraryReport ls
   -- Success exactly when both sheets are sound and every drawing of every cell has the stated value in every setting; the counts are the library's.
   pub accepted-exactly : (counts : LibraryCounts) → (o ≡ success counts) ↔ (LibrarySound ls × SheetSound fs (libraryOf ls) × ((p : Pattern) → List·Memᴰ p (patterns (libraryOf ls)) → Right fs (libraryOf ls) p) × (counts ≡ countsOf (libraryOf ls)))
   -- 33 exactly when both sheets are sound and some drawing has another value in some setting; its place is the lowest such pattern.

@@ -10,7 +10,7 @@ use Rattle.sheets.specs.Sound.{SoundLibrary}
 use Rattle.sheets.specs.Layout.{padded, numberAt, symbolsAt, rowWords, patternTable}
 use Rattle.functions.specs.declared.Evaluated.{Evaluated}
 use Rattle.functions.specs.declared.FunctionsRead.{FunctionsRead}
-use Rattle.functions.specs.Function.{settings, pinIn, value, bitOf}
+use Rattle.functions.specs.Function.{settings, value, bitOf}
 use Rattle.functions.specs.FunctionSheet.{pinCounts, functionSheet}
 
 -- ---- 64 settings at once

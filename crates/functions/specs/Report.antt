@@ -10,7 +10,7 @@ use Rattle.fields.specs.Reading.{start}
 use Rattle.fields.specs.Answer.{Answer, refused, success}
 use Rattle.sheets.specs.Model.{Library, Pattern, patterns}
 use Rattle.sheets.specs.LibrarySheet.{library}
-use Rattle.sheets.specs.Report.{libraryNumber, LibraryCounts}
+use Rattle.sheets.specs.Report.{libraryNumber, LibraryCounts, countsOf, afterLibrary}
 use Rattle.functions.specs.Function.{computes}
 use Rattle.functions.specs.FunctionSheet.{pinCounts, functionSheet}
 
@@ -28,10 +28,6 @@ functionsNumber f = libraryNumber f + 29
 abbrev pub otherNumber : ℕ
 otherNumber = 33
 
--- The counts of a library, as its own judge answers them.
-unfoldable pub countsOf : Library → LibraryCounts
-countsOf l = record { cells = length (l .cells); patterns = length (patterns l) }
-
 -- A pattern's drawing computes the function of its cell, by the functions of all cells.
 unfoldable pub isRight : List ℕ → Pattern → Bool
 unfolding computes
@@ -45,16 +41,11 @@ drawingsJudged functions counts n (p ∷ ps) = cond (isRight functions p) (drawi
 
 -- A function sheet as it was read, for a sound library. All of it is read before a drawing is looked at.
 unfoldable pub functionsJudged : Library → List ℕ × Scan → Answer LibraryCounts
-unfolding drawingsJudged functionsNumber countsOf
+unfolding drawingsJudged functionsNumber
 functionsJudged l (functions, At c) = drawingsJudged functions (countsOf l) 0 (patterns l)
 functionsJudged l (functions, Refused f p) = refused (functionsNumber f) p
 
 -- The library's refusal, or what is said of the function sheet.
-unfoldable pub withFunctions : List ℕ → Library × Scan → Answer LibraryCounts
-unfolding functionsJudged pinCounts functionSheet
-withFunctions fs (l, At c) = functionsJudged l (functionSheet fs (pinCounts l) start)
-withFunctions fs (l, Refused f p) = refused (libraryNumber f) p
-
 unfoldable pub functionsReport : (ls fs : List ℕ) → Answer LibraryCounts
-unfolding withFunctions
-functionsReport ls fs = withFunctions fs (library ls start)
+unfolding functionsJudged pinCounts functionSheet
+functionsReport ls fs = afterLibrary (λ l. functionsJudged l (functionSheet fs (pinCounts l) start)) (library ls start)

@@ -1,20 +1,21 @@
 // The judge of functions: whether each drawing of a library computes what the function sheet states of its cell. 64 settings are worked out at once, one in each bit of a word.
 use fields::Scan;
 use shapes::Packed;
+use sheets::Limits;
 use sheets::library::LibraryJudged;
 use sheets::library::LibraryRecord;
 use sheets::library::PatternRow;
 ghost use mathlib.Core.Path.{_≡_};
-ghost use Prim.Native.Nat.{_*_, _≤_, _<_, _^_};
+ghost use Prim.Native.Nat.{_*_, _≤_, _<_};
 ghost use lib.ListN.{length, take};
 ghost use Rattle.fields.specs.Reading.{start};
 ghost use Rattle.fields.specs.Answer.{onSuccess, Bounded};
 ghost use Rattle.sheets.specs.Model.{Shape, Library, Pattern, patterns};
 ghost use Rattle.sheets.specs.Sound.{LibraryHeld};
-ghost use Rattle.sheets.specs.Report.{ofLibraryJudged, LibraryLimits, libraryWord};
+ghost use Rattle.sheets.specs.Report.{ofLibraryJudged, LibraryLimits, libraryWord, countsOf};
 ghost use Rattle.functions.specs.Function.{settings as settingsOf, pinIn};
 ghost use Rattle.functions.specs.FunctionSheet.{pinCounts, functionSheet};
-ghost use Rattle.functions.specs.Report.{countsOf, isRight, functionsReport, drawingsJudged, functionsJudged};
+ghost use Rattle.functions.specs.Report.{isRight, functionsReport, drawingsJudged, functionsJudged};
 ghost use Rattle.functions.specs.Demands.{FunctionDemands};
 ghost use Rattle.functions.specs.Inside.{Tabulates, Standing, EvaluatedIs, RowHolds, Fits, RowsHold, PinsFew, FunctionsAre, Stated};
 
@@ -53,7 +54,7 @@ pub struct Evaluated {
 // The functions that a sheet states, by the number of the cell, and the scan after it.
 pub struct FunctionsRead {
     pub scan: Scan,
-    pub functions: [u64; 64],
+    pub functions: [u64; Limits::CELLS as usize],
 }
 
 // A pin in 64 settings.
@@ -110,11 +111,11 @@ fn computes(row: &[u32], functions: &[u64]) -> bool
 }
 
 // How many pins each cell has, by its number: every cell has a pattern, and each pattern's row says it.
-fn pin_counts(rows: &[u32], total: usize) -> [u8; 64]
+fn pin_counts(rows: &[u32], total: usize) -> [u8; Limits::CELLS as usize]
     requires { ⌜ ((l : Library) × RowsHold l (now rows) total) ⌝ }
     ensures { λ r. ⌜ (length r ≡ 64) × ((l : Library) → RowsHold l (now (rows .entry)) total → take (length (l .cells)) r ≡ pinCounts l) ⌝ }
 {
-    let mut counts = [0u8; 64];
+    let mut counts = [0u8; Limits::CELLS as usize];
     let mut k: usize = 0;
     while k < total {
         let first = PatternRow::WORDS * k;
@@ -125,11 +126,11 @@ fn pin_counts(rows: &[u32], total: usize) -> [u8; 64]
 }
 
 // The function sheet of so many cells with these pins.
-fn read_functions(s: &[u8], counts: [u8; 64], cells: usize) -> FunctionsRead
+fn read_functions(s: &[u8], counts: [u8; Limits::CELLS as usize], cells: usize) -> FunctionsRead
     requires { ⌜ PinsFew counts cells ⌝ }
     ensures { λ r. ⌜ FunctionsAre (now (s .entry)) (take cells counts) r ⌝ }
 {
-    let mut functions = [0u64; 64];
+    let mut functions = [0u64; Limits::CELLS as usize];
     let mut at = fields::begin();
     let mut k: usize = 0;
     while k < cells {

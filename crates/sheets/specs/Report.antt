@@ -38,9 +38,16 @@ libraryWord n = n .cells * 256 + n .patterns
 unfoldable pub ofLibraryWord : ℕ → LibraryCounts
 ofLibraryWord w = record { cells = w / 256; patterns = w % 256 }
 
+abbrev pub countsOf : Library → LibraryCounts
+countsOf l = record { cells = length (l .cells); patterns = length (patterns l) }
+
+-- The library's refusal, or what is said of a sound one.
+abbrev pub afterLibrary : {A : Type 0} → (Library → Answer A) → Library × Scan → Answer A
+afterLibrary f (l, At c) = f l
+afterLibrary f (l, Refused e p) = refused (libraryNumber e) p
+
 unfoldable pub libraryRead : Library × Scan → Answer LibraryCounts
-libraryRead (l, At c) = success (record { cells = length (l .cells); patterns = length (patterns l) })
-libraryRead (l, Refused f p) = refused (libraryNumber f) p
+libraryRead = afterLibrary (λ l. success (countsOf l))
 
 unfoldable pub treeRead : Tree × Scan → Answer ℕ
 treeRead (t, At c) = success (size (t .shape))

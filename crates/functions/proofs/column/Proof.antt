@@ -14,7 +14,7 @@ use Rattle.functions.proofs.column.Statement.{statement}
 use Rattle.functions.proofs.column.Tie as tie
 
 abbrev columns : List ℕ
-columns = 6148914691236517205 ∷ 3689348814741910323 ∷ 1085102592571150095 ∷ 71777214294589695 ∷ 281470681808895 ∷ 4294967295 ∷ []
+columns = 0x5555_5555_5555_5555 ∷ 0x3333_3333_3333_3333 ∷ 0x0f0f_0f0f_0f0f_0f0f ∷ 0x00ff_00ff_00ff_00ff ∷ 0x0000_ffff_0000_ffff ∷ 0x0000_0000_ffff_ffff ∷ []
 
 -- A column is a word, and in each setting it has its pin.
 abbrev right : ℕ → ℕ → Bool

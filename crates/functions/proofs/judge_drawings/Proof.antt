@@ -5,16 +5,12 @@ use mathlib.Core.Path.{_≡_, refl, sym, ap₂, _∙_}
 use lib.ListN.{length}
 use Rattle.fields.specs.Answer.{success}
 use Rattle.sheets.specs.Model.{Library, patterns}
-use Rattle.sheets.specs.Report.{ofLibraryJudged}
-use Rattle.functions.specs.Report.{countsOf}
+use Rattle.sheets.specs.Report.{ofLibraryJudged, countsOf}
 use Rattle.functions.specs.Inside.{RowsHold, Stated}
-use Rattle.functions.proofs.Rows.{patternAt, rows-long, rows-few, known, row-holds}
+use Rattle.functions.proofs.Rows.{patternAt, rows-long, rows-few, row-holds}
 use Rattle.functions.proofs.Judged.{Judging, judged-other, judged-right, judged-all, stated-fits}
 use Rattle.functions.proofs.judge_drawings.Statement.{statement}
 use Rattle.functions.proofs.judge_drawings.Tie as tie
-use Rattle.functions.proofs.judge_drawings.Reads as reads
-use Rattle.functions.proofs.judge_drawings.Lts as lts
-use Rattle.functions.proofs.computes.Reads as computes-reads
 
 abbrev Inv-loop : tie.InvT-loop
 Inv-loop rows total functions cells k₀ k =
@@ -27,44 +23,35 @@ Inv-loop rows total functions cells k₀ k =
 abbrev μ-loop : tie.MeasureT-loop
 μ-loop rows total functions cells k₀ k = total - k
 
--- src/lib.rt:151:5
 loop-holds : tie.Need-loop-holds Inv-loop μ-loop
 loop-holds c =
     let p = c .before .before .pre in
     (omega arith, rows-few (p .1 .1), rows-long (p .1 .1), p .0, λ l h g. refl)
 
--- src/lib.rt:152:21
 mul-first : tie.Need-mul-first Inv-loop μ-loop
 mul-first c = record { fits = omega arith }
 
--- src/lib.rt:153:35
 add-computes : tie.Need-add-computes Inv-loop μ-loop
 add-computes c = record { fits = omega arith }
 
--- src/lib.rt:153:22
 mul-computes : tie.Need-mul-computes Inv-loop μ-loop
 mul-computes c = record { fits = omega arith }
 
--- src/lib.rt:153:22
 sub-computes : tie.Need-sub-computes Inv-loop μ-loop
 sub-computes c = omega arith
 
--- src/lib.rt:153:22
 part-computes-start : tie.Need-part-computes-start Inv-loop μ-loop
 part-computes-start c = omega arith
 
--- src/lib.rt:153:22
 part-computes-end : tie.Need-part-computes-end Inv-loop μ-loop
 part-computes-end c = omega arith
 
--- src/lib.rt:153:13
 computes-requires : tie.Need-computes-requires Inv-loop μ-loop
 computes-requires c κs =
     let p = c .before .before .before .before .before .pre in
     let k = c .before .before .loop .k in
     (p .0, (patternAt (p .1 .0) k, row-holds (p .1 .1) k (omega arith) (46 * k + 46 - 46 * k) (omega arith)))
 
--- src/lib.rt:154:13
 returns : tie.Need-returns Inv-loop μ-loop
 unfolding ofLibraryJudged
 returns c =
@@ -75,15 +62,12 @@ returns c =
     judged-other (first .functions .now) (countsOf l) (patterns l) (i .k) (omega (arith, h .total-is)) (i .inv .4 l h g)
     (sym (call .ensures (patternAt l (i .k)) (row-holds h (i .k) (omega arith) (46 * i .k + 46 - 46 * i .k) (omega arith)) (stated-fits h (i .k) (omega arith) (first .functions .now) g)) ∙ not-true (call .result) (c .if1 .taken))
 
--- src/lib.rt:156:9
 add-k : tie.Need-add-k Inv-loop μ-loop
 add-k c = record { fits = omega arith }
 
--- src/lib.rt:151:5
 loop-less : tie.Need-loop-less Inv-loop μ-loop
 loop-less c = omega arith
 
--- src/lib.rt:151:5
 loop-again : tie.Need-loop-again Inv-loop μ-loop
 loop-again c =
     let first = c .before .before .before .before .before .before .before .args in
@@ -98,9 +82,8 @@ loop-again c =
           (sym (call .ensures (patternAt l (i .k)) (row-holds h (i .k) (omega arith) (46 * i .k + 46 - 46 * i .k) (omega arith)) (stated-fits h (i .k) (omega arith) (first .functions .now) g)) ∙ not-false (call .result) (c .if1 .left)),
     )
 
--- src/lib.rt:146:1
 returns-2 : tie.Need-returns-2 Inv-loop μ-loop
-unfolding ofLibraryJudged countsOf
+unfolding ofLibraryJudged
 returns-2 c =
     let first = c .before .before .before .before .args in
     let i = c .before .loop in

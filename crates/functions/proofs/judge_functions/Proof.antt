@@ -1,7 +1,6 @@
 use borrow.Author.Needs.{needs}
-use native.Mathlib.Omega.{arith}
-use mathlib.Core.Path.{_≡_, sym, ap, subst, _∙_}
-use Rattle.fields.specs.Reading.{start, place}
+use mathlib.Core.Path.{sym, subst}
+use Rattle.fields.specs.Reading.{start}
 use Rattle.sheets.specs.LibrarySheet.{library}
 use Rattle.sheets.specs.Report.{ofLibraryJudged}
 use Rattle.sheets.proofs.Held.{library-laid}
@@ -11,15 +10,12 @@ use Rattle.functions.proofs.Demands.{demands}
 use Rattle.functions.proofs.judge_functions.Statement.{statement}
 use Rattle.functions.proofs.judge_functions.Tie as tie
 
--- src/lib.rt:191:9
 read-library-requires : tie.Need-read-library-requires
 read-library-requires c κs = search needs
 
--- src/lib.rt:194:24
 enum-told : tie.Need-enum-told
 enum-told c = search needs
 
--- src/lib.rt:194:24
 with-library-requires : tie.Need-with-library-requires
 with-library-requires c κs =
     let a = c .before .before .before .before .before .args in
@@ -27,15 +23,12 @@ with-library-requires c κs =
     let told = c .enum-told .given in
     (library (a .library .now) start .0, library-laid (a .library .now) (read .result) (read .ensures) (told .0 .0) (told .1))
 
--- src/lib.rt:195:23
 enum-known-scan : tie.Need-enum-known-scan
 enum-known-scan c = search needs
 
--- src/lib.rt:196:36
 library-number-requires : tie.Need-library-number-requires
 library-number-requires c κs = search needs
 
--- src/lib.rt:186:1
 returns : tie.Need-returns
 returns c =
     let a = c .before .before .before .before .before .before .args in
@@ -46,7 +39,6 @@ returns c =
     let e = library-answered ls (a .functions .now) (read .result) (read .ensures) (told .0 .0) (told .1) (ofLibraryJudged (call .result)) (call .ensures .0 (library ls start .0) (library-laid ls (read .result) (read .ensures) (told .0 .0) (told .1))) in
     (e, (subst (FunctionDemands ls (a .functions .now)) (sym e) (demands ls (a .functions .now)), call .ensures .1))
 
--- src/lib.rt:186:1
 returns-2 : tie.Need-returns-2
 unfolding ofLibraryJudged
 returns-2 c =

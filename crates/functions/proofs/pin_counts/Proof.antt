@@ -1,14 +1,12 @@
 use native.Mathlib.Omega.{arith}
 use Prim.Native.Nat.{_-_, _*_, _≤_}
 use mathlib.Core.Path.{_≡_, refl, _∙_}
-use lib.ListN.{length, length-set, length-replicate}
+use lib.ListN.{length, length-set}
 use Rattle.sheets.specs.Model.{Library}
 use Rattle.functions.specs.Inside.{RowsHold}
 use Rattle.functions.proofs.Rows.{rows-long, rows-few, known, number-at, pins-at, Noted, noted-more, noted-all}
 use Rattle.functions.proofs.pin_counts.Statement.{statement}
 use Rattle.functions.proofs.pin_counts.Tie as tie
-use Rattle.functions.proofs.pin_counts.Reads as reads
-use Rattle.functions.proofs.pin_counts.Lts as lts
 
 abbrev Inv-loop : tie.InvT-loop
 Inv-loop rows total counts₀ k₀ counts k =
@@ -21,68 +19,54 @@ Inv-loop rows total counts₀ k₀ counts k =
 abbrev μ-loop : tie.MeasureT-loop
 μ-loop rows total counts₀ k₀ counts k = total - k
 
--- src/lib.rt:116:5
 loop-holds : tie.Need-loop-holds Inv-loop μ-loop
 loop-holds c = (omega arith, rows-few (c .pre .1), rows-long (c .pre .1), refl, λ l h i j. absurd (omega arith))
 
--- src/lib.rt:117:21
 mul-first : tie.Need-mul-first Inv-loop μ-loop
 mul-first c = record { fits = omega arith }
 
--- src/lib.rt:118:64
 add-counts : tie.Need-add-counts Inv-loop μ-loop
 add-counts c = record { fits = omega arith }
 
--- src/lib.rt:118:59
 mul-counts : tie.Need-mul-counts Inv-loop μ-loop
 mul-counts c = record { fits = omega arith }
 
--- src/lib.rt:118:59
 shared-slice-read-counts : tie.Need-shared-slice-read-counts Inv-loop μ-loop
 shared-slice-read-counts c = omega arith
 
--- src/lib.rt:118:59
 cast-counts : tie.Need-cast-counts Inv-loop μ-loop
 cast-counts c =
     let h = c .before .before .before .pre .1 in
     let k = c .before .before .loop .k in
     record { fits = omega (arith, pins-at h k (omega arith), known h k (omega arith) .cell .few-pins) }
 
--- src/lib.rt:118:21
 add-counts-2 : tie.Need-add-counts-2 Inv-loop μ-loop
 add-counts-2 c = record { fits = omega arith }
 
--- src/lib.rt:118:16
 mul-counts-2 : tie.Need-mul-counts-2 Inv-loop μ-loop
 mul-counts-2 c = record { fits = omega arith }
 
--- src/lib.rt:118:16
 shared-slice-read-counts-2 : tie.Need-shared-slice-read-counts-2 Inv-loop μ-loop
 shared-slice-read-counts-2 c = omega arith
 
--- src/lib.rt:118:16
 cast-counts-2 : tie.Need-cast-counts-2 Inv-loop μ-loop
 cast-counts-2 c =
     let h = c .before .before .before .before .pre .1 in
     let k = c .before .before .before .loop .k in
     record { fits = omega (arith, number-at h k (omega arith), known h k (omega arith) .number-small, h .sound .few-cells) }
 
--- src/lib.rt:118:9
 array-write-counts : tie.Need-array-write-counts Inv-loop μ-loop
 array-write-counts c =
     let h = c .before .before .before .before .pre .1 in
     let k = c .before .before .before .loop .k in
     omega (arith, number-at h k (omega arith), known h k (omega arith) .number-small, h .sound .few-cells)
 
--- src/lib.rt:119:9
 add-k : tie.Need-add-k Inv-loop μ-loop
 add-k c = record { fits = omega arith }
 
--- src/lib.rt:116:5
 loop-less : tie.Need-loop-less Inv-loop μ-loop
 loop-less c = omega arith
 
--- src/lib.rt:116:5
 loop-again : tie.Need-loop-again Inv-loop μ-loop
 loop-again c =
     let i = c .before .before .before .loop in
@@ -94,7 +78,6 @@ loop-again c =
       λ l h. noted-more h (i .counts) (i .inv .3) (i .k) _ _ (omega arith) refl refl (i .inv .4 l h),
     )
 
--- src/lib.rt:110:1
 returns : tie.Need-returns Inv-loop μ-loop
 returns c =
     let i = c .before .loop in

@@ -1,7 +1,7 @@
 use native.Mathlib.Omega.{arith}
-use Prim.Native.Nat.{ℕ, _+_, _-_, _*_, _≤_}
+use Prim.Native.Nat.{ℕ, _-_, _*_, _≤_}
 use mathlib.Core.Path.{_≡_, refl, sym, ap, _∙_}
-use mathlib.Core.List.{List, map, map-id}
+use mathlib.Core.List.{map, map-id}
 use lib.ListN.{length, take}
 use lib.Seq.{length-take-le}
 use Rattle.fields.specs.Reading.{place, start, times, ended}
@@ -14,12 +14,6 @@ use Rattle.functions.specs.Inside.{PinsFew}
 use Rattle.functions.proofs.Reading.{function-is}
 use Rattle.functions.proofs.read_functions.Statement.{statement}
 use Rattle.functions.proofs.read_functions.Tie as tie
-use Rattle.functions.proofs.read_functions.Reads as reads
-use Rattle.functions.proofs.read_functions.Lts as lts
-use Rattle.fields.proofs.begin.Reads as begin-reads
-use Rattle.fields.proofs.end.Reads as end-reads
-use Rattle.fields.proofs.wide.Reads as wide-reads
-use Rattle.functions.proofs.settings.Reads as settings-reads
 
 abbrev Inv-loop : tie.InvT-loop
 Inv-loop s cells counts functions₀ at₀ k₀ functions at k =
@@ -33,48 +27,37 @@ Inv-loop s cells counts functions₀ at₀ k₀ functions at k =
 abbrev μ-loop : tie.MeasureT-loop
 μ-loop s cells counts functions₀ at₀ k₀ functions at k = cells - k
 
--- src/lib.rt:130:9
 begin-requires : tie.Need-begin-requires Inv-loop μ-loop
 begin-requires c κs = tt
 
--- src/lib.rt:132:5
 loop-holds : tie.Need-loop-holds Inv-loop μ-loop
 unfolding times
 loop-holds c = (omega arith, c .before .before .pre, refl, c .begin .ensures .0, omega (arith, c .begin .ensures .1))
 
--- src/lib.rt:133:48
 array-read-settings : tie.Need-array-read-settings Inv-loop μ-loop
 array-read-settings c = omega (arith, c .before .loop .inv .1 .few-cells)
 
--- src/lib.rt:133:48
 cast-settings : tie.Need-cast-settings Inv-loop μ-loop
 cast-settings c = record { fits = omega (arith, c .before .loop .inv .1 .few-pins (c .before .loop .k) (omega arith)) }
 
--- src/lib.rt:133:39
 settings-requires : tie.Need-settings-requires Inv-loop μ-loop
 settings-requires c κs = c .before .loop .inv .1 .few-pins (c .before .loop .k) (omega arith)
 
--- src/lib.rt:133:13
 wide-requires : tie.Need-wide-requires Inv-loop μ-loop
 wide-requires c κs = omega (arith, c .before .before .loop .inv .4, c .before .before .loop .inv .1 .few-cells)
 
--- src/lib.rt:135:9
 mul-functions : tie.Need-mul-functions Inv-loop μ-loop
 mul-functions c = record { fits = omega (arith, c .before .before .before .loop .inv .1 .few-cells) }
 
--- src/lib.rt:135:9
 array-write-functions : tie.Need-array-write-functions Inv-loop μ-loop
 array-write-functions c = omega (arith, c .before .before .before .loop .inv .1 .few-cells)
 
--- src/lib.rt:136:9
 add-k : tie.Need-add-k Inv-loop μ-loop
 add-k c = record { fits = omega (arith, c .before .before .before .loop .inv .1 .few-cells) }
 
--- src/lib.rt:132:5
 loop-less : tie.Need-loop-less Inv-loop μ-loop
 loop-less c = omega arith
 
--- src/lib.rt:132:5
 loop-again : tie.Need-loop-again Inv-loop μ-loop
 loop-again c =
     let a = c .before .before .before .before .before .before .args in
@@ -89,11 +72,9 @@ loop-again c =
       omega (arith, c .wide .ensures .near, i .inv .4, c .before .settings .ensures .2),
     )
 
--- src/lib.rt:139:15
 end-requires : tie.Need-end-requires Inv-loop μ-loop
 end-requires c κs = omega (arith, c .before .loop .inv .4, c .before .loop .inv .1 .few-cells)
 
--- src/lib.rt:125:1
 returns : tie.Need-returns Inv-loop μ-loop
 unfolding functionSheet
 returns c =

@@ -1,7 +1,6 @@
 use borrow.Author.Needs.{needs}
 use native.Mathlib.Omega.{arith}
-use Prim.Native.Nat.{ℕ, _*_, _%_, _^_, _≤_, _<_}
-use mathlib.Core.Path.{_≡_}
+use Prim.Native.Nat.{_^_, _≤_}
 use lib.Pow.{pow-mono, pow-pos}
 use Rattle.functions.proofs.settings.Statement.{statement}
 use Rattle.functions.proofs.settings.Tie as tie

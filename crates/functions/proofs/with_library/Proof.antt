@@ -5,10 +5,10 @@ use mathlib.Core.Path.{_≡_, sym, subst, _∙_}
 use lib.Seq.{length-take-le}
 use Rattle.sheets.specs.Model.{Library, patterns}
 use Rattle.sheets.specs.Sound.{LibraryHeld}
-use Rattle.sheets.specs.Report.{ofLibraryJudged}
+use Rattle.sheets.specs.Report.{ofLibraryJudged, countsOf}
 use Rattle.sheets.proofs.Held.{table-whole, few-rows, cell-count}
 use Rattle.functions.specs.FunctionSheet.{pinCounts}
-use Rattle.functions.specs.Report.{countsOf, drawingsJudged}
+use Rattle.functions.specs.Report.{drawingsJudged}
 use Rattle.functions.specs.Inside.{FunctionsAre}
 use Rattle.functions.proofs.Judged.{InLimits}
 use Rattle.functions.proofs.Sheet.{rows-hold, pins-few, own-pins, functions-long, stated, sheet-judged, sheet-limits, sheet-refused, refused-limits}
