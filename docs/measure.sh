@@ -32,7 +32,7 @@ table() { # WHO ROWS: the instructions of each on each row
     for row in $2; do printf '| %s |' "$row"; for w in $1; do printf ' %s |' "$(instructions "$w" "$row")"; done; echo; done
 }
 
-stack() { # WHO ROW: the greatest stack of a map, or of a judgement of its cover, in bytes
+stack() { # WHO ROW: the greatest stack of a map, or of a judgement, in bytes
     valgrind --tool=massif --stacks=yes --heap=no --massif-out-file="$scratch/ms" "$bench" repeat 2 "$1" "$2" >/dev/null 2>&1
     awk -F= '/^mem_stacks_B/ && $2 > m { m = $2 } END { print m }' "$scratch/ms"
 }
@@ -51,7 +51,7 @@ taking turns in one run (medians of 31 rounds), each answer compared with the ex
 problem; \`chain\` and \`comb\` are the worst that were found before inputs could be exchanged; \`deep\` has nearly nothing to find and the deepest choice; \`full\` and \`crosscomb\` have many crossings; \`driven\` is \`typical\` with all leaves driven.
 
 The judges are timed on the longest sound library, the longest sound tree, whose leaves are all driven, and the same tree with plain leaves; the judge of functions on a library as long and its function sheet, all of it right (\`longest_functions\`). Beside the product stand the separate implementation, which keeps what it reads and works a drawing out setting by setting (\`reference\`), and judges
-written by hand for speed, which take each field from one word of 64 bits, check every rule and keep nothing, divide places, which the product must not, and work a drawing out as they read it (\`reference/src/wordwise.rs\`, \`wordwise\`).
+written by hand for speed, which take each field from one word of 64 bits (a function of six pins from two), check every rule, keep nothing but what each drawing computes and each cell's counts, and divide places, which the product must not (\`reference/src/wordwise.rs\`, \`wordwise\`).
 
 The bars that we set: on chain and comb no more instructions than before inputs could be exchanged; on full and crosscomb at most 1.25 times plain Rust with all savings
 (crossings that are ruled out together, points that are kept, matches that are passed over: \`plain_kept\`); faster than merging on every row but deep; for the judges of sheets half of the time
@@ -74,6 +74,8 @@ The greatest stack, by massif, in bytes, of which main and the benchmark have a 
 | row | map | judge of its cover |
 |---|---|---|
 $(for row in $rows; do echo "| $row | $(stack product "$row") | $(stack judge "$row") |"; done)
+
+The judge of functions, on \`longest_functions\`: $(stack product longest_functions).
 
 ## Agreement on fresh cases
 

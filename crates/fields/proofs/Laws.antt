@@ -18,7 +18,7 @@ use Rattle.fields.specs.declared.Got.{Got}
 use Rattle.fields.specs.declared.Scan.{Scan}
 use Rattle.fields.specs.declared.Scan.the-variants.{At, Refused}
 use Rattle.fields.specs.declared.Fault.{Fault}
-use Rattle.fields.specs.declared.Fault.the-variants.{Truncated, Tail, Range}
+use Rattle.fields.specs.declared.Fault.the-variants.{Tail, Range}
 use Rattle.fields.specs.declared.Verdict.{Verdict}
 use Rattle.fields.specs.declared.Verdict.the-variants.{Sound, Faulty}
 use Rattle.fields.specs.Reading.{Reader, times, start, place, free, within, field, taken, settled, ended}
@@ -42,10 +42,22 @@ read s i w = go (leb (i + w) (8 * length s))
     go true = reads (value-small s i w w (omega arith))
     go false = ends
 
--- The cursor after what was found.
+-- The value that was found, and the cursor.
+abbrev foundValue : FieldRead.FieldRead → ℕ
+foundValue FieldRead.the-variants.Truncated = 0
+foundValue (FieldRead.the-variants.Value x n) = x
+
 abbrev pub cursorIn : FieldRead.FieldRead → Cursor
 cursorIn FieldRead.the-variants.Truncated = cursorAt 0
 cursorIn (FieldRead.the-variants.Value x n) = n
+
+-- What was found has w bits.
+pub found-fits : (s : List ℕ) (i w x : ℕ) (n : Cursor) (f : FieldRead.FieldRead) → f ≡ fieldAt s i w → f ≡ FieldRead.the-variants.Value x n → x < 2 ^ w
+found-fits s i w x n f e q = subst (λ (v : ℕ). v < 2 ^ w) (ap foundValue (sym e ∙ q)) (go (fieldAt s i w) (read s i w))
+  where
+    go : (f : FieldRead.FieldRead) → Read s i w f → foundValue f < 2 ^ w
+    go f ends = pow-pos w
+    go f (reads l) = l
 
 -- The greatest value that a verdict lets pass.
 abbrev pub Passes : (ℕ → Verdict) → ℕ → ℕ → Type 0

@@ -16,6 +16,7 @@ pub record Reads (r : Got) (x : ℕ × Scan) (reach most : ℕ) : Type 0 where
   pub near : place (r .scan) ≤ reach
   pub small : r .value ≤ most
 
+-- The same of a field of up to 64 bits.
 abbrev pub ReadsWide : GotWide → ℕ × Scan → (reach most : ℕ) → Type 0
 ReadsWide r = Reads (record { value = r .value; scan = r .scan })
 

@@ -58,7 +58,27 @@ pub fn place_of(scan: Scan) -> usize
     }
 }
 
-// A field of up to 64 bits, of any value.
+// A field of up to 24 bits, of any value.
+pub fn raw(scan: Scan, s: &[u8], width: usize) -> Got
+    requires { ⌜ (place scan < 2 ^ 32) × (width ≤ 24) ⌝ }
+    ensures { λ r. ⌜ Reads r (field (now (s .entry)) width free scan) (place scan + width) (2 ^ width - 1) ⌝ }
+{
+    let Scan::At(c) = scan else {
+        return Got { value: 0, scan };
+    };
+    let FieldRead::Value(value, next) = c.field(s, width) else {
+        return Got {
+            value: 0,
+            scan: Scan::Refused(Fault::Truncated, c.place()),
+        };
+    };
+    Got {
+        value: value as u32,
+        scan: Scan::At(next),
+    }
+}
+
+// The same of a field of up to 64 bits. A field of up to 24 is not read through it: that made the judges of sheets slower.
 pub fn wide(scan: Scan, s: &[u8], width: usize) -> GotWide
     requires { ⌜ (place scan < 2 ^ 32) × (width ≤ 64) ⌝ }
     ensures { λ r. ⌜ ReadsWide r (field (now (s .entry)) width free scan) (place scan + width) (2 ^ width - 1) ⌝ }
@@ -75,19 +95,6 @@ pub fn wide(scan: Scan, s: &[u8], width: usize) -> GotWide
     GotWide {
         value,
         scan: Scan::At(next),
-    }
-}
-
-// A field of any value.
-pub fn raw(scan: Scan, s: &[u8], width: usize) -> Got
-    requires { ⌜ (place scan < 2 ^ 32) × (width ≤ 24) ⌝ }
-    ensures { λ r. ⌜ Reads r (field (now (s .entry)) width free scan) (place scan + width) (2 ^ width - 1) ⌝ }
-{
-    let got = wide(scan, s, width);
-    let after = got.scan;
-    Got {
-        value: got.value as u32,
-        scan: after,
     }
 }
 

@@ -23,7 +23,7 @@ use Rattle.sheets.proofs.Sound.{library-limits}
 use Rattle.sheets.proofs.Whole.{number-bounds}
 use Rattle.functions.specs.Function.{settings, value, bitOf, computes}
 use Rattle.functions.specs.FunctionSheet.{pinCounts, functionSheet}
-use Rattle.functions.specs.Report.{otherNumber, tornNumber, tailNumber, isRight, drawingsJudged, functionsNumber, functionsJudged, functionsReport}
+use Rattle.functions.specs.Report.{otherNumber, tornNumber, tailNumber, isRight, drawingsJudged, functionsNumber, functionsJudged, sheetJudged, functionsReport}
 use Rattle.functions.specs.Demands.{firstBit, Right, Other, SheetSound, FirstOther, Torn, BadTail, libraryOf, LibrarySound, FunctionDemands}
 use Rattle.functions.proofs.Words.{bit-read}
 use Rattle.functions.proofs.Every.{every-each, every-some}
@@ -128,7 +128,7 @@ module _ (ls fs : List ℕ) where
     right : LibrarySound ls → SheetSound fs l → AllRight → Case (success (countsOf l))
 
   -- The sheet and the drawings, for a sound library.
-  sheet-case : LibrarySound ls → Case (functionsJudged l (functionSheet fs (pinCounts l) start))
+  sheet-case : LibrarySound ls → Case (sheetJudged fs l)
   unfolding functionsJudged functionsNumber libraryNumber
   sheet-case live = go (functionSheet fs (pinCounts l) start .1) (ends fs (pinCounts l))
     where
@@ -148,7 +148,7 @@ module _ (ls fs : List ℕ) where
   unfolding functionsReport
   case = go (library ls start .1) refl
     where
-      go : (q : Scan) → library ls start .1 ≡ q → Case (afterLibrary (λ m. functionsJudged m (functionSheet fs (pinCounts m) start)) (l, q))
+      go : (q : Scan) → library ls start .1 ≡ q → Case (afterLibrary (sheetJudged fs) (l, q))
       go (At c) e = sheet-case (subst Live (sym e) tt)
       go (Refused f p) e = unsound (libraryNumber f) p (number-bounds f .0) (number-bounds f .1) (λ h. subst Live e h)
 
@@ -261,7 +261,7 @@ module _ (ls fs : List ℕ) where
   unfolding functionsReport libraryReport libraryRead
   library-said bad = go (library ls start .1) bad
     where
-      go : (q : Scan) → (Live q → ⊥) → afterLibrary (λ m. functionsJudged m (functionSheet fs (pinCounts m) start)) (l, q) ≡ afterLibrary (λ m. success (countsOf m)) (l, q)
+      go : (q : Scan) → (Live q → ⊥) → afterLibrary (sheetJudged fs) (l, q) ≡ afterLibrary (λ m. success (countsOf m)) (l, q)
       go (At c) h = absurd (h tt)
       go (Refused f p) h = refl
 

@@ -11,11 +11,11 @@ use lib.Dec.{eqb}
 use lib.Pow.{shr-lt, pow-mono}
 use lib.ListN.{length, getD}
 use Rattle.sheets.specs.Model.{Shape, Pattern}
-use Rattle.sheets.specs.Layout.{numberAt, symbolsAt}
+use Rattle.sheets.specs.Layout.{numberAt, symbolsAt, pinsAt}
 use Rattle.functions.specs.declared.Evaluated.{Evaluated}
 use Rattle.functions.specs.Function.{settings, value, bitOf, every, computes}
 use Rattle.functions.specs.Report.{isRight}
-use Rattle.functions.specs.Inside.{wordSettings, Tabulates, EvaluatedIs, pinsAt, RowHolds, Fits}
+use Rattle.functions.specs.Inside.{wordSettings, Tabulates, EvaluatedIs, RowHolds, Fits}
 use Rattle.functions.proofs.Words.{bits-same, bit-first}
 
 -- What passes passes at each, and the other way round.

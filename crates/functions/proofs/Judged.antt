@@ -8,7 +8,7 @@ use native.Mathlib.Omega.{arith}
 use lib.ListN.{length, getD, drop, drop-of-length-le}
 use lib.Seq.{drop-cons}
 use Rattle.fields.specs.Answer.{Answer, refused, success, onSuccess, Bounded}
-use Rattle.sheets.specs.Model.{Library, Pattern, patterns}
+use Rattle.sheets.specs.Model.{Library, Pattern}
 use Rattle.sheets.specs.Reach.{libraryBits}
 use Rattle.sheets.specs.Report.{LibraryCounts, libraryWord, LibraryLimits}
 use Rattle.sheets.proofs.Patterns.{noPattern}

@@ -1,7 +1,7 @@
 -- The rows of a sound library's patterns: what each holds, and the pin counts that they say together.
 use Prim.Native.Nat.{ℕ, _+_, _*_, _≤_, _<_}
 use mathlib.Core.Path.{_≡_, refl, sym, ap, subst, _∙_}
-use mathlib.Core.Logic.{_⊎_, ⊎-elim}
+use mathlib.Core.Logic.{⊎-elim}
 use mathlib.Core.List.{List}
 use native.Mathlib.Decide.{ℕ-discrete}
 use native.Mathlib.Nat.{zero-add, eq-or-lt-of-le}
@@ -11,10 +11,10 @@ use lib.Seq.{getD-take, getD-drop, getD-set-same, getD-set-other, ext-getD, leng
 use Rattle.fields.proofs.Lists.{at-mem, at-map}
 use Rattle.shapes.proofs.Drawn.{length-symbols}
 use Rattle.sheets.specs.Model.{Cell, Library, Pattern, patterns}
-use Rattle.sheets.specs.Layout.{rowWords}
+use Rattle.sheets.specs.Layout.{numberAt, rowWords, pinsAt}
 use Rattle.sheets.proofs.Patterns.{SoundPattern, sound-pattern, Told, row-told, table-long, noCell, noPattern, shown}
 use Rattle.functions.specs.FunctionSheet.{pinCounts}
-use Rattle.functions.specs.Inside.{pinsAt, RowHolds, RowsHold}
+use Rattle.functions.specs.Inside.{RowHolds, RowsHold}
 
 abbrev pub patternAt : Library → ℕ → Pattern
 patternAt l k = getD (patterns l) k noPattern
@@ -64,8 +64,8 @@ module _ {l : Library} {rows : List ℕ} {total : ℕ} (h : RowsHold l rows tota
     word-at : (c : ℕ) → c < rowWords → getD rows (rowWords * k + c) 0 ≡ getD (take rowWords (drop (rowWords * k) rows)) c 0
     word-at c small = sym (getD-take rowWords (drop (rowWords * k) rows) c 0 small ∙ getD-drop (rowWords * k) rows c 0)
 
-    pub number-at : getD rows (rowWords * k + 0) 0 ≡ patternAt l k .cellNumber
-    number-at = word-at 0 (omega arith) ∙ row-holds rowWords refl .number-is
+    pub number-at : getD rows (rowWords * k + numberAt) 0 ≡ patternAt l k .cellNumber
+    number-at = word-at numberAt (omega arith) ∙ row-holds rowWords refl .number-is
 
     pub pins-at : getD rows (rowWords * k + pinsAt) 0 ≡ length (patternAt l k .cell .pins)
     pins-at = word-at pinsAt (omega arith) ∙ row-holds rowWords refl .pins-are
@@ -80,7 +80,7 @@ abbrev pub Noted : Library → List ℕ → ℕ → Type 0
 Noted l counts k = (i : ℕ) → i < k → getD counts (patternAt l i .cellNumber) 0 ≡ getD (pinCounts l) (patternAt l i .cellNumber) 0
 
 module _ {l : Library} {rows : List ℕ} {total : ℕ} (h : RowsHold l rows total) (counts : List ℕ) (long : length counts ≡ 64) where
-  pub noted-more : (k n v : ℕ) → k < total → n ≡ getD rows (rowWords * k + 0) 0 → v ≡ getD rows (rowWords * k + pinsAt) 0 → Noted l counts k → Noted l (set counts n v) (k + 1)
+  pub noted-more : (k n v : ℕ) → k < total → n ≡ getD rows (rowWords * k + numberAt) 0 → v ≡ getD rows (rowWords * k + pinsAt) 0 → Noted l counts k → Noted l (set counts n v) (k + 1)
   noted-more k n v g en ev before i j = go (ℕ-discrete (patternAt l i .cellNumber) n)
     where
       here : n ≡ patternAt l k .cellNumber

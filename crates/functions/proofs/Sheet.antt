@@ -27,7 +27,7 @@ use Rattle.sheets.proofs.Whole.{number-bounds}
 use Rattle.sheets.proofs.Held.{row-count, rows-filled}
 use Rattle.functions.specs.declared.FunctionsRead.{FunctionsRead}
 use Rattle.functions.specs.FunctionSheet.{pinCounts, function, functionSheet}
-use Rattle.functions.specs.Report.{drawingsJudged, functionsNumber, functionsJudged, functionsReport}
+use Rattle.functions.specs.Report.{drawingsJudged, functionsNumber, functionsJudged, sheetJudged, functionsReport}
 use Rattle.functions.specs.Inside.{RowsHold, PinsFew, FunctionsAre, Stated}
 use Rattle.functions.proofs.Reading.{field-small}
 use Rattle.functions.proofs.Judged.{judged-same, InLimits, refusal-limits, drawings-limits}
@@ -73,7 +73,7 @@ module _ {l : Library} (sound : SoundLibrary l) where
     unfolding functionSheet
     stated k g = rw (stands k) (field-small s (pinCounts l) start (length (pinCounts l)) k (omega (arith, count-pins)))
 
-    pub sheet-judged : (c : Cursor) → r .scan ≡ At c → drawingsJudged (r .functions) (countsOf l) 0 (patterns l) ≡ functionsJudged l (functionSheet s (pinCounts l) start)
+    pub sheet-judged : (c : Cursor) → r .scan ≡ At c → drawingsJudged (r .functions) (countsOf l) 0 (patterns l) ≡ sheetJudged s l
     unfolding functionsJudged
     sheet-judged c e =
         let x = functionSheet s (pinCounts l) start in
@@ -82,7 +82,7 @@ module _ {l : Library} (sound : SoundLibrary l) where
     pub sheet-limits : InLimits (drawingsJudged (r .functions) (countsOf l) 0 (patterns l))
     sheet-limits = drawings-limits (r .functions) (countsOf l) (sound .few-cells) (sound .few-patterns) 0 (patterns l) (omega (arith, sound .few-patterns))
 
-    pub sheet-refused : (f : Fault) (p n : ℕ) → r .scan ≡ Refused f p → n ≡ libraryNumber f → refused (29 + n) p ≡ functionsJudged l (functionSheet s (pinCounts l) start)
+    pub sheet-refused : (f : Fault) (p n : ℕ) → r .scan ≡ Refused f p → n ≡ libraryNumber f → refused (29 + n) p ≡ sheetJudged s l
     unfolding functionsJudged functionsNumber
     sheet-refused f p n e en =
         let x = functionSheet s (pinCounts l) start in
@@ -95,9 +95,9 @@ module _ {l : Library} (sound : SoundLibrary l) where
 -- What is said of a library that was read.
 module _ (ls fs : List ℕ) (read : LibraryRead) (h : LibraryIs ls read) where
   abbrev said : Scan → Answer LibraryCounts
-  said q = afterLibrary (λ l. functionsJudged l (functionSheet fs (pinCounts l) start)) (library ls start .0, q)
+  said q = afterLibrary (sheetJudged fs) (library ls start .0, q)
 
-  pub library-answered : (c : Cursor) → read .scan ≡ At c → (o : Answer LibraryCounts) → o ≡ functionsJudged (library ls start .0) (functionSheet fs (pinCounts (library ls start .0)) start) → o ≡ functionsReport ls fs
+  pub library-answered : (c : Cursor) → read .scan ≡ At c → (o : Answer LibraryCounts) → o ≡ sheetJudged fs (library ls start .0) → o ≡ functionsReport ls fs
   unfolding functionsReport
   library-answered c e o eo = eo ∙ ap said (sym e ∙ h .scan-is)
 

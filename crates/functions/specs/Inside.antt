@@ -7,7 +7,7 @@ use Rattle.fields.specs.Reading.{start, place}
 use Rattle.shapes.specs.Shape.{symbols}
 use Rattle.sheets.specs.Model.{Leaf, pinOf, Shape, size, leaves, Library, Pattern, patterns}
 use Rattle.sheets.specs.Sound.{SoundLibrary}
-use Rattle.sheets.specs.Layout.{padded, numberAt, symbolsAt, rowWords, patternTable}
+use Rattle.sheets.specs.Layout.{padded, numberAt, pinsAt, symbolsAt, rowWords, patternTable}
 use Rattle.functions.specs.declared.Evaluated.{Evaluated}
 use Rattle.functions.specs.declared.FunctionsRead.{FunctionsRead}
 use Rattle.functions.specs.Function.{settings, value, bitOf}
@@ -37,10 +37,6 @@ pub record EvaluatedIs (at : ℕ) (d : Shape) (r : Evaluated) : Type 0 where
   pub next-is : r .next ≡ at + size d
 
 -- ---- rows
-
--- Where a row has its cell's pin count.
-abbrev pub pinsAt : ℕ
-pinsAt = 4
 
 -- The row holds a pattern: its cell's number and pin count, and its drawing.
 pub record RowHolds (row : List ℕ) (p : Pattern) : Type 0 where

@@ -14,7 +14,7 @@ use Rattle.sheets.specs.Report.{libraryNumber, LibraryCounts, countsOf, afterLi
 use Rattle.functions.specs.Function.{computes}
 use Rattle.functions.specs.FunctionSheet.{pinCounts, functionSheet}
 
--- "31 for a torn function sheet and 32 for its bad tail (places as for 2 and 3)": 29 above those two, and its fields have no other fault.
+-- "31 for a torn function sheet and 32 for its bad tail (places as for 2 and 3)": 29 above those two. Every value of a field is sound, so no other fault is met.
 abbrev pub tornNumber : ℕ
 tornNumber = 31
 
@@ -45,7 +45,10 @@ unfolding drawingsJudged functionsNumber
 functionsJudged l (functions, At c) = drawingsJudged functions (countsOf l) 0 (patterns l)
 functionsJudged l (functions, Refused f p) = refused (functionsNumber f) p
 
+-- The same by the sheet's bytes.
+abbrev pub sheetJudged : List ℕ → Library → Answer LibraryCounts
+sheetJudged fs l = functionsJudged l (functionSheet fs (pinCounts l) start)
+
 -- The library's refusal, or what is said of the function sheet.
 unfoldable pub functionsReport : (ls fs : List ℕ) → Answer LibraryCounts
-unfolding functionsJudged pinCounts functionSheet
-functionsReport ls fs = afterLibrary (λ l. functionsJudged l (functionSheet fs (pinCounts l) start)) (library ls start)
+functionsReport ls fs = afterLibrary (sheetJudged fs) (library ls start)

@@ -8,24 +8,23 @@ use sheets::library::PatternRow;
 ghost use mathlib.Core.Path.{_≡_};
 ghost use Prim.Native.Nat.{_*_, _≤_, _<_};
 ghost use lib.ListN.{length, take};
-ghost use Rattle.fields.specs.Reading.{start};
 ghost use Rattle.fields.specs.Answer.{onSuccess, Bounded};
 ghost use Rattle.sheets.specs.Model.{Shape, Library, Pattern, patterns};
 ghost use Rattle.sheets.specs.Sound.{LibraryHeld};
 ghost use Rattle.sheets.specs.Report.{ofLibraryJudged, LibraryLimits, libraryWord, countsOf};
 ghost use Rattle.functions.specs.Function.{settings as settingsOf, pinIn};
-ghost use Rattle.functions.specs.FunctionSheet.{pinCounts, functionSheet};
-ghost use Rattle.functions.specs.Report.{isRight, functionsReport, drawingsJudged, functionsJudged};
+ghost use Rattle.functions.specs.FunctionSheet.{pinCounts};
+ghost use Rattle.functions.specs.Report.{isRight, drawingsJudged, sheetJudged, functionsReport};
 ghost use Rattle.functions.specs.Demands.{FunctionDemands};
 ghost use Rattle.functions.specs.Inside.{Tabulates, Standing, EvaluatedIs, RowHolds, Fits, RowsHold, PinsFew, FunctionsAre, Stated};
 
 // Document 02's numbers: what is added to the numbers of a library's faults for those of a function sheet, and a drawing that computes another function.
-pub struct Numbers {}
+struct Numbers {}
 
 impl Numbers {
-    pub const SHEET: u32 = 29;
+    const SHEET: u32 = 29;
 
-    pub const OTHER: u32 = 33;
+    const OTHER: u32 = 33;
 }
 
 // The settings in a word: the first setting's bit is the highest. A cell of fewer pins than six has its settings in the first bits.
@@ -150,13 +149,13 @@ fn judge_drawings(rows: &[u32], total: usize, functions: &[u64], cells: usize) -
     requires { ⌜ (length (now functions) ≡ 64) × ((l : Library) × RowsHold l (now rows) total) ⌝ }
     ensures { λ r. ⌜ ((l : Library) → RowsHold l (now (rows .entry)) total → Stated l (now (functions .entry)) → cells ≡ length (l .cells) → ofLibraryJudged r ≡ drawingsJudged (now (functions .entry)) (countsOf l) 0 (patterns l)) ⌝ }
 {
-    let mut k: usize = 0;
-    while k < total {
-        let first = PatternRow::WORDS * k;
+    let mut number: usize = 0;
+    while number < total {
+        let first = PatternRow::WORDS * number;
         if !computes(&rows[first..first + PatternRow::WORDS], functions) {
-            return LibraryJudged::Refused(Numbers::OTHER, k);
+            return LibraryJudged::Refused(Numbers::OTHER, number);
         }
-        k += 1;
+        number += 1;
     }
     LibraryJudged::Sound(cells, total)
 }
@@ -164,7 +163,7 @@ fn judge_drawings(rows: &[u32], total: usize, functions: &[u64], cells: usize) -
 // The function sheet of a sound library. All of it is read before a drawing is looked at.
 fn with_library(library: LibraryRecord, s: &[u8]) -> LibraryJudged
     requires { ⌜ ((l : Library) × LibraryHeld l library) ⌝ }
-    ensures { λ r. ⌜ ((l : Library) → LibraryHeld l library → ofLibraryJudged r ≡ functionsJudged l (functionSheet (now (s .entry)) (pinCounts l) start)) ⌝ }
+    ensures { λ r. ⌜ ((l : Library) → LibraryHeld l library → ofLibraryJudged r ≡ sheetJudged (now (s .entry)) l) ⌝ }
     ensures { λ r. ⌜ Bounded (onSuccess libraryWord (ofLibraryJudged r)) × LibraryLimits (ofLibraryJudged r) ⌝ }
 {
     let rows = library.rows;

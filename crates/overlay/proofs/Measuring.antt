@@ -1,14 +1,13 @@
 -- The extents of a drawing's nodes, from the last node to the first.
 use Prim.Native.Nat.{ℕ, suc, _+_, _*_, _%_, _≤_, _<_}
-use mathlib.Core.Path.{_≡_, refl, sym, ap, subst, _∙_}
+use mathlib.Core.Path.{_≡_, refl, ap, subst, _∙_}
 use mathlib.Core.Logic.{_≢_}
-use mathlib.Core.List.{List, List·Memᴰ, List·Memᴰ·head, List·Memᴰ·tail, Memᴰ·append-left, Memᴰ·append-right}
+use mathlib.Core.List.{List, List·Memᴰ, List·Memᴰ·tail, Memᴰ·append-left, Memᴰ·append-right}
 use native.Mathlib.Decide.{ℕ-discrete}
 use native.Mathlib.Omega.{arith}
-use lib.ListN.{getD, length, set, length-set}
+use lib.ListN.{getD, length, set}
 use lib.Seq.{getD-set-same, getD-set-other}
 use Rattle.shapes.specs.Shape.{symbols, sizes}
-use Rattle.shapes.proofs.Drawn.{length-symbols}
 use Rattle.sheets.specs.Layout.{symbolsAt}
 use Rattle.sheets.specs.Model.{Shape, leaf, inv, nand, size, nands}
 use Rattle.covers.specs.Tradeoff.{Node, nodes}

@@ -45,6 +45,9 @@ areaAt = 2
 abbrev pub highestAt : ℕ
 highestAt = 3
 
+abbrev pub pinsAt : ℕ
+pinsAt = 4
+
 abbrev pub pinWords : ℕ
 pinWords = 4
 

@@ -38,6 +38,7 @@ libraryWord n = n .cells * 256 + n .patterns
 unfoldable pub ofLibraryWord : ℕ → LibraryCounts
 ofLibraryWord w = record { cells = w / 256; patterns = w % 256 }
 
+-- The counts of a library.
 abbrev pub countsOf : Library → LibraryCounts
 countsOf l = record { cells = length (l .cells); patterns = length (patterns l) }
 

@@ -1,4 +1,4 @@
--- The limits of a sound library and a sound tree that the theorems and the code above the sheets rest on. Not all that makes a sheet sound: the sheets' definitions say that.
+-- The limits of a sound library and a sound tree that the theorems and the code above the sheets rest on, and a sound library in its record. Not all that makes a sheet sound: the sheets' definitions say that.
 use Prim.Native.Nat.{ℕ, _≤_, _<_}
 use mathlib.Core.Path.{_≡_}
 use mathlib.Core.List.{List·Memᴰ}

@@ -1,22 +1,72 @@
 use borrow.Author.Needs.{needs}
 use native.Mathlib.Omega.{arith}
-use Prim.Native.Nat.{_^_, _≤_}
+use Prim.Native.Nat.{ℕ, _^_, _≤_}
+use mathlib.Core.Path.{ap, sym, _∙_}
 use lib.Pow.{pow-mono}
+use Rattle.fields.specs.declared.Fault.the-variants.{Truncated}
+use Rattle.fields.specs.declared.Scan.the-variants.{Refused}
+use Rattle.bits.specs.Bits.{placeOf}
+use Rattle.fields.specs.Reading.{place, taken, free}
+use Rattle.fields.proofs.Laws.{found-fits, reads-taken}
 use Rattle.fields.proofs.raw.Statement.{statement}
 use Rattle.fields.proofs.raw.Tie as tie
 
-wide-requires : tie.Need-wide-requires
-wide-requires c κs = omega arith
+enum-known-scan : tie.Need-enum-known-scan
+enum-known-scan c = search needs
 
-cast-t6 : tie.Need-cast-t6
-cast-t6 c =
-    let a = c .before .before .before .args in
-    let few : a .width ≤ 24 = omega arith in
-    let top : 2 ^ a .width ≤ 16777216 = pow-mono few in
-    omega (arith, top, c .before .wide .ensures .small)
+enum-told : tie.Need-enum-told
+enum-told c = search needs
 
 returns : tie.Need-returns
 returns c = search needs
 
+field-requires : tie.Need-field-requires
+field-requires c κs = omega (arith, ap place (c .before .scan .given .1))
+
+enum-known-value : tie.Need-enum-known-value
+enum-known-value c = search needs
+
+enum-told-2 : tie.Need-enum-told-2
+enum-told-2 c = search needs
+
+place-requires : tie.Need-place-requires
+place-requires c κs = omega (arith, ap place (c .before .before .before .before .scan .given .1))
+
+returns-2 : tie.Need-returns-2
+returns-2 c =
+    let a = c .before .before .before .before .before .before .before .before .args in
+    let k = c .before .before .before .before .before .scan .given in
+    let field = c .before .before .before .field in
+    reads-taken (a .s .now) (a .width) (a .scan) (k .0 .0) (field .result) _ (k .1) (field .ensures)
+    (ap (λ (p : ℕ). (0, Refused Truncated p)) (c .place .ensures) ∙ ap (taken (placeOf (k .0 .0)) free) (sym (c .before .enum-told2 .given .1)))
+
+cast-t11 : tie.Need-cast-t11
+cast-t11 c =
+    let a = c .before .before .before .before .before .before .before .before .args in
+    let field = c .before .before .before .field in
+    let few : a .width ≤ 24 = omega arith in
+    let top : 2 ^ a .width ≤ 16777216 = pow-mono few in
+    omega (arith, top, found-fits (a .s .now) _ (a .width) _ _ (field .result) (field .ensures) (c .before .value .given .1))
+
+returns-3 : tie.Need-returns-3
+returns-3 c =
+    let a = c .before .before .before .before .before .before .before .before .args in
+    let k = c .before .before .before .before .before .scan .given in
+    let field = c .before .before .before .field in
+    reads-taken (a .s .now) (a .width) (a .scan) (k .0 .0) (field .result) _ (k .1) (field .ensures)
+    (ap (taken (placeOf (k .0 .0)) free) (sym (c .before .value .given .1)))
+
 pub raw-spec : {M : Type 1} → statement M
-raw-spec = tie.close (tie.spec wide-requires cast-t6 returns)
+raw-spec =
+    tie.close
+    (tie.spec
+    enum-known-scan
+    enum-told
+    returns
+    field-requires
+    enum-known-value
+    enum-told-2
+    place-requires
+    returns-2
+    cast-t11
+    returns-3)

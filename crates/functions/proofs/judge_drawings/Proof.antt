@@ -13,15 +13,15 @@ use Rattle.functions.proofs.judge_drawings.Statement.{statement}
 use Rattle.functions.proofs.judge_drawings.Tie as tie
 
 abbrev Inv-loop : tie.InvT-loop
-Inv-loop rows total functions cells k₀ k =
-    (k ≤ total)
+Inv-loop rows total functions cells number₀ number =
+    (number ≤ total)
     × (total ≤ 128)
     × (length rows ≡ 46 * total)
     × (length functions ≡ 64)
-    × ((l : Library) → RowsHold l rows total → Stated l functions → Judging functions (countsOf l) (patterns l) k)
+    × ((l : Library) → RowsHold l rows total → Stated l functions → Judging functions (countsOf l) (patterns l) number)
 
 abbrev μ-loop : tie.MeasureT-loop
-μ-loop rows total functions cells k₀ k = total - k
+μ-loop rows total functions cells number₀ number = total - number
 
 loop-holds : tie.Need-loop-holds Inv-loop μ-loop
 loop-holds c =
@@ -49,7 +49,7 @@ part-computes-end c = omega arith
 computes-requires : tie.Need-computes-requires Inv-loop μ-loop
 computes-requires c κs =
     let p = c .before .before .before .before .before .pre in
-    let k = c .before .before .loop .k in
+    let k = c .before .before .loop .number in
     (p .0, (patternAt (p .1 .0) k, row-holds (p .1 .1) k (omega arith) (46 * k + 46 - 46 * k) (omega arith)))
 
 returns : tie.Need-returns Inv-loop μ-loop
@@ -59,11 +59,11 @@ returns c =
     let i = c .before .before .before .before .loop in
     let call = c .before .computes in
     λ l h g e.
-    judged-other (first .functions .now) (countsOf l) (patterns l) (i .k) (omega (arith, h .total-is)) (i .inv .4 l h g)
-    (sym (call .ensures (patternAt l (i .k)) (row-holds h (i .k) (omega arith) (46 * i .k + 46 - 46 * i .k) (omega arith)) (stated-fits h (i .k) (omega arith) (first .functions .now) g)) ∙ not-true (call .result) (c .if1 .taken))
+    judged-other (first .functions .now) (countsOf l) (patterns l) (i .number) (omega (arith, h .total-is)) (i .inv .4 l h g)
+    (sym (call .ensures (patternAt l (i .number)) (row-holds h (i .number) (omega arith) (46 * i .number + 46 - 46 * i .number) (omega arith)) (stated-fits h (i .number) (omega arith) (first .functions .now) g)) ∙ not-true (call .result) (c .if1 .taken))
 
-add-k : tie.Need-add-k Inv-loop μ-loop
-add-k c = record { fits = omega arith }
+add-number : tie.Need-add-number Inv-loop μ-loop
+add-number c = record { fits = omega arith }
 
 loop-less : tie.Need-loop-less Inv-loop μ-loop
 loop-less c = omega arith
@@ -78,8 +78,8 @@ loop-again c =
       i .inv .2,
       i .inv .3,
       λ l h g.
-          judged-right (first .functions .now) (countsOf l) (patterns l) (i .k) (omega (arith, h .total-is)) (i .inv .4 l h g)
-          (sym (call .ensures (patternAt l (i .k)) (row-holds h (i .k) (omega arith) (46 * i .k + 46 - 46 * i .k) (omega arith)) (stated-fits h (i .k) (omega arith) (first .functions .now) g)) ∙ not-false (call .result) (c .if1 .left)),
+          judged-right (first .functions .now) (countsOf l) (patterns l) (i .number) (omega (arith, h .total-is)) (i .inv .4 l h g)
+          (sym (call .ensures (patternAt l (i .number)) (row-holds h (i .number) (omega arith) (46 * i .number + 46 - 46 * i .number) (omega arith)) (stated-fits h (i .number) (omega arith) (first .functions .now) g)) ∙ not-false (call .result) (c .if1 .left)),
     )
 
 returns-2 : tie.Need-returns-2 Inv-loop μ-loop
@@ -89,7 +89,7 @@ returns-2 c =
     let i = c .before .loop in
     λ l h g e.
     ap₂ (λ (n m : ℕ). success (record { cells = n; patterns = m })) e (h .total-is)
-    ∙ judged-all (first .functions .now) (countsOf l) (patterns l) (i .k) (omega (arith, h .total-is)) (i .inv .4 l h g)
+    ∙ judged-all (first .functions .now) (countsOf l) (patterns l) (i .number) (omega (arith, h .total-is)) (i .inv .4 l h g)
 
 pub judge-drawings-spec : {M : Type 1} → statement M
 judge-drawings-spec =
@@ -106,7 +106,7 @@ judge-drawings-spec =
     part-computes-end
     computes-requires
     returns
-    add-k
+    add-number
     loop-less
     loop-again
     returns-2)

@@ -8,8 +8,6 @@ use mir.Val.{Fits}
 use Rattle.overlay.proofs.Measuring.{extent-leaf, gate-room, extent-inv, nand-room, extent-nand}
 use Rattle.overlay.proofs.extent_from.Statement.{statement}
 use Rattle.overlay.proofs.extent_from.Tie as tie
-use Rattle.overlay.proofs.extent_from.Reads as reads
-use Rattle.overlay.proofs.extent_from.Lts as lts
 
 returns : tie.Need-returns
 returns c = let a = c .before .args in λ s e. extent-leaf (a .symbol) (a .t2) (a .k) s e (omega arith)

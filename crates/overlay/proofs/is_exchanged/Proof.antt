@@ -3,8 +3,6 @@ use borrow.Author.Needs.{needs}
 use Rattle.covers.specs.Crossing.{exchanged}
 use Rattle.overlay.proofs.is_exchanged.Statement.{statement}
 use Rattle.overlay.proofs.is_exchanged.Tie as tie
-use Rattle.overlay.proofs.is_exchanged.Reads as reads
-use Rattle.overlay.proofs.is_exchanged.Lts as lts
 
 sub-result : tie.Need-sub-result
 sub-result c = search needs

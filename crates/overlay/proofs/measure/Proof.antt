@@ -8,9 +8,6 @@ use Rattle.overlay.specs.Standing.{DrawingHeld, Extending, extent}
 use Rattle.overlay.proofs.Measuring.{MeasuredFrom, here, extending, here-small, measured-more, measured-none}
 use Rattle.overlay.proofs.measure.Statement.{statement}
 use Rattle.overlay.proofs.measure.Tie as tie
-use Rattle.overlay.proofs.measure.Reads as reads
-use Rattle.overlay.proofs.measure.Lts as lts
-use Rattle.overlay.proofs.extent_from.Reads as extent-from-reads
 
 abbrev Inv-loop : tie.InvT-loop
 Inv-loop row words₀ k₀ words k = (k ≤ 16) × (length words ≡ 16) × ((d : Shape) → DrawingHeld row d → size d ≤ 16 → (k ≤ size d) × MeasuredFrom d words k)

@@ -5,10 +5,6 @@ use native.Mathlib.Omega.{arith}
 use Rattle.overlay.proofs.Walking.{passed-inv, passed-nand}
 use Rattle.overlay.proofs.pass_gate.Statement.{statement}
 use Rattle.overlay.proofs.pass_gate.Tie as tie
-use Rattle.overlay.proofs.pass_gate.Reads as reads
-use Rattle.overlay.proofs.pass_gate.Lts as lts
-use Rattle.overlay.proofs.greater.Reads as greater-reads
-use Rattle.overlay.proofs.is_exchanged.Reads as is-exchanged-reads
 
 add-next : tie.Need-add-next
 add-next c = search needs

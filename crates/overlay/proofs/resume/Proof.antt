@@ -3,8 +3,6 @@ use borrow.Author.Needs.{needs}
 use Rattle.overlay.specs.Held.{resumed}
 use Rattle.overlay.proofs.resume.Statement.{statement}
 use Rattle.overlay.proofs.resume.Tie as tie
-use Rattle.overlay.proofs.resume.Reads as reads
-use Rattle.overlay.proofs.resume.Lts as lts
 
 sub-last : tie.Need-sub-last
 sub-last c = search needs

@@ -11,10 +11,6 @@ use Rattle.overlay.specs.Held.{Passable, Walkable}
 use Rattle.overlay.proofs.Walking.{Going, going-start, within, symbol-small, passable, going-pass, going-skip, going-end, going-missed}
 use Rattle.overlay.proofs.walk.Statement.{statement}
 use Rattle.overlay.proofs.walk.Tie as tie
-use Rattle.overlay.proofs.walk.Reads as reads
-use Rattle.overlay.proofs.walk.Lts as lts
-use Rattle.overlay.proofs.pass_gate.Reads as pass-gate-reads
-use Rattle.overlay.proofs.resume.Reads as resume-reads
 
 abbrev Inv-loop : tie.InvT-loop
 Inv-loop row extents crossing symbols sizes n pins₀ nodes₀ count₀ left₀ at₀ pins nodes count left at =

@@ -3,8 +3,6 @@ use Prim.Native.Nat.{_-_}
 use lib.ListN.{length}
 use Rattle.stored.proofs.bytes_kept.Statement.{statement}
 use Rattle.stored.proofs.bytes_kept.Tie as tie
-use Rattle.stored.proofs.bytes_kept.Reads as reads
-use Rattle.stored.proofs.bytes_kept.Lts as lts
 
 abbrev Inv-loop : tie.InvT-loop
 Inv-loop s from k₀ k = Unit {0}

@@ -3,8 +3,6 @@ use Prim.Native.Nat.{_-_}
 use lib.ListN.{length}
 use Rattle.stored.proofs.opens_with.Statement.{statement}
 use Rattle.stored.proofs.opens_with.Tie as tie
-use Rattle.stored.proofs.opens_with.Reads as reads
-use Rattle.stored.proofs.opens_with.Lts as lts
 
 abbrev Inv-loop : tie.InvT-loop
 Inv-loop text word k₀ k = Unit {0}

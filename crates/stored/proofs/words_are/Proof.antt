@@ -2,8 +2,6 @@ use native.Mathlib.Omega.{arith}
 use Prim.Native.Nat.{_-_}
 use Rattle.stored.proofs.words_are.Statement.{statement}
 use Rattle.stored.proofs.words_are.Tie as tie
-use Rattle.stored.proofs.words_are.Reads as reads
-use Rattle.stored.proofs.words_are.Lts as lts
 
 abbrev Inv-loop : tie.InvT-loop
 Inv-loop s from to w k₀ k = Unit {0}

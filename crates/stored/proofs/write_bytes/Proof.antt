@@ -2,11 +2,6 @@ use native.Mathlib.Omega.{arith}
 use Prim.Native.Nat.{_-_}
 use Rattle.stored.proofs.write_bytes.Statement.{statement}
 use Rattle.stored.proofs.write_bytes.Tie as tie
-use Rattle.stored.proofs.write_bytes.Reads as reads
-use Rattle.stored.proofs.write_bytes.Lts as lts
-use Rattle.stored.proofs.write_number.Reads as write-number-reads
-use Rattle.stored.proofs.write_byte.Reads as write-byte-reads
-use Rattle.io.proofs.write_all.Reads as write-all-reads
 
 abbrev Inv-loop : tie.InvT-loop
 Inv-loop s count k₀ k = Unit {0}

@@ -2,7 +2,7 @@
 //! the input; its result is one or more lines.
 
 use crate::cover::{drivers, every_refusal, example_in_time, greatest, mapped, unsound};
-use crate::kinds::Kinds;
+use crate::kinds::{short, Kinds};
 use crate::stored::Stored;
 use reference::bill::{self, Answer, Bill, HEADING};
 use reference::cover::Placed;
@@ -266,10 +266,8 @@ impl Bills {
         self.some(300, || any_input(&mut rng));
     }
 
-    /// So many inputs made by `make`; none is long, so that the file stays small.
     fn some(&mut self, count: usize, make: impl FnMut() -> Vec<u8>) {
-        let short = std::iter::repeat_with(make).filter(|input| input.len() <= 300);
-        short.take(count).for_each(|input| self.add(input));
+        short(count, make, Vec::len).into_iter().for_each(|input| self.add(input));
     }
 
     /// There are enough cases, of every kind, and not too many bytes.

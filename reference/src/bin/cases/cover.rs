@@ -3,7 +3,7 @@
 
 pub mod drivers;
 
-use crate::kinds::Kinds;
+use crate::kinds::{short, Kinds};
 use crate::stored::{Stored, MOST_BYTES};
 use reference::cover::{Cover, Placed};
 use reference::crossing::{bit, crossings, redrawn, CROSSINGS};
@@ -359,10 +359,8 @@ impl Covers {
         self.some(120, || any_case(&mut rng));
     }
 
-    /// So many cases made by `make`; none is long, so that the file stays small.
     fn some(&mut self, count: usize, make: impl FnMut() -> Case) {
-        let short = std::iter::repeat_with(make).filter(|case| case.length() <= 300);
-        short.take(count).for_each(|case| self.add(case));
+        short(count, make, Case::length).into_iter().for_each(|case| self.add(case));
     }
 
     /// There are enough cases, of every kind, and not too many bytes.

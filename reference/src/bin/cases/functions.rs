@@ -5,7 +5,7 @@ mod drawings;
 mod sheets;
 mod values;
 
-use crate::kinds::Kinds;
+use crate::kinds::{short, Kinds};
 use crate::stored::Stored;
 use reference::functions::{decode, settings};
 use reference::generate::functions::damage::{any_case, any_draft, spoiled, Damage, OF_DRAWINGS, OF_SHEETS, OF_VALUES};
@@ -119,10 +119,8 @@ impl Functions {
         self.some(150, || any_case(&mut rng));
     }
 
-    /// So many cases made by `make`; none is long, so that the file stays small.
     fn some(&mut self, count: usize, make: impl FnMut() -> Case) {
-        let short = std::iter::repeat_with(make).filter(|case| case.length() <= 300);
-        short.take(count).for_each(|case| self.add(case));
+        short(count, make, Case::length).into_iter().for_each(|case| self.add(case));
     }
 
     /// There are enough cases, of every kind, and not too many bytes; a bit at every place of a field is once the only

@@ -1,6 +1,14 @@
-//! How many cases there are of each kind.
+//! Cases that are not long, and how many there are of each kind.
 
 use std::collections::BTreeMap;
+
+/// The longest case that is taken from random ones, so that a file stays small.
+const SHORT: usize = 300;
+
+/// So many cases made by `make`, none of them long.
+pub fn short<C>(count: usize, make: impl FnMut() -> C, length: impl Fn(&C) -> usize) -> Vec<C> {
+    std::iter::repeat_with(make).filter(|case| length(case) <= SHORT).take(count).collect()
+}
 
 pub struct Kinds {
     counts: BTreeMap<String, usize>,

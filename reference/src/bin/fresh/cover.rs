@@ -6,16 +6,10 @@ use reference::generate::covers::Case;
 use reference::hex::hex;
 use reference::judging;
 use reference::product;
-use reference::rng::Rng;
 use reference::verdict::Verdict;
 
 pub fn run(count: u64, seed: u64) -> Tally {
-    let mut rng = Rng::new(seed);
-    let mut tally = Tally::default();
-    for _ in 0..count {
-        compare(&mut tally, &any_case(&mut rng));
-    }
-    tally
+    Tally::of(count, seed, any_case, compare)
 }
 
 fn compare(tally: &mut Tally, case: &Case) {

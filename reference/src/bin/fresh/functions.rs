@@ -5,16 +5,10 @@ use reference::generate::functions::damage::any_case;
 use reference::generate::functions::kinds::name;
 use reference::generate::functions::Case;
 use reference::hex::hex;
-use reference::rng::Rng;
 use reference::{product, wordwise};
 
 pub fn run(count: u64, seed: u64) -> Tally {
-    let mut rng = Rng::new(seed);
-    let mut tally = Tally::default();
-    for _ in 0..count {
-        compare(&mut tally, &any_case(&mut rng));
-    }
-    tally
+    Tally::of(count, seed, any_case, compare)
 }
 
 fn compare(tally: &mut Tally, case: &Case) {

@@ -1,5 +1,6 @@
 //! Counts of agreement, and the first disagreement.
 
+use reference::rng::Rng;
 use reference::tree;
 use std::collections::BTreeMap;
 
@@ -12,6 +13,16 @@ pub struct Tally {
 }
 
 impl Tally {
+    /// So many cases, each compared.
+    pub fn of<C>(count: u64, seed: u64, make: fn(&mut Rng) -> C, compare: fn(&mut Tally, &C)) -> Tally {
+        let mut rng = Rng::new(seed);
+        let mut tally = Tally::default();
+        for _ in 0..count {
+            compare(&mut tally, &make(&mut rng));
+        }
+        tally
+    }
+
     pub fn agree(&mut self, key: String) {
         *self.agreed.entry(key).or_insert(0) += 1;
     }

@@ -7,8 +7,6 @@ use mathlib.Core.List.{List}
 use lib.ListN.{set, length-set}
 use Rattle.sheets.proofs.library.write_words.Statement.{statement}
 use Rattle.sheets.proofs.library.write_words.Tie as tie
-use Rattle.sheets.proofs.library.write_words.Reads as reads
-use Rattle.sheets.proofs.library.write_words.Lts as lts
 
 four : (l : List ℕ) (i a b c d : ℕ) → set (set (set (set l i a) (i + 1) b) (i + 2) c) (i + 3) d ≡ set (set (set (set l i a) (suc i) b) (suc (suc i)) c) (suc (suc (suc i))) d
 four l i a b c d =
