@@ -6,12 +6,12 @@ use mathlib.Core.Bool.{Bool, true, false, _&&_, false≢true}
 use native.Mathlib.Decide.{decLt, ℕ-discrete}
 use native.Mathlib.Nat.{pow-suc}
 use native.Mathlib.Omega.{arith}
-use lib.Dec.{eqb}
+use lib.Dec.{eqb, leb}
 use lib.Pow.{shr-shr}
 use lib.ListN.{length, getD, set}
 use lib.Seq.{getD-set-same, getD-set-other, set-out, ext-getD}
-use borrow.Author.Tests.{eqb-true}
-use Rattle.bits.specs.Bits.{after, bitAt, valueAt, bytesTo, restOf, endsAt, withDigit, withBit, withField}
+use borrow.Author.Tests.{eqb-true, leb-true}
+use Rattle.bits.specs.Bits.{after, bitAt, valueAt, bytesTo, restOf, filledAt, endsAt, withDigit, withBit, withField}
 use Rattle.bits.proofs.Laws.{bit-lt, after-lt, digit-lt}
 
 -- Every entry is a byte.
@@ -59,6 +59,15 @@ ends-says s i e = go (eqb (length s) (bytesTo i)) (eqb (valueAt s i (restOf i)) 
     go true true p q e = (eqb-true _ _ p, eqb-true _ _ q)
     go true false p q e = absurd (false≢true e)
     go false b p q e = absurd (false≢true e)
+
+-- And that a byte's rest is there.
+pub fills-says : (s : List ℕ) (i : ℕ) → filledAt s i ≡ true → bytesTo i ≤ length s
+unfolding filledAt
+fills-says s i e = go (leb (bytesTo i) (length s)) refl e
+  where
+    go : (b : Bool) → leb (bytesTo i) (length s) ≡ b → b && eqb (valueAt s i (restOf i)) 0 ≡ true → bytesTo i ≤ length s
+    go true p q = leb-true _ _ p
+    go false p q = absurd (false≢true q)
 
 -- ---- bytes that are written stay bytes
 

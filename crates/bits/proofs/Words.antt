@@ -14,7 +14,7 @@ use lib.Dec.{eqb, leb}
 use borrow.Author.Tests.{le-leb, lt-leb, eq-eqb, ne-eqb}
 use Rattle.bits.specs.declared.Cursor.{Cursor}
 use Rattle.bits.specs.declared.FieldRead.the-variants.{Value, Truncated}
-use Rattle.bits.specs.Bits.{after, bitAt, valueAt, cursorAt, fieldAt, bytesTo, restOf, endsAt}
+use Rattle.bits.specs.Bits.{after, bitAt, valueAt, cursorAt, fieldAt, bytesTo, restOf, filledAt, endsAt}
 use Rattle.bits.specs.Promises.{Opens}
 use Rattle.bits.proofs.Laws.{value-lt, value-small, value-cong}
 
@@ -96,6 +96,10 @@ stands {c} {i} e =
     let used : c .used ≡ i % 8 = ap (λ (k : Cursor). k .used) e in
     (omega arith, omega arith)
 
+-- The cursor that stands where another does, in a byte that is not used up.
+pub stands-there : {c : Cursor} {i : ℕ} → c ≡ cursorAt (i + 0) → (c .used < 8) × (8 * c .byte + c .used ≡ i)
+stands-there {c} {i} e = let h = stands e in (h .0, h .1 ∙ add-zero i)
+
 pub found : (s : List ℕ) (i w v : ℕ) (n : Cursor) → i + w ≤ 8 * length s → v ≡ valueAt s i w → n ≡ cursorAt (i + w) → Value v n ≡ fieldAt s i w
 unfolding fieldAt
 found s i w v n l ev en = rw (le-leb (i + w) (8 * length s) l) (ap₂ Value ev en)
@@ -104,28 +108,42 @@ pub none : (s : List ℕ) (i w : ℕ) → 8 * length s < i + w → Truncated ≡
 unfolding fieldAt
 none s i w l = rw (lt-leb (i + w) (8 * length s) l) refl
 
--- The end, at a byte's first bit and inside a byte.
+-- A byte's rest, from its first bit on and inside it.
+module _ (i b u : ℕ) (at : 8 * b + u ≡ i) (l : u < 8) where
+  pub bytes-whole : u ≡ 0 → b ≡ bytesTo i
+  unfolding bytesTo
+  bytes-whole z = omega arith
+
+  pub bytes-part : (u ≡ 0 → ⊥) → b + 1 ≡ bytesTo i
+  unfolding bytesTo
+  bytes-part z = omega arith
+
 module _ (s : List ℕ) (i b u : ℕ) (at : 8 * b + u ≡ i) (l : u < 8) where
-  pub ends-whole : u ≡ 0 → eqb (length s) b ≡ endsAt s i
-  unfolding endsAt bytesTo restOf valueAt
-  ends-whole z =
-      let byte : (i + 7) / 8 ≡ b = omega arith in
+  pub fills-whole : u ≡ 0 → leb b (length s) ≡ filledAt s i
+  unfolding filledAt restOf valueAt
+  fills-whole z =
       let rest : 8 * b - i ≡ 0 = omega arith in
-      sym (rw (byte, rest) (and-true (eqb (length s) b)))
+      sym (rw (sym (bytes-whole i b u at l z), rest) (and-true (leb b (length s))))
 
-  pub ends-other : (u ≡ 0 → ⊥) → (length s ≡ b + 1 → ⊥) → false ≡ endsAt s i
-  unfolding endsAt bytesTo
-  ends-other z n =
-      let byte : (i + 7) / 8 ≡ b + 1 = omega arith in
-      sym (rw byte (rw (ne-eqb (length s) (b + 1) n) refl))
+  pub fills-none : (u ≡ 0 → ⊥) → length s < b + 1 → false ≡ filledAt s i
+  unfolding filledAt
+  fills-none z n = sym (rw (sym (bytes-part i b u at l z)) (rw (lt-leb (b + 1) (length s) n) refl))
 
-  pub ends-rest : (u ≡ 0 → ⊥) → length s ≡ b + 1 → (v : ℕ) → v ≡ valueAt s (8 * b + u) (8 - u) → eqb v 0 ≡ endsAt s i
-  unfolding endsAt bytesTo restOf
-  ends-rest z n v e =
-      let byte : (i + 7) / 8 ≡ b + 1 = omega arith in
+  pub fills-rest : (u ≡ 0 → ⊥) → b + 1 ≤ length s → (v : ℕ) → v ≡ valueAt s (8 * b + u) (8 - u) → eqb v 0 ≡ filledAt s i
+  unfolding filledAt restOf
+  fills-rest z n v e =
       let rest : 8 * (b + 1) - i ≡ 8 - u = omega arith in
       let value : valueAt s i (8 - u) ≡ v = ap (λ (k : ℕ). valueAt s k (8 - u)) (sym at) ∙ sym e in
-      sym (rw (byte, rest, value, eq-eqb (length s) (b + 1) n) refl)
+      sym (rw (sym (bytes-part i b u at l z), rest, value, le-leb (b + 1) (length s) n) refl)
+
+-- The end of the bytes.
+pub ends-other : (s : List ℕ) (i n : ℕ) → n ≡ bytesTo i → (length s ≡ n → ⊥) → false ≡ endsAt s i
+unfolding endsAt
+ends-other s i n e d = sym (rw (ne-eqb (length s) (bytesTo i) (λ q. d (q ∙ sym e))) refl)
+
+pub ends-filled : (s : List ℕ) (i n : ℕ) → n ≡ bytesTo i → length s ≡ n → filledAt s i ≡ endsAt s i
+unfolding filledAt endsAt
+ends-filled s i n e d = rw (le-leb (bytesTo i) (length s) (omega (arith, d, e)), eq-eqb (length s) (bytesTo i) (d ∙ e)) refl
 
 -- ---- bytes that open so
 

@@ -39,6 +39,10 @@ bytesTo i = (i + 7) / 8
 unfoldable pub restOf : ℕ → ℕ
 restOf i = 8 * bytesTo i - i
 
+-- The byte of place i is there, and the rest of it is zero bits.
+unfoldable pub filledAt : List ℕ → ℕ → Bool
+filledAt s i = leb (bytesTo i) (length s) && eqb (valueAt s i (restOf i)) 0
+
 -- The bytes end at place i: the rest of its byte is zero bits, and no byte follows.
 unfoldable pub endsAt : List ℕ → ℕ → Bool
 endsAt s i = eqb (length s) (bytesTo i) && eqb (valueAt s i (restOf i)) 0

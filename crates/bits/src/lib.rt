@@ -4,7 +4,7 @@ ghost use mathlib.Core.Path.{_≡_};
 ghost use Prim.Native.Nat.{_+_, _-_, _*_, _/_, _%_, _<_, _≤_, _^_, min};
 ghost use lib.ListN.{length, drop};
 ghost use lib.Dec.{leb};
-ghost use Rattle.bits.specs.Bits.{placeOf, cursorAt, valueAt, fieldAt, endsAt, withBit, withField};
+ghost use Rattle.bits.specs.Bits.{placeOf, cursorAt, valueAt, fieldAt, bytesTo, filledAt, endsAt, withBit, withField};
 ghost use Rattle.bits.specs.Promises.{Opens, Opened, FieldOf, Weight};
 
 // A place in bytes: the number of a byte, and how many of its bits are before the place.
@@ -113,23 +113,47 @@ impl Cursor {
         FieldRead::Truncated
     }
 
+    // How many bytes the bits before the cursor take up.
+    pub fn bytes_to(self) -> usize
+        requires { ⌜ placeOf self < 2 ^ 32 ⌝ }
+        ensures { λ r. ⌜ r ≡ bytesTo (placeOf self) ⌝ }
+    {
+        // A cursor may have a byte that is used up.
+        let at = self.on(0);
+        let byte = at.byte;
+        if at.used == 0 {
+            return byte;
+        }
+        byte + 1
+    }
+
+    // Whether the cursor's byte is there, and the rest of it is zero bits.
+    pub fn fills(self, s: &[u8]) -> bool
+        requires { ⌜ placeOf self < 2 ^ 32 ⌝ }
+        ensures { λ r. ⌜ r ≡ filledAt (now (s .entry)) (placeOf self) ⌝ }
+    {
+        let at = self.on(0);
+        let byte = at.byte;
+        let used = at.used;
+        if used == 0 {
+            return byte <= s.len();
+        }
+        if s.len() < byte + 1 {
+            return false;
+        }
+        let left = Cursor::BYTE_BITS - used;
+        cut(octet(s[byte]), Cursor::BYTE_BITS, used, left) == 0
+    }
+
     // Whether the bytes end at the cursor: zero bits to the byte, and no byte more.
     pub fn ends(self, s: &[u8]) -> bool
         requires { ⌜ placeOf self < 2 ^ 32 ⌝ }
         ensures { λ r. ⌜ r ≡ endsAt (now (s .entry)) (placeOf self) ⌝ }
     {
-        // A cursor may have a byte that is used up.
-        let at = self.on(0);
-        let byte = at.byte;
-        let used = at.used;
-        if used == 0 {
-            return s.len() == byte;
-        }
-        if s.len() != byte + 1 {
+        if s.len() != self.bytes_to() {
             return false;
         }
-        let left = Cursor::BYTE_BITS - used;
-        cut(octet(s[byte]), Cursor::BYTE_BITS, used, left) == 0
+        self.fills(s)
     }
 }
 

@@ -10,7 +10,7 @@ use lib.ListN.{length, length-append}
 use native.Mathlib.Numerals.{add-one}
 use lib.Dec.{leb}
 use borrow.Author.Tests.{leb-true}
-use Rattle.bits.specs.Bits.{placeOf, fieldAt, valueAt, cursorAt, endsAt}
+use Rattle.bits.specs.Bits.{placeOf, fieldAt, valueAt, cursorAt}
 use Rattle.bits.proofs.Laws.{value-small, place-at}
 use Rattle.bits.specs.declared.Cursor.{Cursor}
 use Rattle.bits.specs.declared.FieldRead as FieldRead
@@ -21,7 +21,7 @@ use Rattle.fields.specs.declared.Fault.{Fault}
 use Rattle.fields.specs.declared.Fault.the-variants.{Tail, Range}
 use Rattle.fields.specs.declared.Verdict.{Verdict}
 use Rattle.fields.specs.declared.Verdict.the-variants.{Sound, Faulty}
-use Rattle.fields.specs.Reading.{Reader, times, start, place, free, within, field, taken, settled, ended}
+use Rattle.fields.specs.Reading.{Reader, times, start, place, free, within, field, taken, settled, tailed}
 use Rattle.fields.specs.Promises.{Reads, Live, settling, settlingAt}
 
 pub start-place : place start ≡ 0
@@ -213,20 +213,29 @@ settling-faulty before got v c f p e ev ep =
     ap (λ (q : ℕ). record { value = 0; scan = Refused f q }) ep ∙ ap (settlingAt before got (At c)) (sym ev) ∙ ap (λ (k : Scan). settlingAt before got k v) (sym e)
 
 -- A scan that was not refused at the end was not refused before, and it stands where it stood.
-pub ended-live : (s : List ℕ) (c : Scan) → Live (ended s c) → Live c
-ended-live s (At c) h = tt
-ended-live s (Refused f p) h = h
+module _ (wanted : ℕ → Bool) where
+  pub tailed-live : (c : Scan) → Live (tailed wanted c) → Live c
+  tailed-live (At c) h = tt
+  tailed-live (Refused f p) h = h
 
-pub ended-place : (s : List ℕ) (c : Scan) → place (ended s c) ≡ place c
-ended-place s (At c) = go (endsAt s (placeOf c))
-  where
-    go : (b : Bool) → place (cond b (At c) (Refused Tail (placeOf c))) ≡ placeOf c
-    go true = refl
-    go false = refl
-ended-place s (Refused f p) = refl
+  pub tailed-place : (c : Scan) → place (tailed wanted c) ≡ place c
+  tailed-place (At c) = go (wanted (placeOf c))
+    where
+      go : (b : Bool) → place (cond b (At c) (Refused Tail (placeOf c))) ≡ placeOf c
+      go true = refl
+      go false = refl
+  tailed-place (Refused f p) = refl
 
-pub ended-at : (s : List ℕ) (scan : Scan) (c : Cursor) (b : Bool) → scan ≡ At c → b ≡ endsAt s (placeOf c) → cond b (At c) (Refused Tail (placeOf c)) ≡ ended s scan
-ended-at s scan c b e eb = ap (λ (t : Bool). cond t (At c) (Refused Tail (placeOf c))) eb ∙ sym (ap (ended s) e)
+  pub tailed-wanted : (scan : Scan) (c : Cursor) → tailed wanted scan ≡ At c → wanted (placeOf c) ≡ true
+  tailed-wanted (At d) c e = go (wanted (placeOf d)) refl e
+    where
+      go : (b : Bool) → wanted (placeOf d) ≡ b → cond b (At d) (Refused Tail (placeOf d)) ≡ At c → wanted (placeOf c) ≡ true
+      go true p q = ap wanted (sym (ap place q)) ∙ p
+      go false p q = absurd (subst Live (sym q) tt)
+  tailed-wanted (Refused f p) c e = absurd (subst Live (sym e) tt)
+
+  pub tailed-at : (scan : Scan) (c : Cursor) (b : Bool) → scan ≡ At c → b ≡ wanted (placeOf c) → cond b (At c) (Refused Tail (placeOf c)) ≡ tailed wanted scan
+  tailed-at scan c b e eb = ap (λ (t : Bool). cond t (At c) (Refused Tail (placeOf c))) eb ∙ sym (ap (tailed wanted) e)
 
 -- ---- n times
 

@@ -3,9 +3,9 @@
 -- what is read after a refusal is 0 and means nothing.
 use Prim.Native.Nat.{ℕ, zero, suc}
 use mathlib.Core.List.{List, [], _∷_, _++_}
-use mathlib.Core.Bool.{cond, _&&_}
+use mathlib.Core.Bool.{Bool, cond, _&&_}
 use lib.Dec.{leb}
-use Rattle.bits.specs.Bits.{placeOf, cursorAt, fieldAt, endsAt}
+use Rattle.bits.specs.Bits.{placeOf, cursorAt, fieldAt, filledAt, endsAt}
 use Rattle.bits.specs.declared.FieldRead as FieldRead
 use Rattle.fields.specs.declared.Fault.the-variants.{Truncated, Tail, Range}
 use Rattle.fields.specs.declared.Scan.{Scan}
@@ -58,13 +58,21 @@ abbrev pub taken : ℕ → (ℕ → Verdict) → FieldRead.FieldRead → ℕ × 
 taken p verdict FieldRead.the-variants.Truncated = (0, Refused Truncated p)
 taken p verdict (FieldRead.the-variants.Value x c) = settled p (verdict x) x (At c)
 
+-- What follows the last field is refused there if it is not as wanted.
+abbrev pub tailed : (ℕ → Bool) → Scan → Scan
+tailed wanted (At c) = cond (wanted (placeOf c)) (At c) (Refused Tail (placeOf c))
+tailed wanted (Refused f p) = Refused f p
+
 module _ (s : List ℕ) where
   -- A field of w bits. That the bytes end before or inside it is the first fault looked for.
   abbrev pub field : ℕ → (ℕ → Verdict) → Reader ℕ
   field w verdict (At c) = taken (placeOf c) verdict (fieldAt s (placeOf c) w)
   field w verdict (Refused f p) = (0, Refused f p)
 
+  -- The rest of the byte after a sheet's last field: zero bits.
+  abbrev pub filled : Scan → Scan
+  filled = tailed (filledAt s)
+
   -- The end of a sheet: zero bits to the byte, and no byte more.
   abbrev pub ended : Scan → Scan
-  ended (At c) = cond (endsAt s (placeOf c)) (At c) (Refused Tail (placeOf c))
-  ended (Refused f p) = Refused f p
+  ended = tailed (endsAt s)

@@ -2,8 +2,12 @@
 use bits::Cursor;
 use bits::FieldRead;
 ghost use mathlib.Core.Path.{_≡_};
+ghost use mathlib.Core.Bool.{cond};
 ghost use Prim.Native.Nat.{_+_, _-_, _<_, _≤_, _^_};
-ghost use Rattle.fields.specs.Reading.{start, place, free, within, field, ended};
+ghost use Rattle.bits.specs.Bits.{placeOf};
+ghost use Rattle.fields.specs.declared.Fault.the-variants.{Tail};
+ghost use Rattle.fields.specs.declared.Scan.the-variants.{At, Refused};
+ghost use Rattle.fields.specs.Reading.{start, place, free, within, field, filled, ended};
 ghost use Rattle.fields.specs.Promises.{ReadsWide, Reads, settling};
 
 // What can be wrong with a sheet: its bytes end in a field ("torn"), go on after the last ("loose tail"), a value is out of range
@@ -138,6 +142,28 @@ pub fn ranged(scan: Scan, s: &[u8], width: usize, least: u32, most: u32) -> Got
     settle(scan, got, in_range(least, most, got.value))
 }
 
+// What follows a sheet's last field, at `c`, if it is as wanted.
+fn tail(c: Cursor, wanted: bool) -> Scan
+    requires { ⌜ placeOf c < 2 ^ 32 ⌝ }
+    ensures { λ r. ⌜ r ≡ cond wanted (At c) (Refused Tail (placeOf c)) ⌝ }
+{
+    if wanted {
+        return Scan::At(c);
+    }
+    Scan::Refused(Fault::Tail, c.place())
+}
+
+// The rest of the byte after a sheet's last field.
+pub fn fill(scan: Scan, s: &[u8]) -> Scan
+    requires { ⌜ place scan < 2 ^ 32 ⌝ }
+    ensures { λ r. ⌜ r ≡ filled (now (s .entry)) scan ⌝ }
+{
+    let Scan::At(c) = scan else {
+        return scan;
+    };
+    tail(c, c.fills(s))
+}
+
 // The end of a sheet.
 pub fn end(scan: Scan, s: &[u8]) -> Scan
     requires { ⌜ place scan < 2 ^ 32 ⌝ }
@@ -146,8 +172,5 @@ pub fn end(scan: Scan, s: &[u8]) -> Scan
     let Scan::At(c) = scan else {
         return scan;
     };
-    if c.ends(s) {
-        return scan;
-    }
-    Scan::Refused(Fault::Tail, c.place())
+    tail(c, c.ends(s))
 }

@@ -11,10 +11,6 @@ use Rattle.bits.specs.Bits.{bitAt, valueAt}
 use Rattle.bits.proofs.Words.{value-cut}
 use Rattle.functions.specs.Function.{bitOf}
 
-pub bit-lt : (n a k : ℕ) → bitOf n a k < 2
-unfolding bitOf
-bit-lt n a k = omega arith
-
 -- The last bit, and the bits before it.
 bit-last : (n a : ℕ) → bitOf (suc n) a n ≡ a % 2
 unfolding bitOf

@@ -11,7 +11,7 @@ use Rattle.fields.specs.declared.Scan.the-variants.{At}
 use Rattle.fields.specs.Promises.{Live}
 use Rattle.fields.specs.Reading.{times, start, free, field}
 use Rattle.fields.specs.Written.{widths}
-use Rattle.fields.proofs.Laws.{length-times, ended-live}
+use Rattle.fields.proofs.Laws.{length-times, tailed-live}
 use Rattle.fields.proofs.Packed.{Laid, packed-only, Found, found-live, found-field, found-then, found-times, found-all}
 use Rattle.covers.specs.Cover.{Placed, Cover}
 use Rattle.covers.specs.CoverSheet.{areaWidth, arrivalWidth, matchCountWidth, nodeWidth, patternWidth, crossingWidth, placedFields, coverFields, coverSheet, placedRead, coverRead, CoverReads}
@@ -37,7 +37,7 @@ cover-found s h =
     let t = field s arrivalWidth free (a .1) in
     let n = field s matchCountWidth free (t .1) in
     let xs = times (n .0) (placedRead s) (n .1) in
-    let matches = found-times s (λ x. placedFields (x ∷ [])) placedFields refl (λ x ys. refl) (placedRead s) (placed-found s) (n .0) (n .1) (ended-live s (xs .1) h) in
+    let matches = found-times s (λ x. placedFields (x ∷ [])) placedFields refl (λ x ys. refl) (placedRead s) (placed-found s) (n .0) (n .1) (tailed-live (endsAt s) (xs .1) h) in
     let counted = found-field s matchCountWidth free (t .1) (found-live matches) in
     let timed = found-field s arrivalWidth free (a .1) (found-live counted) in
     let sized = found-field s areaWidth free start (found-live timed) in

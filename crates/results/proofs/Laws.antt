@@ -8,18 +8,16 @@ use native.Mathlib.Numerals.{add-one}
 use borrow.Author.Fill.{fill-none, fill-more}
 use lib.ListN.{length, take, drop, getD, set, replicate, length-set, length-replicate, length-reverse, length-map, List·getD-append}
 use lib.Seq.{set-append-left, slice, slice-cons, slice-empty, take-suc, length-take-le}
-use mathlib.Core.Bool.{Bool, true, false, cond}
-use Rattle.bits.specs.Bits.{placeOf, endsAt, cursorAt, after, withDigit, withBit, withField, bytesTo}
+use Rattle.bits.specs.Bits.{endsAt, cursorAt, after, withDigit, withBit, withField, bytesTo}
 use Rattle.bits.proofs.Laws.{length-bit, length-field}
 use Rattle.fields.specs.declared.Scan.{Scan}
 use Rattle.fields.specs.declared.Got.{Got}
 use Rattle.fields.specs.Reading.{place, start, times, free, field, ended}
 use Rattle.fields.specs.Promises.{Reads}
 use Rattle.fields.proofs.Lists.{take-sets}
-use Rattle.fields.proofs.Laws.{value-at, scan-at, length-times}
+use Rattle.fields.proofs.Laws.{value-at, scan-at, length-times, tailed-place}
 use Rattle.sheets.specs.Layout.{padded}
-use Rattle.fields.specs.declared.Fault.the-variants.{Tail}
-use Rattle.fields.specs.declared.Scan.the-variants.{At, Refused}
+use Rattle.fields.specs.declared.Scan.the-variants.{At}
 use Rattle.covers.specs.Cover.{Point, Placed, Cover}
 use Rattle.fields.specs.Written.{Field, widths, written, packed}
 use Rattle.fields.proofs.Written.{length-packed}
@@ -239,14 +237,6 @@ unfolding placedOf
 placed-parts [] = refl
 placed-parts (x ∷ xs) = ap (λ (l : List Placed). x ∷ l) (placed-parts xs)
 
-end-place : (s : List ℕ) (c : Scan) → place (ended s c) ≡ place c
-end-place s (At c) = go (endsAt s (placeOf c))
-  where
-    go : (b : Bool) → place (cond b (At c) (Refused Tail (placeOf c))) ≡ placeOf c
-    go true = refl
-    go false = refl
-end-place s (Refused f p) = refl
-
 -- By what the parts promise: the three fields, the matches, the end.
 pub cover-read : (s : List ℕ) (area arrival count : Got) (ms : MatchesRead) (c end : Scan) {i j k a t n : ℕ} → c ≡ start →
     Reads area (field s areaWidth free c) i a → Reads arrival (field s arrivalWidth free (area .scan)) j t → Reads count (field s matchCountWidth free (arrival .scan)) k n → n ≤ 63 → k ≤ coverBits 0 →
@@ -276,7 +266,7 @@ cover-read s area arrival count ms c end e ha ht hn few reach hm he =
         placed = (placed ∙ ap (λ (y : List Placed × Scan). y .0) same) d;
       };
       few = omega arith;
-      near = omega (arith, ap place he, end-place s (ms .scan), hm .near, hn .near);
+      near = omega (arith, ap place he, tailed-place (endsAt s) (ms .scan), hm .near, hn .near);
     }
 
 -- Bytes that say a cover are read as that cover, and not refused.

@@ -16,7 +16,7 @@ use Rattle.fields.specs.declared.Fault.the-variants.{Size}
 use borrow.Author.Tests.{leb-true, ne-eqb}
 use lib.Dec.{leb, eqb}
 use Rattle.fields.proofs.Laws.{length-times, times-value, times-scan, positive-live, live-sound, range-least, range-passes}
-use Rattle.fields.proofs.Lists.{sets-append, set-sets, mid-sets, front-sets, zeros-at}
+use Rattle.fields.proofs.Lists.{sets-append, set-sets, mid-sets, front-sets}
 use Rattle.shapes.proofs.Drawn.{live?, length-symbols, node-live}
 use Rattle.shapes.proofs.Wholes.{drawn-is}
 use borrow.Rule.Slice.PartMut.{putMid}
@@ -50,16 +50,25 @@ copy-more l d k h =
 pub in-padded : {A : Type 0} (n : ℕ) (blank d : A) (xs : List A) (k : ℕ) → length xs ≤ n → k < length xs → getD (padded n blank xs) k d ≡ getD xs k d
 in-padded n blank d xs k h g = front-sets (replicate n blank) xs k d (omega (arith, length-replicate n blank)) g
 
--- A list of numbers in an array of zeros, at every place.
-pub padded-at : (n : ℕ) (xs : List ℕ) (k : ℕ) → length xs ≤ n → getD (padded n 0 xs) k 0 ≡ getD xs k 0
-padded-at n xs k h =
-    ap (λ (l : List ℕ). getD l k 0) (sets-eq xs (replicate n 0) 0 (omega (arith, length-replicate {A = ℕ} n 0)))
-    ∙ go xs (drop (0 + length xs) (replicate n 0)) k (λ j. getD-drop (0 + length xs) (replicate n 0) j 0 ∙ zeros-at n (0 + length xs + j))
+-- Blanks at every place.
+pub blank-at : {A : Type 0} (n k : ℕ) (blank : A) → getD (replicate n blank) k blank ≡ blank
+blank-at zero k blank = refl
+blank-at (suc n) zero blank = refl
+blank-at (suc n) (suc k) blank = blank-at n k blank
+
+-- And what it holds at every place.
+pub padded-whole : {A : Type 0} (n : ℕ) (blank : A) (xs : List A) (k : ℕ) → length xs ≤ n → getD (padded n blank xs) k blank ≡ getD xs k blank
+padded-whole {A} n blank xs k h =
+    ap (λ (l : List A). getD l k blank) (sets-eq xs (replicate n blank) 0 (omega (arith, length-replicate n blank)))
+    ∙ go xs (drop (0 + length xs) (replicate n blank)) k (λ j. getD-drop (0 + length xs) (replicate n blank) j blank ∙ blank-at n (0 + length xs + j) blank)
   where
-    go : (ys zs : List ℕ) (i : ℕ) → ((j : ℕ) → getD zs j 0 ≡ 0) → getD (ys ++ zs) i 0 ≡ getD ys i 0
+    go : (ys zs : List A) (i : ℕ) → ((j : ℕ) → getD zs j blank ≡ blank) → getD (ys ++ zs) i blank ≡ getD ys i blank
     go [] zs i z = z i
     go (y ∷ ys) zs zero z = refl
     go (y ∷ ys) zs (suc i) z = go ys zs i z
+
+pub padded-at : (n : ℕ) (xs : List ℕ) (k : ℕ) → length xs ≤ n → getD (padded n 0 xs) k 0 ≡ getD xs k 0
+padded-at n = padded-whole n 0
 
 -- What a loop has read so far, laid out by f, and one turn more.
 module _ {A B : Type 0} (n : ℕ) (blank : B) (f : A → B) (r : List A → Reader A) (c : Scan) where

@@ -1,11 +1,12 @@
 -- What the sheets' definitions read from sound bytes keeps the limits of `SoundLibrary` and `SoundTree`.
 use mathlib.Core.Path.{_≡_, refl, sym, subst}
-use mathlib.Core.Bool.{true}
+use mathlib.Core.Bool.{Bool, true}
 use mathlib.Core.Logic.{⊎-elim}
 use mathlib.Core.List.{List, [], _∷_, _++_, List·Memᴰ, List·Memᴰ·append-cases, List·Memᴰ·eq-of-singleton, List·Memᴰ·not-nil}
 use Prim.Native.Nat.{ℕ, zero, suc, _+_, _-_, _≤_, _<_}
 use native.Mathlib.Omega.{arith}
 use lib.ListN.{length, length-append}
+use Rattle.bits.specs.Bits.{endsAt}
 use Rattle.shapes.specs.declared.Rules.{Rules}
 use Rattle.fields.specs.declared.Scan.{Scan}
 use Rattle.fields.specs.declared.Verdict.the-variants.{Sound}
@@ -13,13 +14,13 @@ use Rattle.fields.specs.Reading.{Reader, place, times, within, free, field, sta
 use Rattle.shapes.specs.Shape.{symbols}
 use Rattle.shapes.specs.Drawing.{hasAll, codeVerdict, leafVerdict, leafNode, drivenNode, pair, branch, node, shape}
 use Rattle.fields.specs.Promises.{Live}
-use Rattle.fields.proofs.Laws.{live-sound, free-small, range-least, range-passes, length-times, ended-live}
+use Rattle.fields.proofs.Laws.{live-sound, free-small, range-least, range-passes, length-times, tailed-live}
 use Rattle.shapes.proofs.Laws.{code-room}
 use Rattle.shapes.proofs.Pins.{fresh, fresh-few, fresh-append, fresh-leaf}
 use Rattle.shapes.proofs.Drawn.{plain-symbol, leaf-passes, length-symbols, leaves-nands, node-live}
 use Rattle.sheets.specs.Model.{Leaf, Shape, size, leaves, Pin, Cell, patternsFrom, patterns}
 use Rattle.sheets.specs.LibrarySheet.{Head, last, binLoad, head, pin, patternRules, pattern, countVerdict, drawings, cell, bins, cells, library}
-use Rattle.sheets.specs.TreeSheet.{tree, treeRules}
+use Rattle.sheets.specs.TreeSheet.{treeRules, tailAt, treeTo, tree}
 use Rattle.sheets.specs.Inside.{cellAfter}
 use Rattle.sheets.specs.Sound.{IsGate, SoundDrawing, SoundPin, SoundCell, SoundLibrary, SoundTree}
 use Rattle.sheets.proofs.Laws.{complete-live, count-passes, count-fits}
@@ -253,7 +254,7 @@ library-limits s l =
     let number = field s 7 (within 1 64) (loads .1) in
     let cs = times (number .0) (cellAfter s n) (number .1) in
     let each : (before : List Cell) → Keeps (λ c. 1 ≤ n → SoundCell n c) (cellAfter s n before) = λ before. cell-keeps s n (length (patternsFrom 0 before)) in
-    let cells-in = times-all (λ c. 1 ≤ n → SoundCell n c) (cellAfter s n) each (number .0) (number .1) (ended-live s (cs .1) l) in
+    let cells-in = times-all (λ c. 1 ≤ n → SoundCell n c) (cellAfter s n) each (number .0) (number .1) (tailed-live (endsAt s) (cs .1) l) in
     let number-in = field-keeps s 7 1 64 (loads .1) (cells-in .1) in
     let loads-in = times-all (λ x. x ≤ 255) (binLoad s) (bin-keeps s) (count .0) (count .1) (number-in .1) in
     let count-in = field-keeps s 3 1 4 start (loads-in .1) in
@@ -268,13 +269,16 @@ library-limits s l =
       cells = λ c m. cells-in .0 c m some;
     }
 
-pub tree-limits : (s : List ℕ) → Live (tree s start .1) → SoundTree (tree s start .0)
-unfolding tree
-tree-limits s l =
+pub tree-limits-to : (last : Bool) (s : List ℕ) → Live (treeTo last s start .1) → SoundTree (treeTo last s start .0)
+unfolding treeTo
+tree-limits-to last s l =
     let load = field s 8 (within 0 255) start in
     let required = field s 24 (within 0 16777215) (load .1) in
     let x = shape s treeRules (required .1) in
-    let shape-in = shape-keeps s treeRules (required .1) (ended-live s (x .1) l) in
+    let shape-in = shape-keeps s treeRules (required .1) (tailed-live (tailAt last s) (x .1) l) in
     let required-in = field-keeps s 24 0 16777215 (load .1) (shape-in .1) in
     let load-in = field-keeps s 8 0 255 start (required-in .1) in
     record { load = load-in .0 .1; required = required-in .0 .1; size = omega (arith, shape-in .0 .nodes); leaves = λ y m. let n = shape-in .0 .numbers y m in (n .0, n .1) }
+
+pub tree-limits : (s : List ℕ) → Live (tree s start .1) → SoundTree (tree s start .0)
+tree-limits = tree-limits-to true

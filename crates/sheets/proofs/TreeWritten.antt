@@ -15,7 +15,7 @@ use Rattle.shapes.specs.Shape.{symbols}
 use Rattle.shapes.specs.Drawing.{codeVerdict, leafVerdict, leafNode, drivenNode, pair, branch, node, shape}
 use Rattle.shapes.proofs.Drawn.{length-symbols}
 use Rattle.sheets.specs.Model.{plainLeaf, Shape, leaf, inv, nand, size, Tree}
-use Rattle.sheets.specs.TreeSheet.{treeRules, tree}
+use Rattle.sheets.specs.TreeSheet.{treeRules, treeTo, tree}
 use Rattle.sheets.specs.TreeWritten.{CodedTree, code0, code1, code2, code3, codedFields, shapeOf, treeFields, treeSheet, Ranged, SoundCoded, plainly, Undriven}
 
 -- A code passes while there is room for its node, and an arrival up to the latest.
@@ -75,7 +75,7 @@ module _ (all : List Field) where
 -- The whole sheet.
 pub tree-reads : (load required : ℕ) (x : CodedTree) → SoundCoded load required x →
     tree (treeSheet load required x) start ≡ (record { load = load; required = required; shape = shapeOf x }, At (cursorAt (widths (treeFields load required x))))
-unfolding tree treeSheet treeFields shape
+unfolding treeTo treeSheet treeFields shape
 tree-reads load required x h =
     let all = treeFields load required x in
     let s = packed all in

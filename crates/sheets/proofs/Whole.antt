@@ -4,7 +4,10 @@ use mathlib.Core.List.{List, map}
 use Prim.Native.Nat.{ℕ, _+_, _*_, _/_, _%_, _≤_}
 use native.Mathlib.Omega.{arith}
 use lib.ListN.{length, replicate}
+use mathlib.Core.Bool.{Bool, true, false}
 use Rattle.bits.specs.declared.Cursor.{Cursor}
+use Rattle.bits.specs.Bits.{placeOf, bytesTo, endsAt}
+use Rattle.bits.proofs.Whole.{ends-says, fills-says}
 use Rattle.shapes.specs.declared.ShapeRead.{ShapeRead}
 use Rattle.fields.specs.declared.Fault.{Fault}
 use Rattle.fields.specs.declared.Fault.the-variants.{Truncated, Tail, Range, Drawing, Size}
@@ -13,12 +16,12 @@ use Rattle.fields.specs.declared.Got.{Got}
 use Rattle.fields.specs.declared.Scan.{Scan}
 use Rattle.fields.specs.declared.Scan.the-variants.{At, Refused}
 use Rattle.shapes.specs.Shape.{symbols}
-use Rattle.fields.specs.Reading.{start, place, times, field, within, ended}
+use Rattle.fields.specs.Reading.{start, place, times, field, within, tailed, ended}
 use Rattle.shapes.specs.Drawing.{shape}
 use Rattle.fields.specs.Promises.{Live, Reads}
 use Rattle.shapes.specs.Promises.{ShapeIs, Preorder, SizesSet}
 use Rattle.fields.proofs.Answer.{word-reads}
-use Rattle.fields.proofs.Laws.{start-place, value-at, scan-at, length-times, ended-live, ended-place}
+use Rattle.fields.proofs.Laws.{start-place, value-at, scan-at, length-times, tailed-live, tailed-place, tailed-wanted}
 use Rattle.shapes.proofs.Drawn.{length-symbols}
 use Rattle.shapes.proofs.Wholes.{drawn-is}
 use Rattle.sheets.specs.declared.library.Bins.{Bins}
@@ -26,30 +29,30 @@ use Rattle.sheets.specs.declared.library.BinsRead.{BinsRead}
 use Rattle.sheets.specs.declared.library.CellsRead.{CellsRead}
 use Rattle.sheets.specs.Model.{Pin, binLoadOf, Cell, Pattern, patterns, patternsFrom}
 use Rattle.sheets.specs.LibrarySheet.{binLoad, bins, cells, library}
-use Rattle.sheets.specs.TreeSheet.{tree, treeRules}
+use Rattle.sheets.specs.TreeSheet.{treeRules, tailAt, treeTo, tree}
 use Rattle.sheets.specs.Report.{LibraryLimits, TreeLimits, libraryNumber, treeNumber, LibraryCounts, libraryWord, ofLibraryWord, libraryRead, treeRead, libraryReport, treeReport}
 use Rattle.sheets.specs.declared.library.SheetRead.{SheetRead}
 use Rattle.sheets.specs.declared.tree.TreeHead.{TreeHead}
 use Rattle.sheets.specs.Layout.{padded, pinsMost, cellLaid, rowWords, tableWords, row, tableFrom, patternRow, patternRows, libraryLaid, treeLaid}
-use Rattle.sheets.specs.Public.{LibraryIs, TreeIs}
+use Rattle.sheets.specs.Public.{LibraryIs, TreeToIs}
 use Rattle.sheets.specs.Inside.{BinsAre, CellsAre, cellAfter, SheetIs, NodesAre}
 use Rattle.sheets.proofs.Laws.{padded-at}
 
-pub nodes-are : (s : List ℕ) (c : Scan) (load req : Got) (read : ShapeRead) (l l′ : List ℕ) (res : Scan) → l ≡ replicate 64 0 → c ≡ start →
+pub nodes-are : (last : Bool) (s : List ℕ) (c : Scan) (load req : Got) (read : ShapeRead) (l l′ : List ℕ) (res : Scan) → l ≡ replicate 64 0 → c ≡ start →
     Reads load (field s 8 (within 0 255) c) (place c + 8) 255 → Reads req (field s 24 (within 0 16777215) (load .scan)) (place (load .scan) + 24) 16777215 →
-    ShapeIs s treeRules (req .scan) l l′ read → res ≡ ended s (read .scan) →
-    NodesAre s l′ (record { scan = res; load = load .value; required = req .value; count = read .size })
-unfolding tree
-nodes-are s c load req read l l′ res el ec hl hr h₀ er =
+    ShapeIs s treeRules (req .scan) l l′ read → res ≡ tailed (tailAt last s) (read .scan) →
+    NodesAre s last l′ (record { scan = res; load = load .value; required = req .value; count = read .size })
+unfolding treeTo
+nodes-are last s c load req read l l′ res el ec hl hr h₀ er =
     let L = field s 8 (within 0 255) start in
     let R = field s 24 (within 0 16777215) (L .1) in
     let X = shape s treeRules (R .1) in
     let at-load = scan-at s 8 (within 0 255) c hl ec in
     let at-shape = scan-at s 24 (within 0 16777215) (load .scan) hr at-load in
     let h : ShapeIs s treeRules (R .1) (replicate 64 0) l′ read = subst₂ (λ (q : Scan) (k : List ℕ). ShapeIs s treeRules q k l′ read) at-shape el h₀ in
-    let live : Live res → Live (read .scan) = λ q. ended-live s (read .scan) (subst Live er q) in
+    let live : Live res → Live (read .scan) = λ q. tailed-live (tailAt last s) (read .scan) (subst Live er q) in
     record {
-      scan-is = er ∙ ap (ended s) (h .scan-is);
+      scan-is = er ∙ ap (tailed (tailAt last s)) (h .scan-is);
       load-is = λ q. value-at s 8 (within 0 255) c hl ec;
       required-is = λ q. value-at s 24 (within 0 16777215) (load .scan) hr at-load;
       counted = λ q. h .size-is (live q) ∙ length-symbols (X .0);
@@ -57,20 +60,29 @@ nodes-are s c load req read l l′ res el ec hl hr h₀ er =
       drawn = λ q. drawn-is s treeRules (R .1) l′ read (omega arith) h (live q);
       wide = h .wide;
       nodes-few = h .few;
-      near = omega (arith, ap place er, ended-place s (read .scan), h₀ .near, hl .near, hr .near, ap place ec, start-place);
+      near = omega (arith, ap place er, tailed-place (tailAt last s) (read .scan), h₀ .near, hl .near, hr .near, ap place ec, start-place);
     }
 
+-- The bytes that it takes up are there.
+pub tree-room : (last : Bool) (s : List ℕ) (c : Cursor) → treeTo last s start .1 ≡ At c → bytesTo (placeOf c) ≤ length s
+unfolding treeTo
+tree-room last s c e = go last (tailed-wanted (tailAt last s) (shape s treeRules (field s 24 (within 0 16777215) (field s 8 (within 0 255) start .1) .1) .1) c e)
+  where
+    go : (b : Bool) → tailAt b s (placeOf c) ≡ true → bytesTo (placeOf c) ≤ length s
+    go true f = omega (arith, ends-says s (placeOf c) f)
+    go false f = fills-says s (placeOf c) f
+
 -- A tree's symbols, as many as its nodes, are those of a shape.
-pub tree-preorder : (s l′ : List ℕ) (r : TreeHead) → NodesAre s l′ r → Live (r .scan) → Preorder (r .count) l′
-tree-preorder s l′ r h z = record { many = omega (arith, h .nodes-few, h .wide); shape = tree s start .0 .shape; laid = h .drawn z }
+pub tree-preorder : (last : Bool) (s l′ : List ℕ) (r : TreeHead) → NodesAre s last l′ r → Live (r .scan) → Preorder (r .count) l′
+tree-preorder last s l′ r h z = record { many = omega (arith, h .nodes-few, h .wide); shape = treeTo last s start .0 .shape; laid = h .drawn z }
 
 -- With its sizes set the tree is whole.
-pub tree-is : (s l′ m′ : List ℕ) (r : TreeHead) → NodesAre s l′ r → (Live (r .scan) → SizesSet (r .count) l′ (replicate 64 0) m′) →
-    TreeIs s (record { scan = r .scan; tree = record { load = r .load; required = r .required; count = r .count; symbols = l′; sizes = m′ } })
+pub tree-is : (last : Bool) (s l′ m′ : List ℕ) (r : TreeHead) → NodesAre s last l′ r → (Live (r .scan) → SizesSet (r .count) l′ (replicate 64 0) m′) →
+    TreeToIs s last (record { scan = r .scan; tree = record { load = r .load; required = r .required; count = r .count; symbols = l′; sizes = m′ } })
 unfolding treeLaid
-tree-is s l′ m′ r h hs = record {
+tree-is last s l′ m′ r h hs = record {
   scan-is = h .scan-is;
-  laid = λ q i. record { load = h .load-is q i; required = h .required-is q i; count = h .counted q i; symbols = h .laid q i; sizes = hs q (tree s start .0 .shape) (h .drawn q) i };
+  laid = λ q i. record { load = h .load-is q i; required = h .required-is q i; count = h .counted q i; symbols = h .laid q i; sizes = hs q (treeTo last s start .0 .shape) (h .drawn q) i };
   nodes-few = h .nodes-few;
   near = h .near;
 }
@@ -122,13 +134,13 @@ sheet-is s c nb lb nc rc l l′ res ec hnb hlb hnc hrc er =
       counted = λ q. all-cells;
       totalled = λ q. total;
       laid = λ q.
-          hrc .laid (ended-live s (rc .scan) (subst Live er q))
+          hrc .laid (tailed-live (endsAt s) (rc .scan) (subst Live er q))
           ∙ ap₂ (λ (bs : List ℕ) (x : List Cell × Scan). tableFrom rowWords l 0 (patternRows bs (patternsFrom 0 (x .0)))) loads same
           ∙ ap (tableFrom rowWords l 0) (rows-padded (B .0) (omega (arith, hnb .small)) (patternsFrom 0 (X .0)));
       bins-few = hnb .small;
       cells-few = hnc .small;
       patterns-few = hrc .fits;
-      near = omega (arith, ap place er, ended-place s (rc .scan), hnb .near, hnb .small, hlb .near, hnc .near, hnc .small, hrc .near, ap place ec, start-place);
+      near = omega (arith, ap place er, tailed-place (endsAt s) (rc .scan), hnb .near, hnb .small, hlb .near, hnc .near, hnc .small, hrc .near, ap place ec, start-place);
     }
 
 -- With its rows laid out in a table of zeros the library is whole.
@@ -185,7 +197,7 @@ module _ (s l l′ : List ℕ) (r : SheetRead) (h : SheetIs s l l′ r) where
     (omega (arith, h .near, ap place e, number-bounds f), omega (arith, h .near, ap place e)),
   )
 
-module _ (s l′ : List ℕ) (r : TreeHead) (h : NodesAre s l′ r) where
+module _ (s l′ : List ℕ) (r : TreeHead) (h : NodesAre s true l′ r) where
   pub tree-sound : (c : Cursor) → r .scan ≡ At c → (success (r .count) ≡ treeReport s) × (Bounded (success (r .count)) × TreeLimits (success (r .count)))
   unfolding treeReport treeRead Bounded TreeLimits
   tree-sound c e =

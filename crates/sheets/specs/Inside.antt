@@ -3,6 +3,7 @@ use Prim.Native.Nat.{ℕ, _+_, _*_, _≤_}
 use mathlib.Core.Path.{_≡_}
 use mathlib.Core.List.{List, [], map}
 use mathlib.Core.Logic.{_⊎_}
+use mathlib.Core.Bool.{Bool}
 use lib.ListN.{length, take}
 use lib.Seq.{sets}
 use Rattle.fields.specs.declared.Scan.{Scan}
@@ -23,7 +24,7 @@ use Rattle.sheets.specs.declared.library.SheetRead.{SheetRead}
 use Rattle.sheets.specs.declared.tree.TreeHead.{TreeHead}
 use Rattle.sheets.specs.Model.{Shape, Pin, binLoadOf, size, Cell, patternsFrom, patterns}
 use Rattle.sheets.specs.LibrarySheet.{binLoad, head, pin, pattern, countVerdict, drawings, cell, library}
-use Rattle.sheets.specs.TreeSheet.{tree}
+use Rattle.sheets.specs.TreeSheet.{treeTo}
 use Rattle.sheets.specs.Reach.{binBits, headBits, pinBits, patternBits, countBits, drawingsBits, cellBits, libraryBits, treeBits}
 use Rattle.sheets.specs.Layout.{padded, pinsMost, cellLaid, rowWords, tableWords, row, tableFrom, patternRows, libraryLaid}
 
@@ -142,13 +143,13 @@ module _ (s : List ℕ) where
     pub near : place (r .scan) ≤ libraryBits
 
   -- The whole tree, its nodes' symbols laid out in l′.
-  pub record NodesAre (l′ : List ℕ) (r : TreeHead) : Type 0 where
-    pub scan-is : r .scan ≡ tree s start .1
-    pub load-is : Live (r .scan) → r .load ≡ tree s start .0 .load
-    pub required-is : Live (r .scan) → r .required ≡ tree s start .0 .required
-    pub counted : Live (r .scan) → r .count ≡ size (tree s start .0 .shape)
-    pub laid : Live (r .scan) → l′ ≡ padded 64 0 (symbols (tree s start .0 .shape))
-    pub drawn : Live (r .scan) → take (r .count) l′ ≡ symbols (tree s start .0 .shape)
+  pub record NodesAre (last : Bool) (l′ : List ℕ) (r : TreeHead) : Type 0 where
+    pub scan-is : r .scan ≡ treeTo last s start .1
+    pub load-is : Live (r .scan) → r .load ≡ treeTo last s start .0 .load
+    pub required-is : Live (r .scan) → r .required ≡ treeTo last s start .0 .required
+    pub counted : Live (r .scan) → r .count ≡ size (treeTo last s start .0 .shape)
+    pub laid : Live (r .scan) → l′ ≡ padded 64 0 (symbols (treeTo last s start .0 .shape))
+    pub drawn : Live (r .scan) → take (r .count) l′ ≡ symbols (treeTo last s start .0 .shape)
     pub wide : length l′ ≡ 64
     pub nodes-few : r .count ≤ 64
     pub near : place (r .scan) ≤ treeBits

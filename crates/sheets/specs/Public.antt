@@ -2,12 +2,13 @@
 use Prim.Native.Nat.{ℕ, _≤_}
 use mathlib.Core.Path.{_≡_}
 use mathlib.Core.List.{List}
+use mathlib.Core.Bool.{Bool, true}
 use Rattle.fields.specs.Reading.{place, start}
 use Rattle.fields.specs.Promises.{Live}
 use Rattle.sheets.specs.declared.library.LibraryRead.{LibraryRead}
 use Rattle.sheets.specs.declared.tree.TreeRead.{TreeRead}
 use Rattle.sheets.specs.LibrarySheet.{library}
-use Rattle.sheets.specs.TreeSheet.{tree}
+use Rattle.sheets.specs.TreeSheet.{treeTo}
 use Rattle.sheets.specs.Reach.{libraryBits, treeBits}
 use Rattle.sheets.specs.Layout.{libraryLaid, treeLaid}
 
@@ -22,8 +23,11 @@ module _ (s : List ℕ) where
     pub patterns-few : r .library .total ≤ 128
     pub near : place (r .scan) ≤ libraryBits
 
-  pub record TreeIs (r : TreeRead) : Type 0 where
-    pub scan-is : r .scan ≡ tree s start .1
-    pub laid : Live (r .scan) → r .tree ≡ treeLaid (tree s start .0)
+  pub record TreeToIs (last : Bool) (r : TreeRead) : Type 0 where
+    pub scan-is : r .scan ≡ treeTo last s start .1
+    pub laid : Live (r .scan) → r .tree ≡ treeLaid (treeTo last s start .0)
     pub nodes-few : r .tree .count ≤ 64
     pub near : place (r .scan) ≤ treeBits
+
+  abbrev pub TreeIs : TreeRead → Type 0
+  TreeIs = TreeToIs true

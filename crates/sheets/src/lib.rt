@@ -2,7 +2,7 @@
 pub mod library;
 pub mod tree;
 
-// Document 01's limits: of the sheets, of what map and list are lent, and of the program's input; and the base of a point's word, which they fix.
+// The papers' limits: of the sheets, of what the operations are lent, and of the program's input; and the base of a point's word, which they fix.
 pub struct Limits {}
 
 impl Limits {
@@ -28,6 +28,10 @@ impl Limits {
 
     pub const TREE_NODES: usize = 64;
 
+    pub const PART_TREES: usize = 16;
+
+    pub const PART_LINKS: usize = 255;
+
     pub const ARRIVAL: u32 = 1000000;
 
     pub const TIME: u32 = 16777215;
@@ -40,6 +44,9 @@ impl Limits {
     pub const OUTPUT_MAP: usize = 149;
 
     pub const OUTPUT_LIST: usize = 179;
+
+    // A cover sheet for each tree of a part.
+    pub const OUTPUT_PART: usize = Limits::PART_TREES * Limits::OUTPUT_MAP;
 
     // 64 nodes under 4 loads, a word more than the points each.
     pub const WORK: usize = 256 * (Limits::POINTS + 1);

@@ -170,7 +170,7 @@ fn read_head(scan: Scan, s: &[u8]) -> HeadRead
 }
 
 // The greatest number below `count`; 0 after a refusal.
-fn last_of(count: u32) -> u32
+pub fn last_of(count: u32) -> u32
     ensures { λ r. ⌜ r ≡ count - 1 ⌝ }
 {
     if count == 0 {

@@ -4,13 +4,15 @@ use fields::Fault;
 use fields::Scan;
 use shapes::Rules;
 ghost use mathlib.Core.Path.{_≡_};
-ghost use Prim.Native.Nat.{_≤_};
+ghost use Prim.Native.Nat.{_<_, _≤_, _^_};
 ghost use lib.ListN.{replicate};
 ghost use Rattle.fields.specs.Answer.{Bounded};
+ghost use Rattle.fields.specs.Reading.{place, tailed};
 ghost use Rattle.fields.specs.Promises.{Live};
 ghost use Rattle.shapes.specs.Promises.{Preorder, SizesSet};
 ghost use Rattle.sheets.specs.Inside.{NodesAre};
-ghost use Rattle.sheets.specs.Public.{TreeIs};
+ghost use Rattle.sheets.specs.TreeSheet.{tailAt};
+ghost use Rattle.sheets.specs.Public.{TreeToIs, TreeIs};
 ghost use Rattle.sheets.specs.Report.{ofTreeJudged, TreeLimits, treeReport, treeNumber};
 
 // A tree as decoded: its nodes' symbols in preorder, and how many nodes stand under each.
@@ -42,10 +44,21 @@ pub struct TreeHead {
     pub count: usize,
 }
 
+// What follows a tree's last field: the end of the bytes, or, before another tree of a part, the rest of the byte.
+fn tail(scan: Scan, s: &[u8], last: bool) -> Scan
+    requires { ⌜ place scan < 2 ^ 32 ⌝ }
+    ensures { λ r. ⌜ r ≡ tailed (tailAt last (now (s .entry))) scan ⌝ }
+{
+    if last {
+        return fields::end(scan, s);
+    }
+    fields::fill(scan, s)
+}
+
 // The tree sheet, its nodes' symbols laid out in an array of zeros.
-fn read_nodes(s: &[u8], symbols: &mut [u32; Limits::TREE_NODES]) -> TreeHead
+fn read_nodes(s: &[u8], last: bool, symbols: &mut [u32; Limits::TREE_NODES]) -> TreeHead
     requires { ⌜ now symbols ≡ replicate 64 0 ⌝ }
-    ensures { λ r. ⌜ NodesAre (now (s .entry)) (now (symbols .exit)) r ⌝ }
+    ensures { λ r. ⌜ NodesAre (now (s .entry)) last (now (symbols .exit)) r ⌝ }
 {
     let start = fields::begin();
     let load = fields::ranged(start, s, 8, 0, Limits::LOAD);
@@ -61,7 +74,7 @@ fn read_nodes(s: &[u8], symbols: &mut [u32; Limits::TREE_NODES]) -> TreeHead
     let read = shapes::read_shape(at, s, rules, symbols);
     let at = read.scan;
     TreeHead {
-        scan: fields::end(at, s),
+        scan: tail(at, s, last),
         load: load.value as u8,
         required: required.value,
         count: read.size,
@@ -82,12 +95,12 @@ fn sizes_of(after: Scan, symbols: &[u32], n: usize) -> [u8; Limits::TREE_NODES]
     sizes
 }
 
-// The tree sheet.
-pub fn read_tree(s: &[u8]) -> TreeRead
-    ensures { λ r. ⌜ TreeIs (now (s .entry)) r ⌝ }
+// The tree sheet at the front of the bytes: the last, with which they end, or one before another of a part.
+pub fn read_tree_to(s: &[u8], last: bool) -> TreeRead
+    ensures { λ r. ⌜ TreeToIs (now (s .entry)) last r ⌝ }
 {
     let mut symbols = [0u32; Limits::TREE_NODES];
-    let read = read_nodes(s, &mut symbols);
+    let read = read_nodes(s, last, &mut symbols);
     let scan = read.scan;
     let count = read.count;
     let sizes = sizes_of(scan, &symbols, count);
@@ -103,13 +116,20 @@ pub fn read_tree(s: &[u8]) -> TreeRead
     }
 }
 
+// The tree sheet.
+pub fn read_tree(s: &[u8]) -> TreeRead
+    ensures { λ r. ⌜ TreeIs (now (s .entry)) r ⌝ }
+{
+    read_tree_to(s, true)
+}
+
 // Judges a tree: its node count, or what is wrong with it and where. No sizes are set.
 pub fn judge_tree(s: &[u8]) -> TreeJudged
     ensures { λ r. ⌜ ofTreeJudged r ≡ treeReport (now (s .entry)) ⌝ }
     ensures { λ r. ⌜ Bounded (ofTreeJudged r) × TreeLimits (ofTreeJudged r) ⌝ }
 {
     let mut symbols = [0u32; Limits::TREE_NODES];
-    let read = read_nodes(s, &mut symbols);
+    let read = read_nodes(s, true, &mut symbols);
     let scan = read.scan;
     match scan {
         Scan::At(_) => TreeJudged::Sound(read.count),

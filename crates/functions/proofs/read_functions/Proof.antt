@@ -6,7 +6,8 @@ use lib.ListN.{length, take}
 use lib.Seq.{length-take-le}
 use Rattle.fields.specs.Reading.{place, start, times, ended}
 use Rattle.fields.specs.declared.Scan.{Scan}
-use Rattle.fields.proofs.Laws.{length-times, times-scan, ended-place}
+use Rattle.bits.specs.Bits.{endsAt}
+use Rattle.fields.proofs.Laws.{length-times, times-scan, tailed-place}
 use Rattle.sheets.specs.Layout.{padded}
 use Rattle.sheets.proofs.Laws.{filled-more}
 use Rattle.functions.specs.FunctionSheet.{function, functionSheet}
@@ -85,7 +86,7 @@ returns c =
     record {
       scan-is = c .end .ensures ∙ ap (ended (a .s .now)) (i .inv .3 ∙ ap (λ (k : ℕ). times k r start .1) all);
       functions-are = i .inv .2 ∙ ap (padded 64 0) (map-id (times (i .k) r start .0)) ∙ ap (λ (k : ℕ). padded 64 0 (times k r start .0)) all;
-      near = omega (arith, ap place (c .end .ensures), ended-place (a .s .now) (i .at), i .inv .4, i .inv .1 .few-cells);
+      near = omega (arith, ap place (c .end .ensures), tailed-place (endsAt (a .s .now)) (i .at), i .inv .4, i .inv .1 .few-cells);
     }
 
 pub read-functions-spec : {M : Type 1} → statement M

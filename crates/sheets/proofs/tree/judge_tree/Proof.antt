@@ -20,14 +20,14 @@ returns : tie.Need-returns
 unfolding ofTreeJudged
 returns c =
     let r = c .before .before .read-nodes in
-    tree-sound (c .before .before .before .before .before .args .s .now) (r .last .1 .0) (r .result) (r .ensures) (c .enum-told .given .0 .0) (c .enum-told .given .1)
+    tree-sound (c .before .before .before .before .before .args .s .now) (r .last .1 .1 .0) (r .result) (r .ensures) (c .enum-told .given .0 .0) (c .enum-told .given .1)
 
 returns-2 : tie.Need-returns-2
 unfolding ofTreeJudged
 returns-2 c =
     let r = c .before .before .before .before .read-nodes in
     let told = c .before .before .scan .given in
-    tree-refused (c .before .before .before .before .before .before .before .args .s .now) (r .last .1 .0) (r .result) (r .ensures) (told .0 .0) (c .tree-number .result) (told .0 .1 .0) (told .1) (c .tree-number .ensures .0)
+    tree-refused (c .before .before .before .before .before .before .before .args .s .now) (r .last .1 .1 .0) (r .result) (r .ensures) (told .0 .0) (c .tree-number .result) (told .0 .1 .0) (told .1) (c .tree-number .ensures .0)
 
 pub judge-tree-spec : {M : Type 1} → statement M
 judge-tree-spec =

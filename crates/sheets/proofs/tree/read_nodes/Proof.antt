@@ -21,17 +21,17 @@ read-shape-requires c κs =
     let zeros = c .before .before .before .before .before .pre in
     (record { width = omega arith; most = omega arith; nodes = omega arith; pins = λ p. absurd (false≢true p) }, ap length zeros, omega (arith, c .before .before .before .begin .ensures .1, c .before .before .ranged .ensures .near, c .before .ranged2 .ensures .near))
 
-end-requires : tie.Need-end-requires
-end-requires c κs = search needs
+tail-requires : tie.Need-tail-requires
+tail-requires c κs = search needs
 
-cast-t13 : tie.Need-cast-t13
-cast-t13 c = search needs
+cast-t14 : tie.Need-cast-t14
+cast-t14 c = search needs
 
 returns : tie.Need-returns
 returns c =
     let read = c .before .before .read-shape in
-    nodes-are (c .before .before .before .before .before .before .before .before .args .s .now) (c .before .before .before .before .before .before .begin .result) (c .before .before .before .before .before .ranged .result) (c .before .before .before .before .ranged2 .result) (read .result) (c .before .before .before .before .before .before .before .before .args .symbols .now) (read .last .1 .1 .1 .0) (c .before .end .result)
-    (c .before .before .before .before .before .before .before .before .pre) (c .before .before .before .before .before .before .begin .ensures .0) (c .before .before .before .before .before .ranged .ensures) (c .before .before .before .before .ranged2 .ensures) (read .ensures) (c .before .end .ensures)
+    nodes-are (c .before .before .before .before .before .before .before .before .args .last) (c .before .before .before .before .before .before .before .before .args .s .now) (c .before .before .before .before .before .before .begin .result) (c .before .before .before .before .before .ranged .result) (c .before .before .before .before .ranged2 .result) (read .result) (c .before .before .before .before .before .before .before .before .args .symbols .now) (read .last .1 .1 .1 .0) (c .before .tail .result)
+    (c .before .before .before .before .before .before .before .before .pre) (c .before .before .before .before .before .before .begin .ensures .0) (c .before .before .before .before .before .ranged .ensures) (c .before .before .before .before .ranged2 .ensures) (read .ensures) (c .before .tail .ensures)
 
 pub read-nodes-spec : {M : Type 1} → statement M
 read-nodes-spec =
@@ -41,6 +41,6 @@ read-nodes-spec =
     ranged-requires
     ranged-requires-2
     read-shape-requires
-    end-requires
-    cast-t13
+    tail-requires
+    cast-t14
     returns)

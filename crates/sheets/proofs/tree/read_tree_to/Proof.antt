@@ -1,7 +1,7 @@
 use Rattle.sheets.proofs.Whole.{tree-is, tree-preorder}
 use borrow.Author.Needs.{needs}
-use Rattle.sheets.proofs.tree.read_tree.Statement.{statement}
-use Rattle.sheets.proofs.tree.read_tree.Tie as tie
+use Rattle.sheets.proofs.tree.read_tree_to.Statement.{statement}
+use Rattle.sheets.proofs.tree.read_tree_to.Tie as tie
 
 read-nodes-requires : tie.Need-read-nodes-requires
 read-nodes-requires c κs = search needs
@@ -12,13 +12,13 @@ slice-aggregate-sizes-of c = search needs
 sizes-of-requires : tie.Need-sizes-of-requires
 sizes-of-requires c κs =
     let read = c .before .read-nodes in
-    (tree-preorder _ _ (read .result) (read .ensures), read .ensures .nodes-few)
+    (tree-preorder (c .before .before .before .before .args .last) _ _ (read .result) (read .ensures), read .ensures .nodes-few)
 
 returns : tie.Need-returns
 returns c =
     let read = c .before .before .read-nodes in
-    tree-is (c .before .before .before .before .before .args .s .now) (read .last .1 .0) (c .sizes-of .result) (read .result) (read .ensures) (c .sizes-of .ensures)
+    tree-is (c .before .before .before .before .before .args .last) (c .before .before .before .before .before .args .s .now) (read .last .1 .1 .0) (c .sizes-of .result) (read .result) (read .ensures) (c .sizes-of .ensures)
 
-pub read-tree-spec : {M : Type 1} → statement M
-read-tree-spec =
+pub read-tree-to-spec : {M : Type 1} → statement M
+read-tree-to-spec =
     tie.close (tie.spec read-nodes-requires slice-aggregate-sizes-of sizes-of-requires returns)
