@@ -13,7 +13,8 @@ extern "C" {
  * What has length 0 may have any pointer. Output and work area must not overlap each other or the sheets, and the work area
  * is aligned as uint64_t. A call takes up to 512 KB of stack.
  *
- * A refusal is number * 2^32 + place; a success has 0 above bit 31, but an accepted cover has the highest bit set. The numbers:
+ * A refusal is number * 2^32 + place, and of a part tree * 2^40 more; a success has 0 above bit 31, but an accepted cover has the
+ * highest bit set. The numbers:
  *    1  output or work area too short; place 0
  *    2  the library ends before or inside a field; place: the field's first bit, counted from 0
  *    3  a set bit in the library's last byte after the last field, or a byte after it; place: the bit after the last field
@@ -31,11 +32,17 @@ extern "C" {
  *   31  the function sheet ends before or inside a field; place: the field's first bit
  *   32  a set bit in the function sheet's last byte after the last field, or a byte after it; place: the bit after the last field
  *   33  a drawing computes another function than its cell's; place: the lowest such pattern's number
+ *   41  the counts or links of a part end before or inside a field, or a value is out of range; place: the field's first bit; or a set bit
+ *       follows in the byte; place: the bit after the last field; or a link names no leaf, or one that an earlier link names; place: the
+ *       leaf field's first bit
+ *   42  the driving tree of a link is not lower than its reading tree; place: the link's position from 0
+ *   43  a linked arrival is over 1000000; place: the lowest-numbered such leaf of the tree
  */
 
 /* The least lengths of an output in bytes and of a work area in words. */
 #define TREECOVER_MAP_OUTPUT 149
 #define TREECOVER_LIST_OUTPUT 179
+#define TREECOVER_PART_OUTPUT 2384
 #define TREECOVER_WORK 8192
 
 /* Set in the answer to a cover that is accepted. */
@@ -67,6 +74,15 @@ uint64_t treecover_map(const uint8_t *library, size_t library_len, const uint8_t
 /* Lists every trade-off of the tree's root between arrival and area, earliest first; the rest is as for treecover_map. */
 uint64_t treecover_list(const uint8_t *library, size_t library_len, const uint8_t *tree, size_t tree_len,
                         uint8_t *output, size_t output_len, uint64_t *work, size_t work_len);
+
+/*
+ * Maps the trees of a part in their order. A linked leaf takes the arrival of its driving tree's cover in place of its own, and keeps its
+ * drive. Answers how many bytes of the output the cover sheets take, one after another, each filled to its byte; nothing is written
+ * before every tree is mapped. A refusal of a tree, or of its mapping, has the tree's number, any other tree 0; bits of a tree count
+ * from the first of its own sheet. Work area as for treecover_map, and zero after refusal 43 too.
+ */
+uint64_t treecover_map_part(const uint8_t *library, size_t library_len, const uint8_t *part, size_t part_len,
+                            uint8_t *output, size_t output_len, uint64_t *work, size_t work_len);
 
 /*
  * Judges a cover sheet: TREECOVER_ACCEPTED + area * 2^24 + arrival if it is that of a legal cover of the tree by the library's cells, late or

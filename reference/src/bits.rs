@@ -37,12 +37,21 @@ impl<'a> Reader<'a> {
         }
     }
 
-    /// Whether only zero bits are left in the last byte, and no byte follows it.
-    pub fn is_spent(&self) -> bool {
-        let last = self.at.div_ceil(8);
-        let rest = (last * 8 - self.at) as u32;
+    /// The bytes that were read from, the last of them perhaps in part.
+    pub fn begun(&self) -> usize {
+        self.at.div_ceil(8)
+    }
+
+    /// Whether only zero bits are left in the byte that was read last.
+    pub fn is_filled_up(&self) -> bool {
+        let rest = (self.begun() * 8 - self.at) as u32;
         let mask = (1u32 << rest) - 1;
-        last == self.bytes.len() && (rest == 0 || self.bytes[last - 1] as u32 & mask == 0)
+        rest == 0 || self.bytes[self.begun() - 1] as u32 & mask == 0
+    }
+
+    /// Whether that is so, and no byte follows.
+    pub fn is_spent(&self) -> bool {
+        self.begun() == self.bytes.len() && self.is_filled_up()
     }
 }
 
@@ -108,10 +117,11 @@ mod tests {
     fn set_bits_and_later_bytes_are_left_over() {
         let mut reader = Reader::new(&[0b1010_0001]);
         reader.take(3);
-        assert!(!reader.is_spent());
+        assert!(!reader.is_spent() && !reader.is_filled_up());
         let mut reader = Reader::new(&[0b1010_0000, 0]);
         reader.take(3);
-        assert!(!reader.is_spent());
+        assert!(!reader.is_spent() && reader.is_filled_up());
+        assert_eq!(reader.begun(), 1);
         assert!(Reader::new(&[]).is_spent());
     }
 }

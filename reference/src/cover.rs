@@ -66,6 +66,26 @@ impl Cover {
 /// What a cover sheet states, be it true or not; refusals are numbered as those of a library.
 pub fn decode(bytes: &[u8]) -> Result<Cover, Refusal> {
     let mut sheet = Sheet::new(bytes, 0);
+    let cover = read(&mut sheet)?;
+    sheet.end()?;
+    Ok(cover)
+}
+
+/// The same of cover sheets in a row, each with its bytes.
+pub fn decode_row(mut bytes: &[u8]) -> Result<Vec<(Cover, &[u8])>, Refusal> {
+    let mut covers = Vec::new();
+    while !bytes.is_empty() {
+        let mut sheet = Sheet::new(bytes, 0);
+        let cover = read(&mut sheet)?;
+        let (first, others) = bytes.split_at(sheet.end_within()?);
+        covers.push((cover, first));
+        bytes = others;
+    }
+    Ok(covers)
+}
+
+/// The fields of a cover sheet, without the tail.
+fn read(sheet: &mut Sheet) -> Result<Cover, Refusal> {
     let area = sheet.any(22)?.value;
     let arrival = sheet.any(24)?.value;
     let mut matches = Vec::new();
@@ -75,7 +95,6 @@ pub fn decode(bytes: &[u8]) -> Result<Cover, Refusal> {
         let crossing = sheet.any(5)?.value;
         matches.push(Placed::new(node as usize, pattern as usize, crossing));
     }
-    sheet.end()?;
     Ok(Cover { area, arrival, matches })
 }
 

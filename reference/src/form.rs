@@ -3,6 +3,7 @@
 use crate::bits::Writer;
 use crate::cover::Cover;
 use crate::library::{Cell, Library, Pin};
+use crate::part::Link;
 use crate::shape::{Shape, Step};
 use crate::sheet::{DRIVEN, INV, LEAF, NAND};
 use crate::tree::{Tree, TreeLeaf};
@@ -31,6 +32,11 @@ pub enum Role {
     MatchNode,
     MatchPattern,
     MatchCrossing,
+    TreeCount,
+    LinkCount,
+    ReadingTree,
+    LinkedLeaf,
+    DrivingTree,
 }
 
 impl Role {
@@ -56,10 +62,11 @@ impl Role {
             Role::Hold => 1,
             Role::PinBin | Role::Code => 2,
             Role::BinCount | Role::PinCount | Role::PatternCount | Role::PinNumber => 3,
-            Role::MatchCrossing => 5,
-            Role::MatchCount | Role::MatchNode => 6,
+            Role::ReadingTree | Role::DrivingTree => 4,
+            Role::MatchCrossing | Role::TreeCount => 5,
+            Role::MatchCount | Role::MatchNode | Role::LinkedLeaf => 6,
             Role::CellCount | Role::MatchPattern => 7,
-            Role::BinLoad | Role::HighestLoad | Role::Drive | Role::RootLoad => 8,
+            Role::BinLoad | Role::HighestLoad | Role::Drive | Role::RootLoad | Role::LinkCount => 8,
             Role::Area | Role::Intrinsic => 16,
             Role::Arrival => 20,
             Role::CoverArea => 22,
@@ -107,6 +114,19 @@ impl Form {
             form.push(Role::MatchNode, placed.node as u32);
             form.push(Role::MatchPattern, placed.pattern as u32);
             form.push(Role::MatchCrossing, placed.crossing);
+        }
+        form
+    }
+
+    /// The counts and links of a part, up to where its trees begin.
+    pub fn of_links(tree_count: usize, links: &[Link]) -> Form {
+        let mut form = Form::default();
+        form.push(Role::TreeCount, tree_count as u32);
+        form.push(Role::LinkCount, links.len() as u32);
+        for link in links {
+            form.push(Role::ReadingTree, link.reading as u32);
+            form.push(Role::LinkedLeaf, link.leaf as u32);
+            form.push(Role::DrivingTree, link.driving as u32);
         }
         form
     }

@@ -17,6 +17,7 @@ pub mod library;
 pub mod matching;
 pub mod merging;
 pub mod operation;
+pub mod part;
 #[cfg(feature = "product")]
 pub mod product;
 pub mod refusal;

@@ -15,7 +15,7 @@ pub const LEAST_WORK: usize = 8_192;
 
 impl Operation {
     /// The least length of the output, in bytes.
-    pub fn least_output(self) -> usize {
+    pub const fn least_output(self) -> usize {
         match self {
             Operation::Map => 149,
             Operation::List => 179,
@@ -37,7 +37,7 @@ impl Operation {
 }
 
 /// The lengths of output and work area.
-#[derive(Clone, Copy, PartialEq, Eq, Debug)]
+#[derive(Clone, Copy, PartialEq, Eq, Hash, Debug)]
 pub struct Lent {
     pub output: usize,
     pub work: usize,

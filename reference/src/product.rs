@@ -73,7 +73,7 @@ pub fn judge_functions(library: &[u8], functions: &[u8]) -> u64 {
 
 type Mapper = unsafe extern "C" fn(*const u8, usize, *const u8, usize, *mut u8, usize, *mut u64, usize) -> u64;
 
-/// Declares functions of that type.
+/// Declares functions of that type. In place of a tree, one takes a part.
 macro_rules! mappers {
     ($($name:ident),*) => {
         extern "C" {
@@ -91,7 +91,7 @@ macro_rules! mappers {
     };
 }
 
-mappers!(treecover_map, treecover_list);
+mappers!(treecover_map, treecover_list, treecover_map_part);
 #[cfg(feature = "before")]
 mappers!(before_map);
 
@@ -102,6 +102,11 @@ pub fn run(operation: Operation, library: &[u8], tree: &[u8], output: &mut [u8],
         Operation::List => treecover_list,
     };
     call_mapper(mapper, library, tree, output, work)
+}
+
+/// The product's answer on a part: a refusal, tree × 2^40 + number × 2^32 + place, or the bytes written.
+pub fn map_part(library: &[u8], part: &[u8], output: &mut [u8], work: &mut [u64]) -> u64 {
+    call_mapper(treecover_map_part, library, part, output, work)
 }
 
 /// The answer of an earlier product's map.

@@ -28,6 +28,12 @@ pub const COVER_FIGURES: u32 = 24;
 pub const IN_FUNCTIONS: u32 = 29;
 /// A drawing computes another function than its cell's.
 pub const OTHER_FUNCTION: u32 = 33;
+/// A count or a link of a part is torn, out of range or followed by a set bit, or its leaf field names no free leaf.
+pub const PART_FIELD: u32 = 41;
+/// A driving tree is not lower than the reading one.
+pub const PART_DRIVER: u32 = 42;
+/// A linked arrival is later than a leaf's may be.
+pub const LINKED_LATE: u32 = 43;
 
 #[derive(Clone, Copy, PartialEq, Eq, Debug)]
 pub struct Refusal {

@@ -82,6 +82,15 @@ impl<'a> Sheet<'a> {
         Ok(steps)
     }
 
+    /// The rest of the byte is zero bits; other sheets may follow. Answers how many bytes this one takes.
+    pub fn end_within(self) -> Result<usize, Refusal> {
+        if self.reader.is_filled_up() {
+            Ok(self.reader.begun())
+        } else {
+            self.refuse(TAIL, self.at())
+        }
+    }
+
     /// The rest of the last byte is zero bits, and no byte follows.
     pub fn end(self) -> Result<(), Refusal> {
         if self.reader.is_spent() {

@@ -72,10 +72,23 @@ pub const LATEST_REQUIRED: u32 = (1 << 24) - 1;
 /// The tree that a sheet holds.
 pub fn decode(bytes: &[u8]) -> Result<Tree, Refusal> {
     let mut sheet = Sheet::new(bytes, IN_TREE);
+    let tree = read(&mut sheet)?;
+    sheet.end()?;
+    Ok(tree)
+}
+
+/// The tree that the first bytes hold, and how many they are: other sheets may follow.
+pub fn decode_first(bytes: &[u8]) -> Result<(Tree, usize), Refusal> {
+    let mut sheet = Sheet::new(bytes, IN_TREE);
+    let tree = read(&mut sheet)?;
+    Ok((tree, sheet.end_within()?))
+}
+
+/// The fields of a tree, without the tail.
+fn read(sheet: &mut Sheet) -> Result<Tree, Refusal> {
     let root_load = sheet.any(8)?.value;
     let required = sheet.any(24)?.value;
     let steps = sheet.nodes(MOST_TREE_NODES, read_leaf)?;
-    sheet.end()?;
     Ok(Tree { root_load, required, shape: Shape::from_steps(&steps) })
 }
 

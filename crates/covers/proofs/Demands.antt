@@ -38,7 +38,7 @@ number (success a) = 0
 
 module _ {most : ℕ} {l : Library} {t : Tree} where
   -- Only one node is the highest with too many, and then some node has.
-  highest-same : {j k : ℕ} → HighestTooMany most l t j → HighestTooMany most l t k → j ≡ k
+  pub highest-same : {j k : ℕ} → HighestTooMany most l t j → HighestTooMany most l t k → j ≡ k
   highest-same {j} {k} g h = let a : j < k → ⊥ = clash g h in let b : k < j → ⊥ = clash h g in omega arith
     where
       clash : {i i′ : ℕ} → HighestTooMany most l t i → HighestTooMany most l t i′ → i < i′ → ⊥

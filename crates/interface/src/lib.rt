@@ -1,4 +1,5 @@
-// The C interface: see include/treecover.h. A refusal is number × 2^32 + place.
+// The C interface: see include/treecover.h. A refusal is number × 2^32 + place, and of a part tree × 2^40 above it.
+use assembly::PartReply;
 use judge::CoverJudged;
 use operations::Reply;
 use sheets::Limits;
@@ -17,12 +18,19 @@ ghost use Rattle.operations.specs.Public.{ofReply, Leaves};
 ghost use Rattle.judgement.specs.Judgement.{judgement, pointWord, ofPointWord, PointBounded};
 ghost use Rattle.judgement.specs.Demands.{JudgedWhereSound};
 ghost use Rattle.judge.specs.Public.{ofCoverJudged};
+ghost use Rattle.parts.specs.Answer.{partWord, ofPartWord, PartBounded};
+ghost use Rattle.parts.specs.Outcome.{partOutcome, partTold, partObserved};
+ghost use Rattle.parts.specs.Demands.{PartWhereSound};
+ghost use Rattle.assembly.specs.Public.{ofPartReply, PartLeaves};
 
 // A word has the number above the places.
 struct Word {}
 
 impl Word {
     const PLACES: u64 = 4294967296;
+
+    // How many numbers there are below the trees, where a refusal has one.
+    const NUMBERS: u64 = 256;
 
     // The highest bit, which is set where a cover is accepted.
     const ACCEPTED: u64 = 9223372036854775808;
@@ -142,4 +150,33 @@ pub extern "C" fn treecover_judge_cover(library: &[u8], tree: &[u8], cover: &[u8
 {
     let judged = judge::judge_cover(library, tree, cover);
     judged_word(judged)
+}
+
+// What is said of a part in one word.
+fn part_word(reply: PartReply) -> u64
+    requires { ⌜ PartBounded (ofPartReply reply) ⌝ }
+    ensures { λ r. ⌜ r ≡ partWord (ofPartReply reply) ⌝ }
+{
+    match reply {
+        PartReply::Refused(tree, number, place) => {
+            (tree as u64 * Word::NUMBERS + number as u64) * Word::PLACES + place as u64
+        }
+        PartReply::Sheets(bytes) => bytes as u64,
+    }
+}
+
+// Maps the trees of a part: the bytes of their cover sheets in the output, or the refusal with its tree.
+#[no_mangle]
+pub extern "C" fn treecover_map_part(
+    library: &[u8],
+    part: &[u8],
+    output: &mut [u8],
+    work: &mut [u64],
+) -> u64
+    ensures { λ r. ⌜ r ≡ partWord (partTold (partOutcome (now (library .entry)) (now (part .entry)) (length (now (output .entry))) (length (now (work .entry))))) ⌝ }
+    ensures { λ r. ⌜ PartLeaves (partOutcome (now (library .entry)) (now (part .entry)) (length (now (output .entry))) (length (now (work .entry)))) (now (output .entry)) (now (output .exit)) (now (work .entry)) (now (work .exit)) ⌝ }
+    ensures { λ r. ⌜ PartWhereSound (now (library .entry)) (now (part .entry)) (length (now (output .entry))) (length (now (work .entry))) (partObserved (ofPartWord r) (now (output .exit))) ⌝ }
+{
+    let reply = assembly::map_part(library, part, output, work);
+    part_word(reply)
 }

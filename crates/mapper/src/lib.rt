@@ -54,7 +54,7 @@ impl Numbers {
 }
 
 // A cover with no match yet.
-fn bare(area: u32, arrival: u32) -> CoverRecord
+pub fn bare(area: u32, arrival: u32) -> CoverRecord
     ensures { λ r. ⌜ r ≡ bareCover area arrival ⌝ }
 {
     CoverRecord {
@@ -68,7 +68,7 @@ fn bare(area: u32, arrival: u32) -> CoverRecord
 }
 
 // No cover, but a refusal.
-fn refuse(number: u32, place: usize) -> Mapped
+pub fn refuse(number: u32, place: usize) -> Mapped
     ensures { λ r. ⌜ r ≡ refusedWith number place ⌝ }
 {
     let cover = bare(0, 0);

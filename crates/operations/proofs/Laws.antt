@@ -35,7 +35,7 @@ use Rattle.covers.specs.Curve.{pointOf}
 use Rattle.covers.specs.CoverSheet.{coverSheet, listSheet}
 use Rattle.covers.specs.Capacity.{capacity, workWords}
 use Rattle.covers.specs.Answer.{answered, nonempty, mapped, listed, mapAnswer, listAnswer}
-use Rattle.covers.specs.Outcome.{told, outputAfter, observed, cleared, leavesZero, workAfter, withTree, withLibrary, lent, operation}
+use Rattle.covers.specs.Outcome.{mapBytes, told, outputAfter, observed, cleared, leavesZero, workAfter, withTree, withLibrary, lent, operation}
 use Rattle.covers.proofs.Ascending.{ascending-range}
 use Rattle.covers.proofs.Overfull.{LastOf, at, nodes-ascend, overfull-named}
 use Rattle.covers.proofs.SheetLengths.{cover-sheet-fits, list-sheet-fits}
@@ -44,6 +44,7 @@ use Rattle.overlay.specs.Held.{SheetsHeld}
 use Rattle.overlay.proofs.Sheets.{decoded-of}
 use Rattle.matching.specs.Found.{matchTable}
 use Rattle.filling.specs.Promises.{FillStart}
+use Rattle.results.specs.declared.CoverRecord.{CoverRecord}
 use Rattle.results.specs.Public.{placedOf, coverOf, pointsOf, Written}
 use Rattle.mapper.specs.declared.Finding.{Finding}
 use Rattle.mapper.specs.declared.Finding.the-variants as Finding
@@ -103,6 +104,10 @@ refused-bounded (some k) a {n} {p} h e = let en : n ≡ 7 = cc in let ep : p ≡
 refused-bounded none none {n} {p} h e = let en : n ≡ 8 = cc in let ep : p ≡ 0 = cc in (omega arith, omega arith, omega arith)
 refused-bounded none (some a) h e = let z : _≡_ {A = ℕ} 0 1 = cc in absurd (omega arith)
 
+pub mapped-fits : (l : Library) (t : Tree) {n p : ℕ} → SoundTree t → mapped capacity l t ≡ refused n p → Bounded (refused n p)
+unfolding mapped
+mapped-fits l t g = refused-bounded (overfullNode capacity l t) (choice l (t .load) 0 (t .shape) (t .required)) (λ j f. node-small l g f)
+
 module _ {A : Type 0} (f : A → List ℕ) {a : Answer A} {entry exit : List ℕ} where
   refusal-replied : {n p : ℕ} → refused n p ≡ a → Bounded (refused n p) → exit ≡ entry → Replied (onSuccess f a) entry exit (Reply.Refused n p)
   unfolding onSuccess told outputAfter ofReply
@@ -117,7 +122,7 @@ module _ (l : Library) (t : Tree) (g : SoundTree t) (entry exit : List ℕ) wher
   unfolding mapAnswer mapped ofMapped ofFinding
   map-refused r n p h e k =
       let said : refused n p ≡ mapped capacity l t = ap (ofFinding (coverOf (r .cover))) (sym e) ∙ h in
-      refusal-replied coverSheet said (refused-bounded (overfullNode capacity l t) (choice l (t .load) 0 (t .shape) (t .required)) (λ j f. node-small l g f) (sym said)) k
+      refusal-replied coverSheet said (mapped-fits l t g (sym said)) k
 
   pub list-refused : (work : List ℕ) (r : Listed) (n p : ℕ) → ofListed work r ≡ listed capacity l t → r .finding ≡ Finding.Refused n p → exit ≡ entry → Replied (listAnswer capacity l t) entry exit (Reply.Refused n p)
   unfolding listAnswer listed ofListed ofFinding
@@ -136,9 +141,13 @@ points-few : (count : ℕ) (ws : List ℕ) → length (pointsOf count ws) ≤ co
 unfolding pointsOf
 points-few count ws = omega (arith, length-reverse (map pointOf (take count ws)), length-map (take count ws) pointOf, length-take count ws)
 
+-- The sheet of a cover in its record is no longer than the output that map is lent.
+pub sheet-short : (r : CoverRecord) → r .count ≤ 63 → length (coverSheet (coverOf r)) ≤ mapBytes
+sheet-short r few = cover-sheet-fits (coverOf r) (omega (arith, few, length-take (r .count) (r .nodes), placed-few (take (r .count) (r .nodes)) (take (r .count) (r .patterns)) (take (r .count) (r .crossings))))
+
 pub map-found : (l : Library) (t : Tree) {entry exit : List ℕ} (r : Mapped) (n : ℕ) → ofMapped r ≡ mapped capacity l t → r .finding ≡ Finding.Found → r .cover .count ≤ 63 → Written (coverSheet (coverOf (r .cover))) entry exit n → Replied (mapAnswer capacity l t) entry exit (Reply.Sheet n)
 unfolding mapAnswer ofMapped ofFinding
-map-found l t r n h e few w = sheet-replied coverSheet (ap (ofFinding (coverOf (r .cover))) (sym e) ∙ h) w (omega (arith, w .bytes, cover-sheet-fits (coverOf (r .cover)) (omega (arith, few, length-take (r .cover .count) (r .cover .nodes), placed-few (take (r .cover .count) (r .cover .nodes)) (take (r .cover .count) (r .cover .patterns)) (take (r .cover .count) (r .cover .crossings))))))
+map-found l t r n h e few w = sheet-replied coverSheet (ap (ofFinding (coverOf (r .cover))) (sym e) ∙ h) w (omega (arith, w .bytes, sheet-short (r .cover) few))
 
 pub list-found : (l : Library) (t : Tree) {entry exit : List ℕ} (work : List ℕ) (r : Listed) (n : ℕ) → ofListed work r ≡ listed capacity l t → r .finding ≡ Finding.Found → r .count ≤ capacity → Written (listSheet (pointsOf (r .count) work)) entry exit n → Replied (listAnswer capacity l t) entry exit (Reply.Sheet n)
 unfolding listAnswer ofListed ofFinding

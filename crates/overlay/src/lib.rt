@@ -4,6 +4,7 @@ use sheets::library::PatternRow;
 ghost use mathlib.Core.Path.{_≡_};
 ghost use Prim.Native.Nat.{_+_, _-_, _<_, _≤_, max};
 ghost use lib.ListN.{length, getD};
+ghost use Rattle.shapes.specs.Shape.{leafSymbol};
 ghost use Rattle.sheets.specs.Model.{Shape, size};
 ghost use Rattle.covers.specs.Crossing.{exchanged, crossingLimit};
 ghost use Rattle.covers.specs.Cover.{leafArrival};
@@ -193,7 +194,7 @@ pub fn walk<'a>(
     }
 }
 
-// When a leaf arrives under the load that it drives. A leaf's two numbers are taken apart here and nowhere else: by this function and the next.
+// When a leaf arrives under the load that it drives. A leaf's two numbers are taken apart here and nowhere else: by this function and the two after it.
 pub fn leaf_arrival(symbol: u32, load: u32) -> u64
     requires { ⌜ (2 ≤ symbol) × (symbol ≤ symbolLimit) × (load ≤ 255) ⌝ }
     ensures { λ r. ⌜ (r ≡ leafArrival (leafOf symbol) load) × (r < base) ⌝ }
@@ -212,4 +213,13 @@ pub fn leaf_arrival_at(symbol: u32, figures: &[u32], load: usize) -> u64
         return whole as u64;
     }
     leaf_arrival(symbol, figures[load])
+}
+
+// The symbol of a leaf with another arrival and the same drive.
+pub fn with_arrival(symbol: u32, arrival: u32) -> u32
+    requires { ⌜ (2 ≤ symbol) × (symbol ≤ symbolLimit) × (arrival ≤ 1000000) ⌝ }
+    ensures { λ r. ⌜ r ≡ leafSymbol (record { number = arrival; drive = leafOf symbol .drive }) ⌝ }
+{
+    let drive = (symbol - Packed::LEAF) / Packed::DRIVE;
+    Packed::LEAF + (drive * Packed::DRIVE + arrival)
 }

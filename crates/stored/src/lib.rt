@@ -1,4 +1,4 @@
-// Runs the stored cases on standard input through the judges, map, list, the texts of treecover and of bill, and writes what each answers.
+// Runs the stored cases on standard input through the judges, map, list, the part operation, the texts of treecover and of bill, and writes what each answers.
 // A case opens with a kind, and its lengths are two bytes each, high byte first.
 //   0 library, 1 tree: the sheet's length, the sheet.
 //   2 map, 3 list: the lengths of library, tree, output in bytes and work area in words, the library, the tree.
@@ -6,6 +6,9 @@
 //   5 a cover to be judged: the lengths of library, tree and cover sheet, the three sheets.
 //   6 bill: the input's length, the input.
 //   7 functions to be judged: the lengths of library and function sheet, the two sheets.
+//   8 a part: as 2, with the part in place of the tree.
+use assembly::Late;
+use assembly::PartReply;
 use judge::CoverJudged;
 use libc::STDOUT_FILENO;
 use mapper::Numbers;
@@ -20,7 +23,7 @@ ghost use lib.ListN.{length};
 struct Lent {}
 
 impl Lent {
-    const OUTPUT: usize = 1000;
+    const OUTPUT: usize = 4000;
 
     const WORK: usize = 12345;
 
@@ -29,7 +32,7 @@ impl Lent {
     const WORD: u64 = 11936128518282651045;
 }
 
-// The input is not what its lengths say, or a case's kind is none of the eight.
+// The input is not what its lengths say, or a case's kind is none of the nine.
 fn write_spoiled() {
     io::write_all(STDOUT_FILENO, b"spoiled\n");
 }
@@ -254,6 +257,11 @@ fn write_bytes(s: &[u8], count: usize) {
     }
 }
 
+// Whether a refusal of the part operation leaves the first words of the work area zero.
+fn part_clears(number: u32) -> bool {
+    number == Numbers::OVERFULL || number == Numbers::NO_COVER || number == Late::NUMBER
+}
+
 // The reply as a line; before it a line "changed" if something lent is not as it should be.
 fn write_reply(reply: Reply, word: &[u8], output: &[u8], work: &[u64]) {
     match reply {
@@ -275,14 +283,46 @@ fn write_reply(reply: Reply, word: &[u8], output: &[u8], work: &[u64]) {
     }
 }
 
-// Map or list with what it is lent.
+// "refused", number, place, tree.
+fn write_part_refusal(tree: u32, number: u32, place: usize) {
+    io::write_all(STDOUT_FILENO, b"refused");
+    write_number(number as u64);
+    write_number(place as u64);
+    write_number(tree as u64);
+    end_line();
+}
+
+// The same of a part; a refusal ends with its tree.
+fn write_part_reply(reply: PartReply, output: &[u8], work: &[u64]) {
+    match reply {
+        PartReply::Refused(tree, number, place) => {
+            if !lent_kept(output, work, 0, part_clears(number)) {
+                write_changed();
+            }
+            write_part_refusal(tree, number, place);
+        }
+        PartReply::Sheets(bytes) => {
+            if !lent_kept(output, work, bytes, true) {
+                write_changed();
+            }
+            io::write_all(STDOUT_FILENO, b"part");
+            write_bytes(output, bytes);
+            end_line();
+        }
+    }
+}
+
+// Map, list or the part operation with what it is lent.
 fn run_lent(kind: u8, library: &[u8], tree: &[u8], output: &mut [u8], work: &mut [u64]) {
     if kind == 2 {
         let reply = operations::map(library, tree, output, work);
         write_reply(reply, b"cover", output, work);
-    } else {
+    } else if kind == 3 {
         let reply = operations::list(library, tree, output, work);
         write_reply(reply, b"list", output, work);
+    } else {
+        let reply = assembly::map_part(library, tree, output, work);
+        write_part_reply(reply, output, work);
     }
 }
 
@@ -313,14 +353,14 @@ fn run_within(
     );
 }
 
-// Map or list, lent so many bytes and words with something in them.
+// Map, list or the part operation, lent so many bytes and words with something in them.
 fn run_operation(kind: u8, library: &[u8], tree: &[u8], bytes: usize, words: usize) {
     let mut output = [Lent::BYTE; Lent::OUTPUT];
     let mut work = [Lent::WORD; Lent::WORK];
     run_within(kind, library, tree, &mut output, bytes, &mut work, words);
 }
 
-// The case of map or list. Answers where the next case starts.
+// The case of map, list or the part operation. Answers where the next case starts.
 fn run_problem(s: &[u8], kind: u8, at: usize) -> usize
     requires { ⌜ at ≤ length (now s) ⌝ }
     ensures { λ r. ⌜ at ≤ r ⌝ }
@@ -428,6 +468,9 @@ fn run_case(s: &[u8], at: usize) -> usize
     }
     if kind == 7 {
         return run_functions(s, at + 1);
+    }
+    if kind == 8 {
+        return run_problem(s, kind, at + 1);
     }
     write_spoiled();
     s.len()

@@ -8,6 +8,7 @@ mod finding;
 
 use crate::cover::{list_sheet, Cover, Pair};
 use crate::operation::Operation;
+use crate::part::{self, Fault};
 use crate::refusal::{Refusal, NO_COVER, SHORT};
 use crate::{library, tree};
 use compact::{Compact, Subject};
@@ -52,7 +53,7 @@ impl Variant {
         let library = Compact::of(&library::decode(library)?);
         let subject = Subject::of(&tree::decode(tree)?);
         let sheet = Curves::fill(self, &library, &subject, work).and_then(|curves| match operation {
-            Operation::Map => map(&curves),
+            Operation::Map => map(&curves).map(|cover| cover.sheet()),
             Operation::List => list(&curves),
         });
         work.fill(0);
@@ -60,9 +61,27 @@ impl Variant {
         output[..sheet.len()].copy_from_slice(&sheet);
         Ok(sheet.len())
     }
+
+    /// The same on a part: the library is read once.
+    pub fn run_part(self, library: &[u8], part: &[u8], output: &mut [u8], work: &mut [u64]) -> Result<usize, Fault> {
+        if output.len() < part::LEAST_OUTPUT {
+            return Err(Fault::Short);
+        }
+        let work = work.first_chunk_mut().ok_or(Fault::Short)?;
+        let library = Compact::of(&library::decode(library).map_err(Fault::Library)?);
+        let part = part::decode(part)?;
+        let covers = part::map_each(&part, |tree| {
+            let subject = Subject::of(tree);
+            map(&Curves::fill(self, &library, &subject, work)?)
+        });
+        work.fill(0);
+        let sheets: Vec<u8> = covers?.iter().flat_map(Cover::sheet).collect();
+        output[..sheets.len()].copy_from_slice(&sheets);
+        Ok(sheets.len())
+    }
 }
 
-fn map(curves: &Curves) -> Result<Vec<u8>, Refusal> {
+fn map(curves: &Curves) -> Result<Cover, Refusal> {
     let point = curves.look_up(0, 0, curves.subject.required + 1);
     if point == ABSENT {
         return Err(Refusal::new(NO_COVER, 0));
@@ -70,7 +89,7 @@ fn map(curves: &Curves) -> Result<Vec<u8>, Refusal> {
     let mut matches = Vec::with_capacity(64);
     choose::follow(curves, &mut matches, choose::Aim { node: 0, load: curves.subject.root_load, point });
     let Pair { arrival, area } = pair(point);
-    Ok(Cover { area, arrival, matches }.sheet())
+    Ok(Cover { area, arrival, matches })
 }
 
 fn list(curves: &Curves) -> Result<Vec<u8>, Refusal> {

@@ -52,7 +52,7 @@ pub fn damaged(rng: &mut Rng, kind: Kind, faults: usize) -> Vec<u8> {
     bytes
 }
 
-fn noise(rng: &mut Rng) -> Vec<u8> {
+pub fn noise(rng: &mut Rng) -> Vec<u8> {
     let length = rng.below(40);
     (0..length).map(|_| rng.word() as u8).collect()
 }
@@ -75,7 +75,7 @@ pub fn torn_in(rng: &mut Rng, form: &Form, role: Role) -> Option<Vec<u8>> {
     (!fields.is_empty()).then(|| form.bytes()[..length(rng.pick(&fields))].to_vec())
 }
 
-fn damage_form(rng: &mut Rng, kind: Kind, form: &mut Form) {
+pub fn damage_form(rng: &mut Rng, kind: Kind, form: &mut Form) {
     if form.fields.is_empty() {
         return;
     }

@@ -1,11 +1,13 @@
 //! Problems for the benchmark: a typical one, two that take long, one that goes deep, two with many crossings, and one
 //! with driven leaves.
 
+use super::linked::Draft;
 use super::parts::{cell, chain, comb, counted_comb, pin, tree, AND, AOI21, AOI22, INVERTER, NAND, NOR, OR};
 use super::problem::Problem;
 use super::sound;
 use crate::crossing::{redrawn, CROSSINGS};
 use crate::library::{Cell, Library};
+use crate::part::MOST_TREES;
 use crate::rng::Rng;
 use crate::shape::{Shape, Step};
 use crate::tree::{Tree, LATEST_REQUIRED};
@@ -55,9 +57,28 @@ fn gate(area: u32, intrinsic: u32, strength: u32, bin: u32, drawings: &[&[Step]]
 }
 
 fn typical_tree() -> Tree {
-    let mut rng = Rng::new(30);
+    typical_like(&mut Rng::new(30))
+}
+
+/// A tree of 16 leaves, 15 NANDs and 17 inverters.
+fn typical_like(rng: &mut Rng) -> Tree {
     let leaves: Vec<u32> = (0..16).map(|_| rng.value(0, 12)).collect();
-    tree(4, LATEST_REQUIRED, &sound::shape(&mut rng, &leaves, 17).steps())
+    tree(4, LATEST_REQUIRED, &sound::shape(rng, &leaves, 17).steps())
+}
+
+/// 16 trees of the typical kind under its library. Each but the first reads the one before it at its first leaf, and an
+/// earlier one at its last.
+pub fn typical_part() -> Draft {
+    let Problem { library, .. } = typical();
+    let mut rng = Rng::new(31);
+    let trees: Vec<Tree> = (0..MOST_TREES).map(|_| typical_like(&mut rng)).collect();
+    let mut links = Vec::new();
+    for (reading, tree) in trees.iter().enumerate().skip(1) {
+        let leaves: Vec<usize> = (0..tree.shape.nodes.len()).filter(|&node| tree.shape.is_leaf(node)).collect();
+        links.push((reading, leaves[0], reading - 1));
+        links.push((reading, leaves[leaves.len() - 1], rng.below(reading)));
+    }
+    Draft::new(library, trees, &links)
 }
 
 /// The typical problem with all leaves driven, as strongly as by its larger gates.

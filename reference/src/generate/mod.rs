@@ -8,6 +8,7 @@ pub mod drivers;
 pub mod functions;
 pub mod heavy;
 pub mod limits;
+pub mod linked;
 pub mod longest;
 pub mod parts;
 pub mod problem;

@@ -101,7 +101,7 @@ pub fn varied(rng: &mut Rng, problem: &Problem) -> Problem {
     varied
 }
 
-fn required(rng: &mut Rng, problem: &Problem) -> u32 {
+pub fn required(rng: &mut Rng, problem: &Problem) -> u32 {
     let anything = rng.value(0, LATEST_REQUIRED);
     match merging::list(&problem.library, &problem.tree) {
         Ok(pairs) if !rng.once_in(5) => {
@@ -128,7 +128,7 @@ const GATES: [&[Step]; 12] = [
     &[Nand, Nand, Leaf(0), Leaf(1), Nand, Leaf(2), Leaf(3)],
 ];
 
-fn library(rng: &mut Rng, style: Style) -> Library {
+pub fn library(rng: &mut Rng, style: Style) -> Library {
     let bins = bins(rng, style.load);
     let mut gates: Vec<Shape> = GATES.iter().map(|steps| Shape::from_steps(steps)).collect();
     gates.truncate(if style.graded { rng.pick(&[1, 2, 2, 4]) } else { rng.pick(&[2, 2, 4, 8, 12]) });
@@ -220,7 +220,7 @@ fn pin(rng: &mut Rng, style: Style, bin_count: usize, fastest: u32, slowest: u32
 }
 
 /// A random tree of the style; its root load is often a bin, or just above one.
-fn tree(rng: &mut Rng, style: Style, library: &Library) -> Tree {
+pub fn tree(rng: &mut Rng, style: Style, library: &Library) -> Tree {
     let mut tree = sound::tree(rng, style.nodes);
     if style.crossed {
         let (mut room, mut steps) = (style.nodes - 1, Vec::new());

@@ -7,6 +7,7 @@ mod functions;
 mod judge;
 mod kinds;
 mod map;
+mod part;
 mod single;
 mod stored;
 mod text;
@@ -52,5 +53,10 @@ fn main() -> io::Result<()> {
     let mut functions = Stored::default();
     functions::add_all(&mut functions);
     functions.write(&directory, "functions")?;
+    let mut parts = Stored::default();
+    part::add_all(&mut parts);
+    parts.write(&directory, "parts")?;
+    parts.print_histogram();
+    parts.check_driven(&["driven leaves, part: answered"]);
     Ok(())
 }

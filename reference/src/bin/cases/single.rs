@@ -2,8 +2,10 @@
 
 use reference::form::Form;
 use reference::generate::functions::{Case, Draft};
+use reference::generate::parts::{leaf, tree};
 use reference::generate::problem::Problem;
-use reference::generate::{bills, longest, specimen};
+use reference::generate::{bills, linked, longest, specimen};
+use reference::shape::Step::Inv;
 use reference::{bill, merging, text};
 use std::io;
 use std::path::Path;
@@ -15,6 +17,7 @@ pub fn write(directory: &Path) -> io::Result<()> {
     let Case { library, functions } = Draft::of(specimen::library()).case();
     put("specimen.library", &library)?;
     put("specimen.functions", &functions)?;
+    put("specimen.part", &chain_of_two().case().part)?;
     let Case { library, functions } = Draft::of(longest::agreeing_library()).case();
     put("longest_functions.library", &library)?;
     put("longest_functions.functions", &functions)?;
@@ -27,6 +30,12 @@ pub fn write(directory: &Path) -> io::Result<()> {
     let billed = bills::whole(&bills::shipped().case());
     put("bill.input", &billed)?;
     put("bill.expected", bill::printed(&billed).as_bytes())
+}
+
+/// Two inverters; the leaf of the second, stated at 100, takes the arrival of the first.
+fn chain_of_two() -> linked::Draft {
+    let trees = vec![tree(1, 6, &[Inv, leaf(0)]), tree(1, 12, &[Inv, leaf(100)])];
+    linked::Draft::new(specimen::library(), trees, &[(1, 1, 0)])
 }
 
 fn input(problem: &Problem) -> Vec<u8> {

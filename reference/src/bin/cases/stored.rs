@@ -1,7 +1,7 @@
 //! A file of cases and the file of their results.
 
 use crate::kinds::Kinds;
-use reference::{bill, text, tree};
+use reference::{bill, part, text, tree};
 use std::io;
 use std::path::Path;
 
@@ -15,7 +15,8 @@ const LEAST_DRIVEN: usize = 100;
 pub struct Stored {
     records: Vec<u8>,
     lines: Vec<String>,
-    /// For every record whose tree is sound and has driven leaves what it is of, and the number of a refusal.
+    /// For every record whose tree is sound and has driven leaves, or whose part is and has, what it is of, and the
+    /// number of a refusal.
     driven: Vec<String>,
 }
 
@@ -28,8 +29,7 @@ impl Stored {
             self.records.extend(short.to_be_bytes());
         }
         self.records.extend(sheets.concat());
-        let tree = tree_of(kind, sheets).and_then(|tree| tree::decode(tree).ok());
-        if tree.is_some_and(|tree| tree.has_driven_leaves()) {
+        if has_driven_leaves(kind, sheets) {
             self.driven.push(driven_kind(kind, &line));
         }
         self.lines.push(line);
@@ -77,7 +77,19 @@ fn driven_kind(kind: u8, line: &str) -> String {
 
 /// What a record of a kind is of.
 fn word(kind: u8) -> &'static str {
-    ["library", "tree", "map", "list", "treecover", "judge of covers", "bill", "judge of functions"][kind as usize]
+    let words =
+        ["library", "tree", "map", "list", "treecover", "judge of covers", "bill", "judge of functions", "part"];
+    words[kind as usize]
+}
+
+/// Whether the tree among what a record holds, or one of its part's, is sound and has driven leaves.
+fn has_driven_leaves(kind: u8, sheets: &[&[u8]]) -> bool {
+    if kind == 8 {
+        let part = part::decode(sheets[1]);
+        return part.is_ok_and(|part| part.trees.iter().any(tree::Tree::has_driven_leaves));
+    }
+    let tree = tree_of(kind, sheets).and_then(|tree| tree::decode(tree).ok());
+    tree.is_some_and(|tree| tree.has_driven_leaves())
 }
 
 /// The tree among what a record holds, be it sound or not.

@@ -4,15 +4,18 @@
 //! `fresh map [COUNT] [SEED]`: map and list.
 //! `fresh cover [COUNT] [SEED]`: the judge of covers.
 //! `fresh functions [COUNT] [SEED]`: the judge of functions.
+//! `fresh part [COUNT] [SEED]`: map of parts.
 //! `fresh bill [COUNT] [SEED]`: bill's text, by the program whose path is in `TREECOVER_BILL_CASES`.
 //!
 //! The exit status is 1 if anything disagrees.
 
+mod answer;
 mod bill;
 mod cover;
 mod functions;
 mod judge;
 mod map;
+mod part;
 mod tally;
 
 use std::process::ExitCode;
@@ -28,9 +31,10 @@ fn main() -> ExitCode {
         Some("map") => map::run(number(1, 200_000), number(2, 1)),
         Some("cover") => cover::run(number(1, 200_000), number(2, 1)),
         Some("functions") => functions::run(number(1, 200_000), number(2, 1)),
+        Some("part") => part::run(number(1, 200_000), number(2, 1)),
         Some("bill") => bill::run(number(1, 200_000), number(2, 1)),
         _ => {
-            eprintln!("usage: fresh judge|map|cover|functions|bill [COUNT] [SEED]");
+            eprintln!("usage: fresh judge|map|cover|functions|part|bill [COUNT] [SEED]");
             return ExitCode::from(2);
         }
     };

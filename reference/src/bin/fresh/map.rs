@@ -1,5 +1,6 @@
 //! Fresh problems for map and list: the answer, the output and the work area.
 
+use crate::answer::Answer;
 use crate::tally::{key, words, Tally};
 use reference::cover::{self, Cover};
 use reference::generate::damage::{any_sheet, Kind};
@@ -24,14 +25,6 @@ struct Known {
     heavy: Vec<Problem>,
 }
 
-/// What a call gives back: the coded answer and what it was lent.
-#[derive(PartialEq)]
-struct Answer {
-    coded: u64,
-    output: Vec<u8>,
-    work: Vec<u64>,
-}
-
 pub fn run(count: u64, seed: u64) -> Tally {
     let mut rng = Rng::new(seed);
     let mut tally = Tally::default();
@@ -41,7 +34,7 @@ pub fn run(count: u64, seed: u64) -> Tally {
     };
     for _ in 0..count {
         let question = ask(&mut rng, &known);
-        let before = junk(&mut rng, question.lent);
+        let before = Answer::junk(&mut rng, question.lent);
         compare(&mut tally, &question, before);
     }
     tally
@@ -92,15 +85,8 @@ fn lent(rng: &mut Rng, operation: Operation) -> Lent {
     lent
 }
 
-/// Output and work area as they are before the call.
-fn junk(rng: &mut Rng, lent: Lent) -> Answer {
-    let output = (0..lent.output).map(|_| rng.word() as u8).collect();
-    let work = (0..lent.work).map(|_| rng.word()).collect();
-    Answer { coded: 0, output, work }
-}
-
 fn compare(tally: &mut Tally, question: &Question, before: Answer) {
-    let mut actual = Answer { coded: 0, output: before.output.clone(), work: before.work.clone() };
+    let mut actual = before.clone();
     actual.coded = by_product(question, &mut actual.output, &mut actual.work);
     let expected = by_reference(question, before);
     tally.meet(&question.tree);
@@ -134,16 +120,7 @@ fn by_reference(question: &Question, mut lent: Answer) -> Answer {
         Ok(_) => true,
         Err(refusal) => [OVERFULL, NO_COVER].contains(&refusal.number),
     };
-    if clears {
-        lent.work[..LEAST_WORK].fill(0);
-    }
-    lent.coded = match result {
-        Err(refusal) => refusal.coded(),
-        Ok(sheet) => {
-            lent.output[..sheet.len()].copy_from_slice(&sheet);
-            sheet.len() as u64
-        }
-    };
+    lent.take(result.map_err(|refusal| refusal.coded()), clears);
     lent
 }
 
@@ -156,7 +133,6 @@ fn story(question: &Question, expected: &Answer, actual: &Answer) -> String {
         format!("reference: {}, output {}", words(expected.coded), hex(&expected.output)),
         format!("product: {}, output {}", words(actual.coded), hex(&actual.output)),
     ];
-    let word = (0..lent.work).find(|&word| expected.work[word] != actual.work[word]);
-    lines.extend(word.map(|word| format!("work areas differ first in word {word}")));
+    lines.extend(expected.other_word(actual));
     lines.iter().map(|line| format!("  {line}")).collect::<Vec<_>>().join("\n")
 }

@@ -1,7 +1,8 @@
 //! Counts of agreement, and the first disagreement.
 
+use reference::part;
 use reference::rng::Rng;
-use reference::tree;
+use reference::tree::{self, Tree};
 use std::collections::BTreeMap;
 
 #[derive(Default)]
@@ -36,6 +37,12 @@ impl Tally {
     /// Counts a case if its tree is sound and has driven leaves.
     pub fn meet(&mut self, tree: &[u8]) {
         self.driven += tree::decode(tree).is_ok_and(|tree| tree.has_driven_leaves()) as u64;
+    }
+
+    /// Counts a case if its part is sound and one of its trees has driven leaves.
+    pub fn meet_part(&mut self, part: &[u8]) {
+        let part = part::decode(part);
+        self.driven += part.is_ok_and(|part| part.trees.iter().any(Tree::has_driven_leaves)) as u64;
     }
 
     pub fn all_agree(&self) -> bool {

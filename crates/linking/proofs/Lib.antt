@@ -1,0 +1,4 @@
+-- The laws of `linking`.
+pub mod Laws
+pub mod Links
+pub mod Trees

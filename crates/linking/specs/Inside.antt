@@ -1,0 +1,112 @@
+-- What the functions of this crate promise each other.
+use Prim.Native.Nat.{ℕ, _+_, _*_, _-_, _≤_, _<_}
+use mathlib.Core.Path.{_≡_}
+use mathlib.Core.Bool.{cond}
+use mathlib.Core.List.{List, [], map, List·Memᴰ}
+use mathlib.Core.Option.{Option, none, some}
+use lib.Dec.{ltb}
+use lib.ListN.{length, getD, getElem?}
+use Rattle.fields.specs.declared.Scan.{Scan}
+use Rattle.fields.specs.Reading.{place, times, start}
+use Rattle.shapes.specs.Shape.{leafSymbol}
+use Rattle.sheets.specs.declared.tree.TreeRecord.{TreeRecord}
+use Rattle.sheets.specs.Model.{Tree}
+use Rattle.sheets.specs.Sound.{SoundTree}
+use Rattle.sheets.specs.Layout.{padded, treeLaid}
+use Rattle.overlay.specs.Held.{leafOf}
+use Rattle.parts.specs.Part.{Link, Part, driverOf}
+use Rattle.parts.specs.Answer.{PartAnswer, refusedIn, whole, _>>=_, PartBounded}
+use Rattle.parts.specs.PartSheet.{treesMost, linksAt, linkWidth, link, counts}
+use Rattle.parts.specs.PartRead.{treesFrom, linksJudged}
+use Rattle.parts.specs.Outcome.{latestLinked}
+use Rattle.linking.specs.declared.LinkRecord.{LinkRecord}
+use Rattle.linking.specs.declared.PartFinding.{PartFinding}
+use Rattle.linking.specs.declared.PartFinding.the-variants.{Refused, Found}
+use Rattle.linking.specs.declared.Symbol as Symbol
+use Rattle.linking.specs.Held.{noTree, driverNamed}
+use Rattle.linking.specs.declared.LinkRead.{LinkRead}
+use Rattle.linking.specs.declared.LinksRead.{LinksRead}
+use Rattle.linking.specs.declared.CountsRead.{CountsRead}
+
+-- A link in its record, and links at the front of an array of 255.
+abbrev pub linkLaid : Link → LinkRecord
+linkLaid x = record { reading = x .reading; node = x .node; driving = x .driving }
+
+abbrev pub noLink : LinkRecord
+noLink = record { reading = 0; node = 0; driving = 0 }
+
+abbrev pub linksLaid : List Link → List LinkRecord
+linksLaid xs = padded 255 noLink (map linkLaid xs)
+
+-- The tree numbers of a link are below 16 and its node below 64, whatever was read.
+pub record SmallLink (x : LinkRecord) : Type 0 where
+  pub reading : x .reading < treesMost
+  pub node : x .node < 64
+  pub driving : x .driving < treesMost
+
+abbrev pub SmallLinks : List LinkRecord → Type 0
+SmallLinks l = (k : ℕ) → SmallLink (getD l k noLink)
+
+module _ (s : List ℕ) where
+  pub record LinkIs (trees : ℕ) (scan : Scan) (r : LinkRead) : Type 0 where
+    pub link-is : r .link ≡ linkLaid (link s trees [] scan .0)
+    pub scan-is : r .scan ≡ link s trees [] scan .1
+    pub small : SmallLink (r .link)
+    pub near : place (r .scan) ≤ place scan + linkWidth
+
+  pub record LinksAre (trees count : ℕ) (scan : Scan) (r : LinksRead) : Type 0 where
+    pub links-are : r .links ≡ linksLaid (times count (link s trees) scan .0)
+    pub scan-is : r .scan ≡ times count (link s trees) scan .1
+    pub small : SmallLinks (r .links)
+    pub near : place (r .scan) ≤ place scan + linkWidth * count
+
+  pub record CountsAre (r : CountsRead) : Type 0 where
+    pub scan-is : r .scan ≡ counts s start .1
+    pub trees-are : r .trees ≡ counts s start .0 .trees
+    pub few : r .trees ≤ treesMost
+    pub counted : r .count ≡ length (counts s start .0 .links)
+    pub short : r .count ≤ 255
+    pub links-are : r .links ≡ linksLaid (counts s start .0 .links)
+    pub small : SmallLinks (r .links)
+    pub near : place (r .scan) ≤ linksAt + linkWidth * 255
+
+-- The record of a tree that may not be there.
+abbrev pub laidOr : Option Tree → TreeRecord
+laidOr none = noTree
+laidOr (some t) = treeLaid t
+
+-- What is found of an answer.
+abbrev pub findingOf : {A : Type 0} → PartAnswer A → PartFinding
+findingOf (refusedIn k number place) = Refused k number place
+findingOf (whole a) = Found
+
+-- A refusal fits a word.
+abbrev pub Fits : PartFinding → Type 0
+Fits (Refused k number place) = PartBounded (refusedIn k number place)
+Fits Found = Unit {0}
+
+-- What is lent of a link after those before it: its reading tree, if it is there, itself, and its leaf's driver among those before.
+pub record LinkAt (trees : List Tree) (before : List Link) (x : Link) (tree : TreeRecord) (link : LinkRecord) (driver position : ℕ) : Type 0 where
+  pub sound : (t : Tree) → List·Memᴰ t trees → SoundTree t
+  pub tree-is : tree ≡ laidOr (getElem? trees (x .reading))
+  pub link-is : link ≡ linkLaid x
+  pub driver-is : driverOf before (x .reading) (x .node) ≡ driverNamed driver
+  pub position-is : position ≡ length before
+
+-- The part that so many trees, from these bytes on, and these links make.
+unfoldable pub restOf : ℕ → List Link → List ℕ → PartAnswer Part
+unfolding _>>=_
+restOf count links s = do
+  trees ← treesFrom [] count s
+  xs ← linksJudged trees [] links
+  whole (record { trees = trees; links = xs })
+
+-- ---- a node's symbol
+
+-- With the arrival that a link brings to it, if it is a leaf.
+unfoldable pub symbolLinked : Option ℕ → ℕ → Symbol.Symbol
+unfolding leafOf
+symbolLinked none symbol = Symbol.the-variants.Is symbol
+symbolLinked (some arrival) symbol =
+    cond (ltb symbol 2) (Symbol.the-variants.Is symbol)
+    (cond (ltb latestLinked arrival) Symbol.the-variants.Late (Symbol.the-variants.Is (leafSymbol (record { number = arrival; drive = leafOf symbol .drive }))))

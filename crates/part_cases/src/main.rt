@@ -1,0 +1,4 @@
+// The stored cases of parts.
+fn main() {
+    stored::run();
+}

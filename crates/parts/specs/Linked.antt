@@ -1,0 +1,82 @@
+-- Document 02's Paper 7 by examples: linked trees, with document 01's specimen sheet.
+use Prim.Native.Nat.{ℕ}
+use mathlib.Core.Path.{_≡_}
+use mathlib.Core.List.{List, [], _∷_, map}
+use Rattle.sheets.specs.Model.{plainLeaf, leaf, inv, nand, Tree}
+use Rattle.covers.specs.Capacity.{capacity}
+use Rattle.covers.specs.Cover.{Point, Cover}
+use Rattle.covers.specs.Specimens.{specimen, tree, INV}
+use Rattle.parts.specs.Part.{Link}
+use Rattle.parts.specs.Answer.{PartAnswer, refusedIn, whole, _>>=_, onWhole}
+use Rattle.parts.specs.PartRead.{linksJudged}
+use Rattle.parts.specs.Outcome.{coversFrom}
+
+-- A link by its reading tree, its leaf node and its driving tree, and a point by its area and arrival.
+abbrev link : ℕ → ℕ → ℕ → Link
+link r n d = record { reading = r; node = n; driving = d }
+
+abbrev point : ℕ → ℕ → Point
+point a t = record { area = a; arrival = t }
+
+-- An inverter that arrives at 6, and one that arrives at 1,000,006.
+abbrev early : Tree
+early = tree INV 1 6
+
+abbrev late : Tree
+late = tree (inv (plainLeaf 1_000_000)) 1 1_000_006
+
+-- By their required times: an inverter, whose node 1 is a leaf at 100; the same with a leaf of drive 3; a NAND, whose nodes 1 and 2 are leaves at 100 and 20.
+abbrev over : ℕ → Tree
+over = tree (inv (plainLeaf 100)) 1
+
+abbrev driven : ℕ → Tree
+driven = tree (inv (leaf (record { number = 100; drive = 3 }))) 1
+
+abbrev both : ℕ → Tree
+both = tree (nand (plainLeaf 100) (plainLeaf 20)) 1
+
+-- A part by its trees and links, and the points of its trees or the refusal.
+pub record Row : Type 0 where
+  pub trees : List Tree
+  pub links : List Link
+  pub result : PartAnswer (List Point)
+
+abbrev row : List Tree → List Link → PartAnswer (List Point) → Row
+row ts xs r = record { trees = ts; links = xs; result = r }
+
+-- Three inverters, and links that are refused.
+abbrev faulty : List Link → ℕ → ℕ → Row
+faulty xs number place = row (early ∷ over 12 ∷ over 18 ∷ []) xs (refusedIn 0 number place)
+
+abbrev pub linked : List Row
+linked =
+    row (early ∷ over 12 ∷ []) (link 1 1 0 ∷ []) (whole (point 1 6 ∷ point 1 12 ∷ []))  -- 6 in place of 100
+    ∷ row (early ∷ over 106 ∷ []) [] (whole (point 1 6 ∷ point 1 106 ∷ []))  -- 100 with no link
+    ∷ row (early ∷ over 11 ∷ []) (link 1 1 0 ∷ []) (whole (point 1 6 ∷ point 2 11 ∷ []))  -- the earliest,
+    ∷ row (early ∷ over 10 ∷ []) (link 1 1 0 ∷ []) (refusedIn 1 8 0)  -- and one less: in tree 1
+    ∷ row (tree INV 4 12 ∷ over 18 ∷ []) (link 1 1 0 ∷ []) (whole (point 1 12 ∷ point 1 18 ∷ []))  -- the driving tree keeps its root load,
+    ∷ row (early ∷ driven 15 ∷ []) (link 1 1 0 ∷ []) (whole (point 1 6 ∷ point 1 15 ∷ []))  -- and the leaf its drive: 3 under a pin of load 1
+    ∷ row (early ∷ over 12 ∷ over 18 ∷ []) (link 2 1 1 ∷ link 1 1 0 ∷ []) (whole (point 1 6 ∷ point 1 12 ∷ point 1 18 ∷ []))  -- each tree by its own link
+    ∷ row (early ∷ both 14 ∷ []) (link 1 1 0 ∷ link 1 2 0 ∷ []) (whole (point 1 6 ∷ point 2 14 ∷ []))  -- one tree drives two leaves
+    ∷ row (early ∷ both 28 ∷ []) (link 1 1 0 ∷ []) (whole (point 1 6 ∷ point 2 28 ∷ []))  -- a leaf that is not linked stays at 20
+    ∷ row (tree (plainLeaf 1_000_000) 1 1_000_000 ∷ over 1_000_006 ∷ []) (link 1 1 0 ∷ []) (whole (point 0 1_000_000 ∷ point 1 1_000_006 ∷ []))  -- the latest that may be brought
+    ∷ row (late ∷ over 0 ∷ []) (link 1 1 0 ∷ []) (refusedIn 1 43 1)  -- over it, before 8
+    ∷ row (late ∷ both 0 ∷ []) (link 1 2 0 ∷ link 1 1 0 ∷ []) (refusedIn 1 43 1)  -- the lowest of two
+    ∷ faulty (link 1 0 0 ∷ []) 41 17  -- a gate, at the leaf field
+    ∷ faulty (link 1 1 0 ∷ link 2 0 0 ∷ []) 41 31
+    ∷ faulty (link 1 2 0 ∷ []) 41 17  -- a node that the tree has not
+    ∷ faulty (link 2 1 0 ∷ link 2 1 1 ∷ []) 41 31  -- a leaf already linked
+    ∷ faulty (link 1 1 1 ∷ []) 42 0  -- the tree itself, at the link's position
+    ∷ faulty (link 1 1 0 ∷ link 2 1 2 ∷ []) 42 1
+    ∷ faulty (link 0 1 1 ∷ []) 42 0  -- a higher tree
+    ∷ faulty (link 1 0 1 ∷ []) 41 17  -- 41 before 42,
+    ∷ faulty (link 1 1 1 ∷ link 2 0 0 ∷ []) 42 0  -- but link by link
+    ∷ []
+
+abbrev outcome : Row → PartAnswer (List Point)
+outcome r = do
+  links ← linksJudged (r .trees) [] (r .links)
+  onWhole (map (λ (c : Cover). c .point)) (coversFrom capacity specimen links [] (r .trees))
+
+abbrev pub Linked : Type 0
+Linked = map outcome linked ≡ map (λ (r : Row). r .result) linked
