@@ -8,6 +8,7 @@ mappers="product plain plain_kept merging"
 judges="product reference wordwise"
 [ -z "${TREECOVER_BEFORE_DIR:-}" ] || { features=before; mappers="$mappers before"; judges="$judges before"; }
 rows="typical chain comb deep full crosscomb driven"
+parts="product maps plain_kept merging"
 sheets="longest_library longest_tree longest_plain_tree longest_functions"
 scratch=$(mktemp -d)
 trap 'rm -rf "$scratch"' EXIT
@@ -48,14 +49,14 @@ run say more than times. Processor: $(lscpu | awk -F': *' '/^Model name/ { print
 The proved map through the C interface; the same algorithm in plain Rust (\`reference/src/deadline\`), which works every point out anew (\`plain\`) or keeps a match's last point
 while it is in time, and passes over a match whose last point is not below the least so far (\`plain_kept\`); the separate implementation, which merges whole curves (\`merging\`)$([ "$features" = product ] || echo '; and the static library of the delivery before (`before`)'). All built for release, on the same bytes,
 taking turns in one run (medians of 31 rounds), each answer compared with the expected sheet$([ "$features" = product ] || echo ' (of `before` area and arrival; it is left out where it refuses the sheets)'). A ratio is the product's time over the other's. \`typical\` is a usual
-problem; \`chain\` and \`comb\` are the worst that were found before inputs could be exchanged; \`deep\` has nearly nothing to find and the deepest choice; \`full\` and \`crosscomb\` have many crossings; \`driven\` is \`typical\` with all leaves driven.
+problem; \`chain\` and \`comb\` are the worst that were found before inputs could be exchanged; \`deep\` has nearly nothing to find and the deepest choice; \`full\` and \`crosscomb\` have many crossings; \`driven\` is \`typical\` with all leaves driven; \`part\` has 16 trees of the kind of \`typical\`, linked.
 
 The judges are timed on the longest sound library, the longest sound tree, whose leaves are all driven, and the same tree with plain leaves; the judge of functions on a library as long and its function sheet, all of it right (\`longest_functions\`). Beside the product stand the separate implementation, which keeps what it reads and works a drawing out setting by setting (\`reference\`), and judges
 written by hand for speed, which take each field from one word of 64 bits (a function of six pins from two), check every rule, keep nothing but what each drawing computes and each cell's counts, and divide places, which the product must not (\`reference/src/wordwise.rs\`, \`wordwise\`).
 
 The bars that we set: on chain and comb no more instructions than before inputs could be exchanged; on full and crosscomb at most 1.25 times plain Rust with all savings
 (crossings that are ruled out together, points that are kept, matches that are passed over: \`plain_kept\`); faster than merging on every row but deep; for the judges of sheets half of the time
-that they took while a field was read bit by bit, and a quarter as the goal.
+that they took while a field was read bit by bit, and a quarter as the goal; for a part of 16 typical trees at most 1.1 of the time of 16 calls of map.
 
 \`\`\`
 $("$bench")
@@ -64,6 +65,10 @@ $("$bench")
 Instructions for one map, by callgrind. Bytes made zero by one repeated instruction count once for each byte: for the product some 250,000 in every row.
 
 $(table "$mappers" "$rows")
+
+Instructions for the part of 16 trees, by callgrind: the part operation, the same trees mapped by 16 calls of map with the arrivals put in (\`maps\`), and plain Rust and merging with the part.
+
+$(table "$parts" part)
 
 Instructions for one judgement, by callgrind.
 
@@ -75,7 +80,7 @@ The greatest stack, by massif, in bytes, of which main and the benchmark have a 
 |---|---|---|
 $(for row in $rows; do echo "| $row | $(stack product "$row") | $(stack judge "$row") |"; done)
 
-The judge of functions, on \`longest_functions\`: $(stack product longest_functions).
+The judge of functions, on \`longest_functions\`: $(stack product longest_functions). The part operation, on \`part\`: $(stack product part).
 
 ## Agreement on fresh cases
 
@@ -92,6 +97,8 @@ $ fresh bill 200000 34
 $("$fresh" bill 200000 34)
 $ fresh functions 200000 35
 $("$fresh" functions 200000 35)
+$ fresh part 200000 36
+$("$fresh" part 200000 36)
 \`\`\`
 
 ## The gate
