@@ -21,7 +21,7 @@ extern "C" {
  *    4  a value out of range, or a bin load not above the one before; place: the field's first bit
  *    5  a pattern opens with a leaf, repeats a pin, or lacks one; place: the code, the pin number, the pattern's first bit
  *    6  a pattern's 17th node, or a pattern count past 128 in all; place: that field
- *   12, 13, 14  as 2, 3 and 4, in the tree
+ *   12, 13, 14  as 2, 3 and 4, in the tree; in a part bytes may follow any tree except the last
  *   16  the tree's 65th node; place: its code
  *    7  more than 31 trade-offs at a node under a load considered there; place: the highest-numbered such node
  *    8  map: no cover arrives by the required time; list: the root has no cover; place 0
@@ -78,8 +78,9 @@ uint64_t treecover_list(const uint8_t *library, size_t library_len, const uint8_
 /*
  * Maps the trees of a part in their order. A linked leaf takes the arrival of its driving tree's cover in place of its own, and keeps its
  * drive. Answers how many bytes of the output the cover sheets take, one after another, each filled to its byte; nothing is written
- * before every tree is mapped. A refusal of a tree, or of its mapping, has the tree's number, any other tree 0; bits of a tree count
- * from the first of its own sheet. Work area as for treecover_map, and zero after refusal 43 too.
+ * before every tree is mapped, and later bytes, or after a refusal all, are as they were. A refusal of a tree, or of its mapping, has
+ * the tree's number, any other tree 0; bits of a tree count from the first of its own sheet. Work area as for treecover_map, and zero
+ * after refusal 43 too.
  */
 uint64_t treecover_map_part(const uint8_t *library, size_t library_len, const uint8_t *part, size_t part_len,
                             uint8_t *output, size_t output_len, uint64_t *work, size_t work_len);

@@ -24,8 +24,8 @@ const SHEETS: [u64; 3] = [0x8fe4_1739_1a1e_0c88, 0x934a_0a14_e612_9670, 0xdd3c_7
 /// The digests of the library and the function sheet that the judge of functions is timed on.
 const FUNCTIONS: [u64; 2] = [0xfeb7_4068_f72c_5afc, 0xc14b_4281_4ae3_5028];
 
-/// The digest of the part that is timed, and its links; its library is that of `typical`.
-const PART: (u64, usize) = (0x7fc5_2eb8_c324_acd9, 30);
+/// The digests of the parts that are timed, and their links; their libraries are those of `typical` and `deep`.
+const PARTS: [(u64, usize); 2] = [(0x7fc5_2eb8_c324_acd9, 30), (0x4562_fd3d_e7b8_04ea, 15)];
 
 /// FNV-1a: sheets that change are noticed, so that times can be compared over the years.
 fn digest(sheet: &[u8]) -> u64 {
@@ -81,21 +81,26 @@ fn all_methods_give_the_same_cover() {
 }
 
 #[test]
-fn the_part_is_what_it_was() {
-    let draft = heavy::typical_part();
-    let digest = digest(&draft.case().part);
-    assert_eq!((digest, draft.part.links.len()), PART, "{digest:#x}");
-    assert_eq!(draft.library, heavy::typical().library);
-    assert!(draft.part.trees.iter().all(|tree| tree.shape.nodes.len() == 48));
+fn the_parts_are_what_they_were() {
+    let (typical, deepest) = (heavy::typical_part(), heavy::deepest_part());
+    for (draft, expected) in [&typical, &deepest].into_iter().zip(PARTS) {
+        let digest = digest(&draft.case().part);
+        assert_eq!((digest, draft.part.links.len()), expected, "{digest:#x}");
+    }
+    assert_eq!(typical.library, heavy::typical().library);
+    assert!(typical.part.trees.iter().all(|tree| tree.shape.nodes.len() == 48));
+    assert_eq!(deepest.library, heavy::deepest().library);
+    assert!(deepest.part.trees.iter().all(|tree| tree.shape.nodes.len() == 64));
 }
 
 #[test]
-fn all_methods_give_the_same_covers_of_the_part() {
-    let case = heavy::typical_part().case();
-    let expected = case.answer().expect("covers");
-    let (mut output, mut work) = (vec![0; case.lent.output], vec![0; case.lent.work]);
-    for variant in Variant::ALL {
-        let length = variant.run_part(&case.library, &case.part, &mut output, &mut work).expect("covers");
-        assert_eq!(output[..length], expected, "{}", variant.name());
+fn all_methods_give_the_same_covers_of_the_parts() {
+    for case in [heavy::typical_part().case(), heavy::deepest_part().case()] {
+        let expected = case.answer().expect("covers");
+        let (mut output, mut work) = (vec![0; case.lent.output], vec![0; case.lent.work]);
+        for variant in Variant::ALL {
+            let length = variant.run_part(&case.library, &case.part, &mut output, &mut work).expect("covers");
+            assert_eq!(output[..length], expected, "{}", variant.name());
+        }
     }
 }

@@ -6,7 +6,7 @@ use mathlib.Core.Option.{Option, none, some}
 use native.Mathlib.Omega.{arith}
 use lib.ListN.{length, getD, take, drop, replicate, length-replicate, take-append-drop}
 use lib.Seq.{take-append-seam}
-use Rattle.fields.specs.Answer.{Answer, Bounded}
+use Rattle.fields.specs.Answer.{Bounded}
 use Rattle.fields.proofs.Lists.{zeros-at}
 use Rattle.sheets.specs.declared.library.Bins.{Bins}
 use Rattle.sheets.specs.declared.tree.TreeRecord.{TreeRecord}
@@ -19,7 +19,6 @@ use Rattle.covers.specs.Outcome.{cleared}
 use Rattle.matching.specs.Found.{matchTable}
 use Rattle.filling.specs.Promises.{FillStart}
 use Rattle.results.specs.Public.{coverOf}
-use Rattle.mapper.specs.declared.Finding.{Finding}
 use Rattle.mapper.specs.declared.Finding.the-variants.{Refused}
 use Rattle.mapper.specs.declared.Mapped.{Mapped}
 use Rattle.mapper.specs.Found.{bareCover, ofFinding, ofMapped, refusedWith}

@@ -34,8 +34,8 @@ use Rattle.results.specs.Public.{Written}
 use Rattle.parts.specs.Part.{Link, Part, driverOf}
 use Rattle.parts.specs.Answer.{PartAnswer, refusedIn, whole, inTree, outside, _>>=_, PartBounded}
 use Rattle.parts.specs.PartSheet.{counts}
-use Rattle.parts.specs.PartRead.{linkNumber, sheetRead, treesFrom, isLeafOf, isFree, linkJudged, linksJudged, part}
-use Rattle.parts.specs.Outcome.{lateNumber, coversFrom, partBytes, partOutcome, partTold, partObserved, partOutputAfter, partWorkAfter}
+use Rattle.parts.specs.PartRead.{linkNumber, sheetRead, treesFrom, isLeafOf, isFree, linkJudged, linksJudged, afterCounts, part}
+use Rattle.parts.specs.Outcome.{lateNumber, coversFrom, partBytes, partSheets, partOutcome, partTold, partObserved, partOutputAfter, partWorkAfter}
 use Rattle.parts.specs.Demands.{Fails, late, overfull, no-cover, PartWhereSound}
 use Rattle.parts.proofs.Demands.{part-observed-is, part-demands}
 use Rattle.parts.proofs.Running.{CoversPromise, first-fails, covers-promise}
@@ -43,7 +43,7 @@ use Rattle.linking.proofs.Links.{said}
 use Rattle.assembly.specs.declared.PartReply.{PartReply}
 use Rattle.assembly.specs.declared.PartReply.the-variants as PartReply
 use Rattle.assembly.specs.Public.{ofPartReply, PartOperated}
-use Rattle.assembly.specs.Inside.{RowsHeld, mappedPart, withPart}
+use Rattle.assembly.specs.Inside.{RowsHeld, withPart}
 
 -- ---- a sound library
 
@@ -124,13 +124,18 @@ unfolding linksJudged
 sparing-links trees before [] = tt
 sparing-links trees before (x ∷ xs) = sparing-both (outside (linkJudged trees before x)) (λ links. linksJudged trees links xs) (sparing-link trees before x) (λ links. sparing-links trees links xs)
 
+sparing-after : (count : ℕ) (links : List Link) (s : List ℕ) → Sparing (afterCounts count links s)
+unfolding afterCounts
+sparing-after count links s =
+    sparing-both (treesFrom [] count s) (λ trees. linksJudged trees [] links >>= (λ judged. whole (record { trees = trees; links = judged }))) (sparing-trees [] count s)
+    (λ trees. sparing-both (linksJudged trees [] links) (λ judged. whole (record { trees = trees; links = judged })) (sparing-links trees [] links) (λ judged. tt))
+
 part-spares : (s : List ℕ) → Sparing (part s)
 unfolding part leavesZero
 part-spares s =
-    sparing-both (outside (sheetRead (λ f. linkNumber) (counts s start))) (λ head. treesFrom [] (head .0 .trees) (drop (head .1) s) >>= (λ trees. linksJudged trees [] (head .0 .links) >>= (λ links. whole (record { trees = trees; links = links }))))
+    sparing-both (outside (sheetRead (λ f. linkNumber) (counts s start))) (λ head. afterCounts (head .0 .trees) (head .0 .links) (drop (head .1) s))
     (sparing-read 0 (λ f. linkNumber) (counts s start) (λ f. refl))
-    (λ head. sparing-both (treesFrom [] (head .0 .trees) (drop (head .1) s)) (λ trees. linksJudged trees [] (head .0 .links) >>= (λ links. whole (record { trees = trees; links = links }))) (sparing-trees [] (head .0 .trees) (drop (head .1) s))
-    (λ trees. sparing-both (linksJudged trees [] (head .0 .links)) (λ links. whole (record { trees = trees; links = links })) (sparing-links trees [] (head .0 .links)) (λ links. tt)))
+    (λ head. sparing-after (head .0 .trees) (head .0 .links) (drop (head .1) s))
 
 -- ---- replies
 
@@ -142,15 +147,15 @@ untouched {k = k} {n = n} {p = p} output work e spared fits =
 
 module _ (l : Library) (p : Part) {output work work′ : List ℕ} (done : work′ ≡ cleared (workWords capacity) work) where
   -- A tree is refused.
-  pub trees-refused : {k n place : ℕ} → coversFrom capacity l (p .links) [] (p .trees) ≡ refusedIn k n place → PartBounded (refusedIn k n place) → PartOperated (mappedPart l p) output output work work′ (PartReply.Refused k n place)
-  unfolding mappedPart partTold partOutputAfter partWorkAfter ofPartReply
+  pub trees-refused : {k n place : ℕ} → coversFrom capacity l (p .links) [] (p .trees) ≡ refusedIn k n place → PartBounded (refusedIn k n place) → PartOperated (partSheets l p) output output work work′ (PartReply.Refused k n place)
+  unfolding partSheets partTold partOutputAfter partWorkAfter ofPartReply
   trees-refused {k} {n} {place} e fits =
       subst (λ (r : PartAnswer (List Cover)). PartOperated (r >>= (λ covers. whole (flatMap coverSheet covers))) output output work work′ (PartReply.Refused k n place)) (sym e)
       (record { reply-is = refl; leaves = record { output-is = refl; work-is = rw (mapped-zeroed l p e) done }; bounded = fits })
 
   -- All are mapped.
-  pub trees-found : {output′ : List ℕ} {covers : List Cover} {n : ℕ} → coversFrom capacity l (p .links) [] (p .trees) ≡ whole covers → Written (flatMap coverSheet covers) output output′ n → n ≤ partBytes → PartOperated (mappedPart l p) output output′ work work′ (PartReply.Sheets n)
-  unfolding mappedPart partTold partOutputAfter partWorkAfter ofPartReply PartBounded
+  pub trees-found : {output′ : List ℕ} {covers : List Cover} {n : ℕ} → coversFrom capacity l (p .links) [] (p .trees) ≡ whole covers → Written (flatMap coverSheet covers) output output′ n → n ≤ partBytes → PartOperated (partSheets l p) output output′ work work′ (PartReply.Sheets n)
+  unfolding partSheets partTold partOutputAfter partWorkAfter ofPartReply PartBounded
   trees-found {output′} {covers} {n} e w few =
       subst (λ (r : PartAnswer (List Cover)). PartOperated (r >>= (λ covers. whole (flatMap coverSheet covers))) output output′ work work′ (PartReply.Sheets n)) (sym e)
       (record { reply-is = ap whole (w .bytes); leaves = record { output-is = w .output; work-is = done }; bounded = omega arith })
@@ -158,13 +163,13 @@ module _ (l : Library) (p : Part) {output work work′ : List ℕ} (done : work�
 -- ---- a part, sound or not
 
 module _ (l : Library) (ps : List ℕ) {output output′ work work′ : List ℕ} {r : PartReply} where
-  pub part-answered : (p : Part) → part ps ≡ whole p → PartOperated (mappedPart l p) output output′ work work′ r → PartOperated (withPart l (part ps)) output output′ work work′ r
+  pub part-answered : (p : Part) → part ps ≡ whole p → PartOperated (partSheets l p) output output′ work work′ r → PartOperated (withPart l (part ps)) output output′ work work′ r
   unfolding withPart
-  part-answered p e = subst (λ (o : PartAnswer Part). PartOperated (o >>= mappedPart l) output output′ work work′ r) (sym e)
+  part-answered p e = subst (λ (o : PartAnswer Part). PartOperated (o >>= partSheets l) output output′ work work′ r) (sym e)
 
 pub part-not-sound : (l : Library) (ps output work : List ℕ) {k n p : ℕ} → part ps ≡ refusedIn k n p → PartBounded (refusedIn k n p) → PartOperated (withPart l (part ps)) output output work work (PartReply.Refused k n p)
 unfolding withPart
-part-not-sound l ps output work e fits = untouched output work (ap (λ (o : PartAnswer Part). o >>= mappedPart l) e) (subst Sparing e (part-spares ps)) fits
+part-not-sound l ps output work e fits = untouched output work (ap (λ (o : PartAnswer Part). o >>= partSheets l) e) (subst Sparing e (part-spares ps)) fits
 
 -- ---- a library, sound or not
 
@@ -189,7 +194,7 @@ module _ (ls ps output work : List ℕ) where
     outcome q e = rw (le-leb partBytes (length output) room, le-leb (workWords capacity) (length work) words) (ap from (sym (h .scan-is) ∙ e))
 
     pub library-answered : {output′ work′ : List ℕ} {r : PartReply} (c : Cursor) → read .scan ≡ At c → PartOperated (withPart (libraryOf ls start .0) (part ps)) output output′ work work′ r → PartOperated (partOutcome ls ps (length output) (length work)) output output′ work work′ r
-    unfolding withPart mappedPart from
+    unfolding withPart partSheets from
     library-answered {output′} {work′} {r} c e = subst (λ (o : PartAnswer (List ℕ)). PartOperated o output output′ work work′ r) (sym (outcome (At c) e))
 
     pub library-not-sound : (f : Fault) (p n : ℕ) → read .scan ≡ Refused f p → n ≡ libraryNumber f → PartOperated (partOutcome ls ps (length output) (length work)) output output work work (PartReply.Refused 0 n p)

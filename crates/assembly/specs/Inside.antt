@@ -1,7 +1,7 @@
 -- What the functions of this crate are lent and what they promise each other.
 use Prim.Native.Nat.{ℕ, _≤_}
 use mathlib.Core.Path.{_≡_}
-use mathlib.Core.List.{List, [], map, flatMap}
+use mathlib.Core.List.{List, [], map}
 use mathlib.Core.Option.{Option}
 use lib.ListN.{length, take, getD, replicate}
 use Rattle.fields.specs.Answer.{refused, Bounded}
@@ -11,16 +11,15 @@ use Rattle.sheets.specs.Sound.{SoundLibrary}
 use Rattle.sheets.specs.Layout.{libraryLaid, patternTable}
 use Rattle.covers.specs.Capacity.{capacity, workWords}
 use Rattle.covers.specs.Cover.{Cover}
-use Rattle.covers.specs.CoverSheet.{coverSheet}
 use Rattle.results.specs.declared.CoverRecord.{CoverRecord}
 use Rattle.results.specs.Public.{coverOf}
 use Rattle.mapper.specs.declared.Finding.the-variants.{Refused}
 use Rattle.mapper.specs.declared.Mapped.{Mapped}
 use Rattle.mapper.specs.Found.{ofMapped}
 use Rattle.parts.specs.Part.{Part}
-use Rattle.parts.specs.Answer.{PartAnswer, _>>=_, whole}
+use Rattle.parts.specs.Answer.{PartAnswer, _>>=_}
 use Rattle.parts.specs.PartSheet.{treesMost}
-use Rattle.parts.specs.Outcome.{treeMapped, coversFrom}
+use Rattle.parts.specs.Outcome.{treeMapped, partSheets}
 
 -- The rows and the bins of a sound library.
 pub record RowsHeld (l : Library) (rows : List ℕ) (bins : Bins) : Type 0 where
@@ -33,10 +32,11 @@ pub record Zeros (work : List ℕ) : Type 0 where
   pub long : workWords capacity ≤ length work
   pub zeros : take (workWords capacity) work ≡ replicate (workWords capacity) 0
 
--- A sheet has room for each cover.
+-- What stands where no cover is.
 abbrev pub noCover : CoverRecord
 noCover = record { area = 0; arrival = 0; count = 0; nodes = []; patterns = []; crossings = [] }
 
+-- Each cover of an array has so few matches that its sheet has room for it.
 pub record Few (l : List CoverRecord) : Type 0 where
   pub long : length l ≡ treesMost
   pub few : (k : ℕ) → getD l k noCover .count ≤ 63
@@ -52,11 +52,7 @@ pub record LinkedMapped (l : Library) (f : ℕ → Option ℕ) (t : Tree) (r : M
   pub few : r .cover .count ≤ 63
   pub fits : (number place : ℕ) → r .finding ≡ Refused number place → Bounded (refused number place)
 
--- The sheets of a sound part, and of any part.
-unfoldable pub mappedPart : Library → Part → PartAnswer (List ℕ)
-unfolding coversFrom _>>=_ flatMap coverSheet
-mappedPart l p = coversFrom capacity l (p .links) [] (p .trees) >>= (λ covers. whole (flatMap coverSheet covers))
-
+-- The sheets of a part that was read, or its refusal.
 unfoldable pub withPart : Library → PartAnswer Part → PartAnswer (List ℕ)
-unfolding _>>=_
-withPart l o = o >>= mappedPart l
+unfolding _>>=_ partSheets
+withPart l o = o >>= partSheets l

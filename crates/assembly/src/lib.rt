@@ -7,6 +7,7 @@ use linking::PartRecord;
 use mapper::Finding;
 use mapper::Mapped;
 use mapper::Numbers;
+use matching::Row;
 use results::CoverRecord;
 use sheets::Limits;
 use sheets::library::Bins;
@@ -29,11 +30,11 @@ ghost use Rattle.results.specs.Public.{coverOf, Written};
 ghost use Rattle.parts.specs.Part.{Part};
 ghost use Rattle.parts.specs.PartRead.{part as partOf};
 ghost use Rattle.parts.specs.PartSheet.{treesMost};
-ghost use Rattle.parts.specs.Outcome.{coversFrom, partBytes, partOutcome, partObserved};
+ghost use Rattle.parts.specs.Outcome.{coversFrom, partBytes, partSheets, partOutcome, partObserved};
 ghost use Rattle.parts.specs.Demands.{PartWhereSound};
 ghost use Rattle.linking.specs.Held.{Says, brought, PartHeld};
 ghost use Rattle.assembly.specs.Public.{ofPartReply, PartOperated};
-ghost use Rattle.assembly.specs.Inside.{RowsHeld, Zeros, Few, CoversHeld, LinkedMapped, mappedPart, withPart};
+ghost use Rattle.assembly.specs.Inside.{RowsHeld, Zeros, Few, CoversHeld, LinkedMapped, withPart};
 
 // A refusal's tree, number and place, or cover sheets of so many bytes in the output.
 pub enum PartReply {
@@ -60,7 +61,18 @@ fn map_one(rows: &[u32], bins: Bins, tree: TreeRecord, work: &mut [u64]) -> Mapp
     ensures { λ r. ⌜ now (work .exit) ≡ cleared (workWords capacity) (now (work .entry)) ⌝ }
     ensures { λ r. ⌜ ((l : Library) (t : Tree) → RowsHeld l (now (rows .entry)) bins → SoundTree t → tree ≡ treeLaid t → MappedIs capacity l t r) ⌝ }
 {
-    let mapped = mapper::map_tree(rows, bins, tree, Limits::POINTS, &mut work[0..Limits::WORK]);
+    let mut found = [0u8; Row::TABLE];
+    let mut kept = [0u64; Row::MATCHES];
+    let most = Limits::POINTS;
+    let mapped = mapper::map_tree(
+        rows,
+        bins,
+        tree,
+        most,
+        &mut found,
+        &mut work[0..Limits::WORK],
+        &mut kept,
+    );
     results::clear_work(work, Limits::WORK);
     mapped
 }
@@ -160,7 +172,7 @@ fn with_part(
 ) -> PartReply
     requires { ⌜ (partBytes ≤ length (now output)) × (workWords capacity ≤ length (now work)) × ((l : Library) × ((p : Part) × LibraryHeld l library × PartHeld p part)) ⌝ }
     ensures { λ r. ⌜ ((l : Library) (p : Part) → LibraryHeld l library → PartHeld p part →
-        PartOperated (mappedPart l p) (now (output .entry)) (now (output .exit)) (now (work .entry)) (now (work .exit)) r) ⌝ }
+        PartOperated (partSheets l p) (now (output .entry)) (now (output .exit)) (now (work .entry)) (now (work .exit)) r) ⌝ }
 {
     let rows = library.rows;
     let words = PatternRow::WORDS * library.total;

@@ -29,7 +29,7 @@ struct Word {}
 impl Word {
     const PLACES: u64 = 4294967296;
 
-    // How many numbers there are below the trees, where a refusal has one.
+    // A refusal of a part has its tree above so many numbers.
     const NUMBERS: u64 = 256;
 
     // The highest bit, which is set where a cover is accepted.

@@ -1,4 +1,4 @@
--- What the loops of this crate rest on: the next tree of a part, the next link, the next node of a tree.
+-- The next tree of a part, the counts and links as they are read, and the part that they make with the trees.
 use Prim.Native.Nat.{ℕ, suc, _+_, _-_, _≤_, _<_}
 use mathlib.Core.Path.{_≡_, refl, sym, ap, ap₂, subst, _∙_}
 use mathlib.Core.Bool.{Bool}
@@ -29,13 +29,13 @@ use Rattle.bits.proofs.Whole.{fills-says}
 use Rattle.parts.specs.Part.{Link, Part}
 use Rattle.parts.specs.Answer.{PartAnswer, refusedIn, whole, inTree, _>>=_}
 use Rattle.parts.specs.PartSheet.{treeCountWidth, linkCountWidth, treeWidth, leafWidth, treesMost, link, counts}
-use Rattle.parts.specs.PartRead.{linkNumber, sheetRead, treesFrom, linksJudged, part}
+use Rattle.parts.specs.PartRead.{linkNumber, sheetRead, treesFrom, linksJudged, afterCounts, part}
 use Rattle.linking.specs.declared.LinkRecord.{LinkRecord}
 use Rattle.linking.specs.declared.CountsRead.{CountsRead}
 use Rattle.linking.specs.declared.PartFinding.{PartFinding}
 use Rattle.linking.specs.declared.PartFinding.the-variants as PartFinding
 use Rattle.linking.specs.declared.LinksRead.{LinksRead}
-use Rattle.linking.specs.Inside.{noLink, linksLaid, SmallLink, SmallLinks, LinkIs, LinksAre, CountsAre, restOf}
+use Rattle.linking.specs.Inside.{noLink, linksLaid, SmallLink, SmallLinks, LinkIs, LinksAre, CountsAre}
 use Rattle.linking.specs.Held.{Says, TreesHeld, Marks, PartHeld}
 
 -- ---- the next tree
@@ -131,15 +131,15 @@ counts-read s c end trees count read e ht hn h he =
 
 module _ (s : List ℕ) (r : CountsRead) (h : CountsAre s r) where
   after : Scan → PartAnswer Part
-  after q = inTree 0 (sheetRead (λ f. linkNumber) (counts s start .0, q)) >>= (λ head. restOf (head .0 .trees) (head .0 .links) (drop (head .1) s))
+  after q = inTree 0 (sheetRead (λ f. linkNumber) (counts s start .0, q)) >>= (λ head. afterCounts (head .0 .trees) (head .0 .links) (drop (head .1) s))
 
   -- After sound counts and links it is the rest; their fault is that of the part.
-  pub part-from : (c : Cursor) → r .scan ≡ At c → part s ≡ restOf (r .trees) (counts s start .0 .links) (drop (bytesTo (placeOf c)) s)
-  unfolding part restOf after
-  part-from c e = ap after (sym (h .scan-is) ∙ e) ∙ ap (λ (n : ℕ). restOf n (counts s start .0 .links) (drop (bytesTo (placeOf c)) s)) (sym (h .trees-are))
+  pub part-from : (c : Cursor) → r .scan ≡ At c → part s ≡ afterCounts (r .trees) (counts s start .0 .links) (drop (bytesTo (placeOf c)) s)
+  unfolding part after
+  part-from c e = ap after (sym (h .scan-is) ∙ e) ∙ ap (λ (n : ℕ). afterCounts n (counts s start .0 .links) (drop (bytesTo (placeOf c)) s)) (sym (h .trees-are))
 
   pub part-stops : (f : Fault) (p : ℕ) → r .scan ≡ Refused f p → part s ≡ refusedIn 0 linkNumber p
-  unfolding part restOf after
+  unfolding part after
   part-stops f p e = ap after (sym (h .scan-is) ∙ e)
 
   -- The bytes that they take up are there.
@@ -151,18 +151,18 @@ module _ (s : List ℕ) (r : CountsRead) (h : CountsAre s r) where
       fills-says s (placeOf c) (tailed-wanted (filledAt s) (times (N .0) (link s (T .0)) (N .1) .1) c (sym (h .scan-is) ∙ e))
 
 -- The rest is refused with the trees, or held with the links.
-pub rest-stops : (count : ℕ) (xs : List Link) (s : List ℕ) {k number place : ℕ} → treesFrom [] count s ≡ refusedIn k number place → restOf count xs s ≡ refusedIn k number place
-unfolding restOf
+pub rest-stops : (count : ℕ) (xs : List Link) (s : List ℕ) {k number place : ℕ} → treesFrom [] count s ≡ refusedIn k number place → afterCounts count xs s ≡ refusedIn k number place
+unfolding afterCounts
 rest-stops count xs s e = ap (λ (o : PartAnswer (List Tree)). o >>= (λ ts. linksJudged ts [] xs >>= (λ ys. whole (record { trees = ts; links = ys })))) e
 
 pub rest-says : (count : ℕ) (xs : List Link) (s : List ℕ) (ts : List Tree) (trees : List TreeRecord) (drivers : List ℕ) (finding : PartFinding) → treesFrom [] count s ≡ whole ts → TreesHeld ts trees → length ts ≡ count → Says Marks (linksJudged ts [] xs) finding drivers →
-    Says PartHeld (restOf count xs s) finding (record { count = count; trees = trees; drivers = drivers })
-unfolding restOf
+    Says PartHeld (afterCounts count xs s) finding (record { count = count; trees = trees; drivers = drivers })
+unfolding afterCounts
 rest-says count xs s ts trees drivers finding e held many h = go finding h
   where
     on : PartAnswer (List Tree) → PartAnswer Part
     on o = o >>= (λ us. linksJudged us [] xs >>= (λ ys. whole (record { trees = us; links = ys })))
 
-    go : (f : PartFinding) → Says Marks (linksJudged ts [] xs) f drivers → Says PartHeld (restOf count xs s) f (record { count = count; trees = trees; drivers = drivers })
+    go : (f : PartFinding) → Says Marks (linksJudged ts [] xs) f drivers → Says PartHeld (afterCounts count xs s) f (record { count = count; trees = trees; drivers = drivers })
     go (PartFinding.Refused k number place) (q, fits) = (ap on e ∙ ap (λ (o : PartAnswer (List Link)). o >>= (λ ys. whole (record { trees = ts; links = ys }))) q, fits)
     go PartFinding.Found (ys, q, marks) = (record { trees = ts; links = ys }, ap on e ∙ ap (λ (o : PartAnswer (List Link)). o >>= (λ ys. whole (record { trees = ts; links = ys }))) q, record { count-is = sym many; trees-are = held; drivers-are = marks })

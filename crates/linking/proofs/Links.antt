@@ -64,9 +64,9 @@ leaf-at m (suc n) i (nand a b) e =
         ∙ second (n - size a) (omega arith) ∙ ap (leb 2) (sym (ap (λ (k : ℕ). getD (symbols a ++ symbols b) k 0) there ∙ getD-append-add (symbols a) (symbols b) (n - size a) 0))
 
 -- So it is told from the record of its tree, whether the tree is there or not.
-leaf-told : (trees : List Tree) (k n : ℕ) → ((t : Tree) → List·Memᴰ t trees → SoundTree t) → isLeafOf (getElem? trees k) n ≡ leb 2 (getD (laidOr (getElem? trees k) .symbols) n 0)
+leaf-by-symbol : (trees : List Tree) (k n : ℕ) → ((t : Tree) → List·Memᴰ t trees → SoundTree t) → isLeafOf (getElem? trees k) n ≡ leb 2 (getD (laidOr (getElem? trees k) .symbols) n 0)
 unfolding isLeafOf treeLaid
-leaf-told trees k n h = go (getElem? trees k) refl
+leaf-by-symbol trees k n h = go (getElem? trees k) refl
   where
     go : (o : Option Tree) → getElem? trees k ≡ o → isLeafOf o n ≡ leb 2 (getD (laidOr o .symbols) n 0)
     go none e = sym (ap (leb 2) (zeros-at 64 n))
@@ -93,7 +93,7 @@ module _ {trees : List Tree} {before : List Link} {x : Link} {tree : TreeRecord}
   unfolding linkJudged
   says a b c ea eb ec =
       let names : isLeafOf (getElem? trees (x .reading)) (x .node) ≡ a =
-      leaf-told trees (x .reading) (x .node) (h .sound) ∙ ap (λ (r : TreeRecord). leb 2 (getD (r .symbols) (x .node) 0)) (sym (h .tree-is)) ∙ ap (λ (k : LinkRecord). leb 2 (getD (tree .symbols) (k .node) 0)) (sym (h .link-is)) ∙ ea in
+      leaf-by-symbol trees (x .reading) (x .node) (h .sound) ∙ ap (λ (r : TreeRecord). leb 2 (getD (r .symbols) (x .node) 0)) (sym (h .tree-is)) ∙ ap (λ (k : LinkRecord). leb 2 (getD (tree .symbols) (k .node) 0)) (sym (h .link-is)) ∙ ea in
       let free : isFree (driverOf before (x .reading) (x .node)) ≡ b = ap isFree (h .driver-is) ∙ eb in
       let lower : ltb (x .driving) (x .reading) ≡ c = ap (λ (k : LinkRecord). ltb (k .driving) (k .reading)) (sym (h .link-is)) ∙ ec in
       rw (names, free, lower) refl

@@ -14,10 +14,9 @@ use Rattle.sheets.specs.Model.{Tree}
 use Rattle.sheets.specs.Sound.{SoundTree}
 use Rattle.sheets.specs.Layout.{padded, treeLaid}
 use Rattle.overlay.specs.Held.{leafOf}
-use Rattle.parts.specs.Part.{Link, Part, driverOf}
-use Rattle.parts.specs.Answer.{PartAnswer, refusedIn, whole, _>>=_, PartBounded}
+use Rattle.parts.specs.Part.{Link, driverOf}
+use Rattle.parts.specs.Answer.{PartAnswer, refusedIn, whole, PartBounded}
 use Rattle.parts.specs.PartSheet.{treesMost, linksAt, linkWidth, link, counts}
-use Rattle.parts.specs.PartRead.{treesFrom, linksJudged}
 use Rattle.parts.specs.Outcome.{latestLinked}
 use Rattle.linking.specs.declared.LinkRecord.{LinkRecord}
 use Rattle.linking.specs.declared.PartFinding.{PartFinding}
@@ -92,14 +91,6 @@ pub record LinkAt (trees : List Tree) (before : List Link) (x : Link) (tree : Tr
   pub link-is : link ≡ linkLaid x
   pub driver-is : driverOf before (x .reading) (x .node) ≡ driverNamed driver
   pub position-is : position ≡ length before
-
--- The part that so many trees, from these bytes on, and these links make.
-unfoldable pub restOf : ℕ → List Link → List ℕ → PartAnswer Part
-unfolding _>>=_
-restOf count links s = do
-  trees ← treesFrom [] count s
-  xs ← linksJudged trees [] links
-  whole (record { trees = trees; links = xs })
 
 -- ---- a node's symbol
 

@@ -16,9 +16,9 @@ ghost use Rattle.overlay.specs.Held.{symbolLimit};
 ghost use Rattle.parts.specs.Part.{Link};
 ghost use Rattle.parts.specs.Answer.{outside};
 ghost use Rattle.parts.specs.PartSheet.{linksAt, treesMost};
-ghost use Rattle.parts.specs.PartRead.{treesFrom, linkJudged, linksJudged, part as partOf};
+ghost use Rattle.parts.specs.PartRead.{treesFrom, linkJudged, linksJudged, afterCounts, part as partOf};
 ghost use Rattle.linking.specs.Held.{Says, noTree, TreesHeld, Marks, PartHeld, brought, LinkedIs};
-ghost use Rattle.linking.specs.Inside.{linksLaid, SmallLink, SmallLinks, LinkIs, LinksAre, CountsAre, findingOf, Fits, LinkAt, restOf, symbolLinked};
+ghost use Rattle.linking.specs.Inside.{linksLaid, SmallLink, SmallLinks, LinkIs, LinksAre, CountsAre, findingOf, Fits, LinkAt, symbolLinked};
 
 // A link as decoded.
 pub struct LinkRecord {
@@ -297,7 +297,7 @@ fn judge_links(
 // What stands after the counts and the links: the trees, and then the links against them.
 fn read_rest(s: &[u8], counts: CountsRead) -> PartRead
     requires { ⌜ SmallLinks (counts .links) × (counts .trees ≤ treesMost) × (counts .count ≤ 255) ⌝ }
-    ensures { λ r. ⌜ ((xs : List Link) → counts .links ≡ linksLaid xs → counts .count ≡ length xs → Says PartHeld (restOf (counts .trees) xs (now (s .entry))) (r .finding) (r .part)) ⌝ }
+    ensures { λ r. ⌜ ((xs : List Link) → counts .links ≡ linksLaid xs → counts .count ≡ length xs → Says PartHeld (afterCounts (counts .trees) xs (now (s .entry))) (r .finding) (r .part)) ⌝ }
 {
     let count = counts.trees;
     let read = read_trees(s, count);

@@ -1,9 +1,9 @@
 // The core: what map and list find for a sound library and a sound tree, as decoded. Every curve is filled; then the cover is chosen, or
-// the root's trade-offs are counted. What is found is handed back, and nothing but the work area is written.
+// the root's trade-offs are counted. What is found is handed back, and nothing is written but the work area and the two tables that are lent beside it: of a
+// node's matches, and of a word to keep for each.
 use choosing::Goal;
 use curves::Words;
 use filling::Filling;
-use matching::Row;
 use results::CoverRecord;
 use sheets::Limits;
 use sheets::library::Bins;
@@ -12,13 +12,13 @@ ghost use mathlib.Core.Path.{_≡_};
 ghost use mathlib.Core.List.{List, map};
 ghost use mathlib.Core.Option.{none};
 ghost use Prim.Native.Nat.{ℕ, _-_, _<_, _≤_};
-ghost use lib.ListN.{length, take, replicate};
+ghost use lib.ListN.{length, take};
 ghost use Rattle.sheets.specs.Model.{leaf, Library, Tree};
 ghost use Rattle.covers.specs.Answer.{answered};
 ghost use Rattle.covers.specs.Choice.{choice};
 ghost use Rattle.covers.specs.Curve.{pointOf};
 ghost use Rattle.overlay.specs.Held.{leafOf, symbolLimit};
-ghost use Rattle.matching.specs.Found.{matchTable};
+ghost use Rattle.matching.specs.Found.{matchMost};
 ghost use Rattle.curves.specs.Words.{stored};
 ghost use Rattle.filling.specs.Promises.{FillStart};
 ghost use Rattle.mapper.specs.Found.{bareCover, refusedWith, ofMapped};
@@ -127,16 +127,22 @@ fn map_root(rows: &[u32], tree: TreeRecord, most: usize, found: &mut [u8], work:
 }
 
 // The cover that map hands over, for a sound library and a sound tree as decoded, where a node may have `most` trade-offs under a load.
-pub fn map_tree(rows: &[u32], bins: Bins, tree: TreeRecord, most: usize, work: &mut [u64]) -> Mapped
-    requires { ⌜ ((l : Library) × ((t : Tree) × FillStart l t (now rows) bins tree most (replicate matchTable 0) (now work))) ⌝ }
-    ensures { λ r. ⌜ ((l : Library) (t : Tree) → FillStart l t (now (rows .entry)) bins tree most (replicate matchTable 0) (now (work .entry)) → MappedIs most l t r) ⌝ }
+pub fn map_tree(
+    rows: &[u32],
+    bins: Bins,
+    tree: TreeRecord,
+    most: usize,
+    found: &mut [u8],
+    work: &mut [u64],
+    kept: &mut [u64],
+) -> Mapped
+    requires { ⌜ ((l : Library) × ((t : Tree) × FillStart l t (now rows) bins tree most (now found) (now work))) × (matchMost ≤ length (now kept)) ⌝ }
+    ensures { λ r. ⌜ ((l : Library) (t : Tree) → FillStart l t (now (rows .entry)) bins tree most (now (found .entry)) (now (work .entry)) → MappedIs most l t r) ⌝ }
 {
-    let mut found = [0u8; Row::TABLE];
-    let mut kept = [0u64; Row::MATCHES];
-    let filling = filling::fill(rows, bins, tree, most, &mut found, work, &mut kept);
+    let filling = filling::fill(rows, bins, tree, most, found, work, kept);
     match filling {
         Filling::Overfull(node) => refuse(Numbers::OVERFULL, node),
-        Filling::Whole => map_root(rows, tree, most, &mut found, work),
+        Filling::Whole => map_root(rows, tree, most, found, work),
     }
 }
 
@@ -187,14 +193,14 @@ pub fn list_tree(
     bins: Bins,
     tree: TreeRecord,
     most: usize,
+    found: &mut [u8],
     work: &mut [u64],
+    kept: &mut [u64],
 ) -> Listed
-    requires { ⌜ ((l : Library) × ((t : Tree) × FillStart l t (now rows) bins tree most (replicate matchTable 0) (now work))) ⌝ }
-    ensures { λ r. ⌜ ((l : Library) (t : Tree) → FillStart l t (now (rows .entry)) bins tree most (replicate matchTable 0) (now (work .entry)) → ListedIs most l t (now (work .exit)) r) ⌝ }
+    requires { ⌜ ((l : Library) × ((t : Tree) × FillStart l t (now rows) bins tree most (now found) (now work))) × (matchMost ≤ length (now kept)) ⌝ }
+    ensures { λ r. ⌜ ((l : Library) (t : Tree) → FillStart l t (now (rows .entry)) bins tree most (now (found .entry)) (now (work .entry)) → ListedIs most l t (now (work .exit)) r) ⌝ }
 {
-    let mut found = [0u8; Row::TABLE];
-    let mut kept = [0u64; Row::MATCHES];
-    let filling = filling::fill(rows, bins, tree, most, &mut found, work, &mut kept);
+    let filling = filling::fill(rows, bins, tree, most, found, work, kept);
     match filling {
         Filling::Overfull(node) => Listed {
             finding: Finding::Refused(Numbers::OVERFULL, node),

@@ -2,6 +2,7 @@
 use fields::Scan;
 use mapper::Finding;
 use mapper::Numbers;
+use matching::Row;
 use sheets::Limits;
 use sheets::library::Bins;
 use sheets::library::LibraryRecord;
@@ -57,7 +58,10 @@ fn write_mapped(
     ensures { λ r. ⌜ ((l : Library) (t : Tree) → FillStart l t (now (rows .entry)) bins tree capacity (replicate matchTable 0) (now (work .entry)) →
         Replied (mapAnswer capacity l t) (now (output .entry)) (now (output .exit)) r) ⌝ }
 {
-    let mapped = mapper::map_tree(rows, bins, tree, Limits::POINTS, work);
+    let mut found = [0u8; Row::TABLE];
+    let mut kept = [0u64; Row::MATCHES];
+    let most = Limits::POINTS;
+    let mapped = mapper::map_tree(rows, bins, tree, most, &mut found, work, &mut kept);
     let finding = mapped.finding;
     match finding {
         Finding::Refused(number, place) => Reply::Refused(number, place),
@@ -77,7 +81,10 @@ fn write_listed(
     ensures { λ r. ⌜ ((l : Library) (t : Tree) → FillStart l t (now (rows .entry)) bins tree capacity (replicate matchTable 0) (now (work .entry)) →
         Replied (listAnswer capacity l t) (now (output .entry)) (now (output .exit)) r) ⌝ }
 {
-    let listed = mapper::list_tree(rows, bins, tree, Limits::POINTS, work);
+    let mut found = [0u8; Row::TABLE];
+    let mut kept = [0u64; Row::MATCHES];
+    let most = Limits::POINTS;
+    let listed = mapper::list_tree(rows, bins, tree, most, &mut found, work, &mut kept);
     let finding = listed.finding;
     match finding {
         Finding::Refused(number, place) => Reply::Refused(number, place),

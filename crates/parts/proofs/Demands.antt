@@ -22,11 +22,11 @@ use Rattle.covers.proofs.Basics.{at-in}
 use Rattle.parts.specs.Part.{Part, known, knownTree}
 use Rattle.parts.specs.Answer.{PartAnswer, refusedIn, whole, outside, _>>=_, numbers, partWord, ofPartWord, PartBounded}
 use Rattle.parts.specs.PartRead.{part}
-use Rattle.parts.specs.Outcome.{coversFrom, partBytes, partOutcome, partTold, partObserved, partOutputAfter}
+use Rattle.parts.specs.Outcome.{coversFrom, partBytes, partSheets, partOutcome, partTold, partObserved, partOutputAfter}
 use Rattle.parts.specs.Demands.{SoundLinks, IsMapped, IsAccepted, PartDemands, PartWhereSound}
 use Rattle.parts.proofs.Trees.{whole-refused, trees-sound}
 use Rattle.parts.proofs.Links.{part-links, links-bring}
-use Rattle.parts.proofs.Running.{all-answered, mapped-length, first-refused, mapped-at, CoversPromise, all-mapped, first-fails, covers-promise}
+use Rattle.parts.proofs.Running.{all-answered, first-refused, mapped-at, CoversPromise, all-mapped, first-fails, covers-promise}
 use Rattle.parts.proofs.Accepted.{is-accepted}
 
 -- ---- what the caller sees
@@ -57,7 +57,7 @@ sheets covers = whole (flatMap coverSheet covers)
 -- A sound library and a sound part are answered, if what is lent is enough.
 answers : (ls ps : List ℕ) (output work : ℕ) {c : Cursor} {p : Part} → partBytes ≤ output → workWords capacity ≤ work → library ls start .1 ≡ At c → part ps ≡ whole p →
     partOutcome ls ps output work ≡ (coversFrom capacity (library ls start .0) (p .links) [] (p .trees) >>= sheets)
-unfolding partOutcome
+unfolding partOutcome partSheets
 answers ls ps output work h g e e′ =
     rw (le-leb partBytes output h, le-leb (workWords capacity) work g)
     (ap₂ (λ (q : Scan) (r : PartAnswer Part). outside (afterLibrary success (library ls start .0, q)) >>= (λ l. r >>= (λ p. coversFrom capacity l (p .links) [] (p .trees) >>= sheets))) e e′)
@@ -71,12 +71,14 @@ meets most ls l p sound accepted = go (coversFrom most l (p .links) [] (p .trees
     go : (r : PartAnswer (List Cover)) → coversFrom most l (p .links) [] (p .trees) ≡ r → CoversPromise most l (p .links) (p .trees) r → PartDemands most ls l p (r >>= sheets)
     go (whole covers) e (all-mapped m) = record {
       links-sound = sound;
+      links-bring = links-bring sound;
       sheets-exactly = (λ x. (covers, m), λ x. (flatMap coverSheet covers, refl));
       refused-exactly = λ k number place. (λ x. absurd (whole-refused x), λ h. absurd (whole-refused (sym e ∙ first-refused h)));
-      sheets-are = λ bytes x. (covers, m, links-bring sound covers (omega (arith, mapped-length m)), (cc), λ k t c is has. accepted (known (p .links) (take k covers)) t c (at-in (p .trees) k is) (mapped-at m k k (omega arith) is has));
+      sheets-are = λ bytes x. (covers, m, (cc), λ k t c is has. accepted (known (p .links) (take k covers)) t c (at-in (p .trees) k is) (mapped-at m k k (omega arith) is has));
     }
     go (refusedIn k number place) e (first-fails h) = record {
       links-sound = sound;
+      links-bring = links-bring sound;
       sheets-exactly = (λ x. absurd (whole-refused (sym (x .1))), λ x. absurd (whole-refused (sym (all-answered (x .1) .1) ∙ e)));
       refused-exactly = λ k′ number′ place′. (λ x. let i : k ≡ k′ = cc in let n : number ≡ number′ = cc in let q : place ≡ place′ = cc in rw (← i, ← n, ← q) h, λ g. ap (λ (r : PartAnswer (List Cover)). r >>= sheets) (sym e ∙ first-refused g));
       sheets-are = λ bytes x. absurd (whole-refused (sym x));

@@ -17,7 +17,7 @@ use Rattle.covers.proofs.Basics.{lt-or-le, each, at-in, at-below, at-value, any
 use Rattle.parts.specs.Part.{Link, Part, leafNodes, driverOf, linkedArrival}
 use Rattle.parts.specs.Answer.{PartAnswer, refusedIn, whole, outside, _>>=_}
 use Rattle.parts.specs.PartSheet.{leafField}
-use Rattle.parts.specs.PartRead.{linkNumber, driverNumber, isLeafOf, isFree, linkJudged, linksJudged, part}
+use Rattle.parts.specs.PartRead.{linkNumber, driverNumber, isLeafOf, isFree, linkJudged, linksJudged, afterCounts, part}
 use Rattle.parts.specs.Demands.{NamesLeaf, SameLeaf, SoundLinks, LinkFault, no-leaf, taken, not-lower, FirstFault, LinkDemands, LinksWhereRead, LinksBring}
 use Rattle.parts.proofs.Trees.{whole-refused, each-more, part-from}
 
@@ -196,7 +196,7 @@ part-links s p e = let r = part-from s p e in go (links-promise (p .trees) (r .0
 
 -- Where all before them is sound, the links are judged as is demanded.
 pub links-demands : (s : List ℕ) → LinksWhereRead s
-unfolding part
+unfolding part afterCounts
 links-demands s head trees e e′ = go (links-promise trees (head .0 .links)) (rw (e, e′))
   where
     go : {a : PartAnswer (List Link)} → LinksPromise trees (head .0 .links) a → part s ≡ (a >>= (λ links. whole (record { trees = trees; links = links }))) → LinkDemands s head trees
@@ -225,10 +225,10 @@ module _ {trees : List Tree} {links : List Link} (h : SoundLinks trees links) wh
       let here : i .0 ≡ j .0 = omega arith in
       Option·some-injective x y (sym (i .1) ∙ ap (getElem? links) here ∙ j .1)
 
-  pub links-bring : (covers : List Cover) → length covers ≡ length trees → LinksBring links covers
+  pub links-bring : (covers : List Cover) → LinksBring links covers
   unfolding linkedArrival nothing
-  links-bring covers same = record {
-    brings = λ x m d has. rw (length-take-le (x .reading) covers (omega (arith, at-below trees (x .reading) (h .leaf x m .tree-is)))) (driver-brings x m d has (driver-of links (x .reading) (x .node)));
+  links-bring covers = record {
+    brings = λ x m le d has. rw (length-take-le (x .reading) covers le) (driver-brings x m d has (driver-of links (x .reading) (x .node)));
     brings-none = λ k n le not. rw (length-take-le k covers le) (none-brings k n not (driver-of links k n));
   }
     where

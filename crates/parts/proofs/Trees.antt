@@ -18,7 +18,7 @@ use Rattle.sheets.proofs.Sound.{tree-limits-to}
 use Rattle.parts.specs.Part.{Part}
 use Rattle.parts.specs.Answer.{PartAnswer, refusedIn, whole, inTree, outside, _>>=_}
 use Rattle.parts.specs.PartSheet.{Counts, counts}
-use Rattle.parts.specs.PartRead.{linkNumber, sheetRead, treesFrom, linksJudged, part}
+use Rattle.parts.specs.PartRead.{linkNumber, sheetRead, treesFrom, linksJudged, afterCounts, part}
 
 -- ---- answers
 
@@ -60,7 +60,7 @@ trees-from before (suc left) s h e =
 
 -- What a part that was read comes from: its trees, and its links judged against them.
 pub part-from : (s : List ℕ) (p : Part) → part s ≡ whole p → (head : Counts × ℕ) × (treesFrom [] (head .0 .trees) (drop (head .1) s) ≡ whole (p .trees)) × (linksJudged (p .trees) [] (head .0 .links) ≡ whole (p .links))
-unfolding part
+unfolding part afterCounts
 part-from s p e =
     let judged : Counts × ℕ → List Tree → PartAnswer Part = λ head trees. linksJudged trees [] (head .0 .links) >>= (λ links. whole (record { trees = trees; links = links })) in
     let read : Counts × ℕ → PartAnswer Part = λ head. treesFrom [] (head .0 .trees) (drop (head .1) s) >>= judged head in

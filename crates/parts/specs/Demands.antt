@@ -64,9 +64,9 @@ pub record LinkDemands (s : List ℕ) (head : Counts × ℕ) (trees : List Tree)
 abbrev pub LinksWhereRead : List ℕ → Type 0
 LinksWhereRead s = (head : Counts × ℕ) (trees : List Tree) → sheetRead (λ f. linkNumber) (counts s start) ≡ success head → treesFrom [] (head .0 .trees) (drop (head .1) s) ≡ whole trees → LinkDemands s head trees
 
--- What the links bring where these are the covers: to a linked leaf the arrival of its driving tree's cover, to any other node nothing.
+-- What the links bring where these are the covers, be they those of all trees or of the first alone: to a linked leaf the arrival of its driving tree's cover, to any other node nothing.
 pub record LinksBring (links : List Link) (covers : List Cover) : Type 0 where
-  pub brings : (x : Link) → List·Memᴰ x links → (d : Cover) → getElem? covers (x .driving) ≡ some d → known links (take (x .reading) covers) (x .node) ≡ some (d .point .arrival)
+  pub brings : (x : Link) → List·Memᴰ x links → x .reading ≤ length covers → (d : Cover) → getElem? covers (x .driving) ≡ some d → known links (take (x .reading) covers) (x .node) ≡ some (d .point .arrival)
   pub brings-none : (k n : ℕ) → k ≤ length covers → ((x : Link) → List·Memᴰ x links → (x .reading ≡ k) → (x .node ≡ n) → ⊥) → known links (take k covers) n ≡ none
 
 -- ---- a tree, where f says the arrivals that links bring
@@ -114,7 +114,7 @@ module _ (most : ℕ) (l : Library) where
       pub tree-is : getElem? trees k ≡ some tree
       pub fails : Fails (known links covers) tree number place
 
--- Some sheet says the tree, and for each that does the judge of covers accepts the cover's sheet, with the cover's figures.
+-- The cover is read back from its sheet; some sheet says the tree, and for each that does the judge of covers accepts the cover's sheet, with the cover's figures.
 pub record IsAccepted (ls : List ℕ) (t : Tree) (c : Cover) : Type 0 where
   pub reads : CoverReads c (coverSheet c)
   pub some-sheet : (ts : List ℕ) × ((q : Cursor) × (tree ts start ≡ (t, At q)))
@@ -122,14 +122,15 @@ pub record IsAccepted (ls : List ℕ) (t : Tree) (c : Cover) : Type 0 where
 
 -- What is demanded of the answer o to the library l, on the sheet ls, and the part p.
 pub record PartDemands (most : ℕ) (ls : List ℕ) (l : Library) (p : Part) (o : PartAnswer (List ℕ)) : Type 0 where
-  -- Each link names a leaf that no other names, and a lower tree drives it.
+  -- Each link names a leaf that no other names, and a lower tree drives it; and it brings what it should, whatever the covers are.
   pub links-sound : SoundLinks (p .trees) (p .links)
+  pub links-bring : (covers : List Cover) → LinksBring (p .links) covers
   -- Sheets are handed over exactly when every tree is mapped,
   pub sheets-exactly : ((bytes : List ℕ) × (o ≡ whole bytes)) ↔ ((covers : List Cover) × AreMapped most l (p .links) [] (p .trees) covers)
   -- and a refusal exactly when some tree is not: the first such tree is named, with what is wrong there.
   pub refused-exactly : (k number place : ℕ) → (o ≡ refusedIn k number place) ↔ FirstFails most l (p .links) (p .trees) k number place
   -- The bytes are the sheets of the covers in tree order, and the judge accepts each for its tree with the arrivals put in.
-  pub sheets-are : (bytes : List ℕ) → o ≡ whole bytes → (covers : List Cover) × AreMapped most l (p .links) [] (p .trees) covers × LinksBring (p .links) covers × (bytes ≡ flatMap coverSheet covers)
+  pub sheets-are : (bytes : List ℕ) → o ≡ whole bytes → (covers : List Cover) × AreMapped most l (p .links) [] (p .trees) covers × (bytes ≡ flatMap coverSheet covers)
       × ((k : ℕ) (t : Tree) (c : Cover) → getElem? (p .trees) k ≡ some t → getElem? covers k ≡ some c → IsAccepted ls (knownTree (known (p .links) (take k covers)) t) c)
 
 -- The demands of the library and the part on the two sheets, if enough is lent and both are sound.

@@ -1,14 +1,14 @@
--- Document 02's Paper 7 by examples: linked trees, with document 01's specimen sheet.
+-- Document 02's Paper 7 by examples: linked trees, with document 01's specimen sheet, and a part sheet with its bytes.
 use Prim.Native.Nat.{ℕ}
 use mathlib.Core.Path.{_≡_}
-use mathlib.Core.List.{List, [], _∷_, map}
+use mathlib.Core.List.{List, [], _∷_, _++_, map}
 use Rattle.sheets.specs.Model.{plainLeaf, leaf, inv, nand, Tree}
 use Rattle.covers.specs.Capacity.{capacity}
 use Rattle.covers.specs.Cover.{Point, Cover}
 use Rattle.covers.specs.Specimens.{specimen, tree, INV}
-use Rattle.parts.specs.Part.{Link}
+use Rattle.parts.specs.Part.{Link, Part}
 use Rattle.parts.specs.Answer.{PartAnswer, refusedIn, whole, _>>=_, onWhole}
-use Rattle.parts.specs.PartRead.{linksJudged}
+use Rattle.parts.specs.PartRead.{linksJudged, part}
 use Rattle.parts.specs.Outcome.{coversFrom}
 
 -- A link by its reading tree, its leaf node and its driving tree, and a point by its area and arrival.
@@ -80,3 +80,46 @@ outcome r = do
 
 abbrev pub Linked : Type 0
 Linked = map outcome linked ≡ map (λ (r : Row). r .result) linked
+
+-- ---- sheets
+
+-- 00010 00000001, 0001 000001 0000 and five zero bits: two trees and a link, by which leaf 1 of tree 1 takes the arrival of tree 0.
+abbrev head : List ℕ
+head = 0x10 ∷ 0x08 ∷ 0x82 ∷ 0x00 ∷ []
+
+-- 01 000006 4 00000 and 01 00000c 4 00064, but for the last byte.
+abbrev first : List ℕ
+first = 0x01 ∷ 0x00 ∷ 0x00 ∷ 0x06 ∷ 0x40 ∷ 0x00 ∷ 0x00 ∷ []
+
+abbrev second : List ℕ
+second = 0x01 ∷ 0x00 ∷ 0x00 ∷ 0x0c ∷ 0x40 ∷ 0x00 ∷ []
+
+-- A leaf, 01 000006 and 22 zero bits, and the last two bits of its last byte.
+abbrev lone : ℕ → List ℕ
+lone rest = 0x01 ∷ 0x00 ∷ 0x00 ∷ 0x06 ∷ 0x00 ∷ 0x00 ∷ rest ∷ []
+
+-- Bytes, and the part that they hold or the refusal.
+pub record Sheet : Type 0 where
+  pub bytes : List ℕ
+  pub result : PartAnswer Part
+
+abbrev pub sheets : List Sheet
+sheets =
+    record { bytes = head ++ first ++ second ++ (0x64 ∷ []); result = whole (record { trees = early ∷ over 12 ∷ []; links = link 1 1 0 ∷ [] }) }
+    ∷ record { bytes = head ++ lone 0 ++ second ++ (0x64 ∷ []); result = whole (record { trees = tree (plainLeaf 0) 1 6 ∷ over 12 ∷ []; links = link 1 1 0 ∷ [] }) }  -- tree 1 from the next byte on
+    ∷ record { bytes = 0x08 ∷ 0x00 ∷ first; result = whole (record { trees = early ∷ []; links = [] }) }  -- one tree, no link
+    ∷ record { bytes = 0x00 ∷ 0x00 ∷ []; result = refusedIn 0 41 0 }  -- no tree
+    ∷ record { bytes = 0x80 ∷ 0x00 ∷ []; result = refusedIn 0 12 0 }  -- 16 trees, of which the first is missing,
+    ∷ record { bytes = 0x88 ∷ 0x00 ∷ []; result = refusedIn 0 41 0 }  -- and 17
+    ∷ record { bytes = 0x10 ∷ 0x08 ∷ 0x82 ∷ []; result = refusedIn 0 41 23 }  -- torn in the driving tree
+    ∷ record { bytes = 0x10 ∷ 0x08 ∷ 0x82 ∷ 0x01 ∷ []; result = refusedIn 0 41 27 }  -- a set bit after the links
+    ∷ record { bytes = 0x10 ∷ 0x09 ∷ 0x02 ∷ 0x00 ∷ []; result = refusedIn 0 41 13 }  -- a reading tree 2 of two
+    ∷ record { bytes = head; result = refusedIn 0 12 0 }  -- no byte after the links
+    ∷ record { bytes = head ++ lone 1; result = refusedIn 0 13 54 }  -- a leaf as tree 0, and a set bit after it
+    ∷ record { bytes = head ++ first ++ second; result = refusedIn 1 12 36 }  -- tree 1 torn in its leaf, by its own first bit
+    ∷ record { bytes = head ++ first ++ second ++ (0x64 ∷ 0x00 ∷ []); result = refusedIn 1 13 56 }  -- a byte after the last tree
+    ∷ record { bytes = 0x10 ∷ 0x08 ∷ 0x82 ∷ 0x20 ∷ first ++ second ++ (0x64 ∷ []); result = refusedIn 0 42 0 }  -- tree 1 drives itself
+    ∷ []
+
+abbrev pub Sheets : Type 0
+Sheets = map (λ (x : Sheet). part (x .bytes)) sheets ≡ map (λ (x : Sheet). x .result) sheets

@@ -16,7 +16,7 @@ use Rattle.covers.specs.CoverSheet.{coverSheet}
 use Rattle.covers.specs.Capacity.{capacity, workWords}
 use Rattle.covers.specs.Answer.{mapped}
 use Rattle.covers.specs.Outcome.{mapBytes, lent, outputAfter, cleared, leavesZero}
-use Rattle.parts.specs.Part.{Link, leafNodes, linkedArrival, known, knownTree}
+use Rattle.parts.specs.Part.{Link, Part, leafNodes, linkedArrival, known, knownTree}
 use Rattle.parts.specs.Answer.{PartAnswer, refusedIn, whole, inTree, outside, treeless, _>>=_, onWhole}
 use Rattle.parts.specs.PartSheet.{treesMost}
 use Rattle.parts.specs.PartRead.{part}
@@ -59,14 +59,20 @@ coversFrom most l links before (t ∷ ts) = do
 abbrev pub partBytes : ℕ
 partBytes = treesMost * mapBytes
 
--- In the paper's order. "The tray receives the cover sheets in tree order, each filled to its byte, and only when every tree has been mapped."
+-- "The tray receives the cover sheets in tree order, each filled to its byte, and only when every tree has been mapped."
+unfoldable pub partSheets : Library → Part → PartAnswer (List ℕ)
+unfolding coversFrom flatMap coverSheet _>>=_
+partSheets l p = do
+  covers ← coversFrom capacity l (p .links) [] (p .trees)
+  whole (flatMap coverSheet covers)
+
+-- In the paper's order.
 unfoldable pub partOutcome : List ℕ → List ℕ → ℕ → ℕ → PartAnswer (List ℕ)
-unfolding inTree lent part coversFrom flatMap coverSheet _>>=_
+unfolding inTree lent part partSheets _>>=_
 partOutcome ls ps output work = do
   l ← outside (lent partBytes output work (afterLibrary success (library ls start)))
   p ← part ps
-  covers ← coversFrom capacity l (p .links) [] (p .trees)
-  whole (flatMap coverSheet covers)
+  partSheets l p
 
 -- What the caller is told: tree, number and place, or how many bytes the sheets have.
 unfoldable pub partTold : PartAnswer (List ℕ) → PartAnswer ℕ

@@ -65,11 +65,17 @@ linksJudged trees before (x ∷ xs) = do
   links ← outside (linkJudged trees before x)
   linksJudged trees links xs
 
+-- What follows the counts and the links: so many trees, and then these links against them.
+unfoldable pub afterCounts : ℕ → List Link → List ℕ → PartAnswer Part
+unfolding treesFrom linksJudged _>>=_
+afterCounts count links s = do
+  trees ← treesFrom [] count s
+  judged ← linksJudged trees [] links
+  whole (record { trees = trees; links = judged })
+
 -- The whole sheet.
 unfoldable pub part : List ℕ → PartAnswer Part
-unfolding inTree sheetRead treesFrom linksJudged _>>=_
+unfolding inTree sheetRead afterCounts _>>=_
 part s = do
   head ← outside (sheetRead (λ f. linkNumber) (counts s start))
-  trees ← treesFrom [] (head .0 .trees) (drop (head .1) s)
-  links ← linksJudged trees [] (head .0 .links)
-  whole (record { trees = trees; links = links })
+  afterCounts (head .0 .trees) (head .0 .links) (drop (head .1) s)

@@ -1,7 +1,7 @@
 //! Problems for the benchmark: a typical one, two that take long, one that goes deep, two with many crossings, and one
 //! with driven leaves.
 
-use super::linked::Draft;
+use super::linked::{Draft, Triple};
 use super::parts::{cell, chain, comb, counted_comb, pin, tree, AND, AOI21, AOI22, INVERTER, NAND, NOR, OR};
 use super::problem::Problem;
 use super::sound;
@@ -79,6 +79,13 @@ pub fn typical_part() -> Draft {
         links.push((reading, leaves[leaves.len() - 1], rng.below(reading)));
     }
     Draft::new(library, trees, &links)
+}
+
+/// 16 trees of 63 inverters, each covered by itself, and each tree read by the next.
+pub fn deepest_part() -> Draft {
+    let Problem { library, tree } = deepest();
+    let links: Vec<Triple> = (1..MOST_TREES).map(|tree| (tree, 63, tree - 1)).collect();
+    Draft::new(library, vec![tree; MOST_TREES], &links)
 }
 
 /// The typical problem with all leaves driven, as strongly as by its larger gates.

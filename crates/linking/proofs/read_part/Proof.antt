@@ -8,7 +8,7 @@ use Rattle.parts.specs.Part.{Part}
 use Rattle.parts.specs.Answer.{PartAnswer, PartBounded}
 use Rattle.parts.specs.PartSheet.{counts}
 use Rattle.linking.specs.Held.{Says, PartHeld}
-use Rattle.linking.specs.Inside.{restOf}
+use Rattle.parts.specs.PartRead.{afterCounts}
 use Rattle.linking.proofs.Laws.{part-from, part-stops, counts-room}
 use borrow.Author.Needs.{needs}
 use Rattle.linking.proofs.read_part.Statement.{statement}
@@ -49,7 +49,7 @@ returns c =
     let first = c .before .before .bytes-to in
     let h = counted .ensures in
     let rest = take-all (length s - first .result) (drop (first .result) s) (omega (arith, length-drop (first .result) s)) ∙ ap (λ (n : ℕ). drop n s) (first .ensures) in
-    let from = part-from s (counted .result) h (told .0 .0) (told .1) ∙ ap (restOf (counted .result .trees) (counts s start .0 .links)) (sym rest) in
+    let from = part-from s (counted .result) h (told .0 .0) (told .1) ∙ ap (afterCounts (counted .result .trees) (counts s start .0 .links)) (sym rest) in
     subst (λ (o : PartAnswer Part). Says PartHeld o (c .read-rest .result .finding) (c .read-rest .result .part)) (sym from) (c .read-rest .ensures (counts s start .0 .links) (h .links-are) (h .counted))
 
 returns-2 : tie.Need-returns-2

@@ -1,10 +1,9 @@
 use mathlib.Core.Path.{_≡_, sym, subst}
 use lib.ListN.{length, replicate}
 use mathlib.Core.List.{[]}
-use Rattle.parts.specs.PartRead.{treesFrom}
+use Rattle.parts.specs.PartRead.{treesFrom, afterCounts}
 use Rattle.linking.specs.declared.PartFinding.{PartFinding}
 use Rattle.linking.specs.Held.{Says, TreesHeld, PartHeld}
-use Rattle.linking.specs.Inside.{restOf}
 use Rattle.linking.proofs.Laws.{rest-stops, rest-says}
 use borrow.Author.Needs.{needs}
 use Rattle.linking.proofs.read_rest.Statement.{statement}
@@ -25,7 +24,7 @@ returns c xs laid n =
     let read = c .before .before .before .read-trees in
     let told = c .enum-told2 .given in
     let stops = subst (λ (q : PartFinding). Says (λ ts l. TreesHeld ts l × (length ts ≡ a .counts .trees)) (treesFrom [] (a .counts .trees) (a .s .now)) q (read .result .trees)) (told .1) (read .ensures) in
-    subst (λ (q : PartFinding). Says PartHeld (restOf (a .counts .trees) xs (a .s .now)) q (record { count = a .counts .trees; trees = read .result .trees; drivers = replicate 1024 0 })) (sym (told .1)) (rest-stops (a .counts .trees) xs (a .s .now) (stops .0), stops .1)
+    subst (λ (q : PartFinding). Says PartHeld (afterCounts (a .counts .trees) xs (a .s .now)) q (record { count = a .counts .trees; trees = read .result .trees; drivers = replicate 1024 0 })) (sym (told .1)) (rest-stops (a .counts .trees) xs (a .s .now) (stops .0), stops .1)
 
 judge-links-requires : tie.Need-judge-links-requires
 judge-links-requires c κs = search needs

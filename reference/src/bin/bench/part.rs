@@ -1,16 +1,16 @@
-//! Map of a part of 16 typical trees, beside as many maps of its trees.
+//! Map of a part of 16 trees, beside as many maps of its trees.
 
 use crate::clock::{medians, print_times, Contestant};
 use reference::deadline::Variant;
 use reference::generate::heavy;
-use reference::generate::linked::{sheets_alone, Case};
+use reference::generate::linked::{sheets_alone, Case, Draft};
 use reference::operation::{Operation, LEAST_WORK};
 use reference::part::{self, LEAST_OUTPUT};
 use reference::product;
 use std::hint::black_box;
 
-/// The only row.
-const NAME: &str = "part";
+/// The rows, and what their trees are.
+const ROWS: [(&str, &str); 2] = [("part", "of the typical kind"), ("deep_part", "of 63 inverters")];
 
 /// Who maps: the product the part, the product each tree by itself, with the arrivals put in; merging, and the
 /// product's own method in plain Rust, the part. No earlier product maps parts.
@@ -29,25 +29,33 @@ struct Row {
 }
 
 pub fn run() {
-    let row = Row::new();
-    println!("map, {NAME} ({} trees of the typical kind, {} links):", row.trees.len(), row.links);
-    let contestants = WHO.iter().map(|who| row.contestant(who)).collect();
-    print_times(&WHO, &medians(CALLS, contestants));
+    for (name, kind) in ROWS {
+        let row = Row::named(name).expect("a row");
+        println!("map, {name} ({} trees {kind}, {} links):", row.trees.len(), row.links);
+        let contestants = WHO.iter().map(|who| row.contestant(who)).collect();
+        print_times(&WHO, &medians(CALLS, contestants));
+    }
 }
 
-/// Some maps of the row by one of them, if the arguments ask for it.
+/// Some maps of a row by one of them, if the arguments ask for it.
 pub fn repeat(arguments: &[String]) -> bool {
     let [word, count, who, name] = arguments else { return false };
-    let ("repeat", Ok(count), NAME) = (word.as_str(), count.parse(), name.as_str()) else { return false };
-    let row = Row::new();
+    let ("repeat", Ok(count), Some(row)) = (word.as_str(), count.parse(), Row::named(name)) else { return false };
     let mut contestant = row.contestant(who);
     (0..count).for_each(|_: u32| contestant());
     true
 }
 
 impl Row {
-    fn new() -> Row {
-        let draft = heavy::typical_part();
+    fn named(name: &str) -> Option<Row> {
+        match name {
+            "part" => Some(Row::new(heavy::typical_part())),
+            "deep_part" => Some(Row::new(heavy::deepest_part())),
+            _ => None,
+        }
+    }
+
+    fn new(draft: Draft) -> Row {
         let covers = part::map(&draft.library, &draft.part).expect("covers");
         let trees = sheets_alone(&draft.part, &covers);
         let covers: Vec<Vec<u8>> = covers.iter().map(|cover| cover.sheet()).collect();

@@ -8,9 +8,9 @@ use reference::generate::linked::chosen::{self, Row};
 use reference::generate::linked::damage::{any_case, spoiled, Damage, OF_BYTES, OF_HEAD, OF_LINKS, OF_TREES};
 use reference::generate::linked::draw::{any_draft, draft};
 use reference::generate::linked::kinds::kinds;
-use reference::generate::linked::{Case, Draft, Triple};
+use reference::generate::linked::{Case, Draft};
 use reference::generate::parts::{driven, leaf, tree};
-use reference::generate::problem::{small_style, Problem};
+use reference::generate::problem::small_style;
 use reference::generate::{heavy, limits, longest, specimen};
 use reference::hex::hex;
 use reference::part::{LEAST_OUTPUT, MOST_TREES};
@@ -215,7 +215,7 @@ impl Parts {
         self.add(all_driven.case());
         let linked = Draft::new(specimen::library(), vec![longest::tree(); 2], &[(1, 63, 0)]);
         self.add(linked.case());
-        let deep = fullest();
+        let deep = heavy::deepest_part();
         let sheets = deep.case().answer().expect("covers");
         assert_eq!(sheets.len(), LEAST_OUTPUT, "no part has longer cover sheets");
         self.add(deep.case());
@@ -273,13 +273,6 @@ fn mixed() -> Draft {
         tree(4, 99, &[Nand, Inv, leaf(7), driven(1, 3)]),
     ];
     Draft::new(specimen::library(), trees, &[(1, 2, 0), (2, 3, 0), (2, 2, 1)])
-}
-
-/// 16 trees of 63 inverters, each covered by itself, and each tree read by the next.
-fn fullest() -> Draft {
-    let Problem { library, tree } = heavy::deepest();
-    let links: Vec<Triple> = (1..MOST_TREES).map(|tree| (tree, 63, tree - 1)).collect();
-    Draft::new(library, vec![tree; MOST_TREES], &links)
 }
 
 fn damaged_case(rng: &mut Rng, damages: &[Damage]) -> Case {
