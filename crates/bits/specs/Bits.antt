@@ -39,7 +39,7 @@ bytesTo i = (i + 7) / 8
 unfoldable pub restOf : ℕ → ℕ
 restOf i = 8 * bytesTo i - i
 
--- The byte of place i is there, and the rest of it is zero bits.
+-- The bytes that the bits before place i take up are there, and the rest of the last is zero bits.
 unfoldable pub filledAt : List ℕ → ℕ → Bool
 filledAt s i = leb (bytesTo i) (length s) && eqb (valueAt s i (restOf i)) 0
 

@@ -127,7 +127,7 @@ impl Cursor {
         byte + 1
     }
 
-    // Whether the cursor's byte is there, and the rest of it is zero bits.
+    // Whether the bytes that the bits before the cursor take up are there, and the rest of the last is zero bits.
     pub fn fills(self, s: &[u8]) -> bool
         requires { ⌜ placeOf self < 2 ^ 32 ⌝ }
         ensures { λ r. ⌜ r ≡ filledAt (now (s .entry)) (placeOf self) ⌝ }

@@ -24,10 +24,11 @@ Says {A} Holds o Found b = (a : A) × (o ≡ whole a) × Holds a b
 
 -- ---- a part
 
--- The trees at the front of an array of 16.
+-- What stands where no tree is.
 abbrev pub noTree : TreeRecord
 noTree = record { load = 0; required = 0; count = 0; symbols = replicate 64 0; sizes = replicate 64 0 }
 
+-- The trees at the front of an array of 16.
 pub record TreesHeld (ts : List Tree) (l : List TreeRecord) : Type 0 where
   pub few : length ts ≤ treesMost
   pub laid : l ≡ padded treesMost noTree (map treeLaid ts)

@@ -1,4 +1,4 @@
-// A pattern laid over a node of the subject tree under a crossing: the inputs that it finds there. And when a leaf arrives.
+// A pattern laid over a node of the subject tree under a crossing: the inputs that it finds there. And when a leaf arrives, and a leaf with another arrival.
 use shapes::Packed;
 use sheets::library::PatternRow;
 ghost use mathlib.Core.Path.{_≡_};

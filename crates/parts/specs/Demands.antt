@@ -1,4 +1,4 @@
--- What is demanded of everything that is answered to a sound library and a sound part. All of it is said of all legal covers.
+-- What is demanded of the links of a part, and of everything that is answered to a sound library and a sound part: what is said of a tree's cover is said among all its legal covers.
 use Prim.Native.Nat.{ℕ, _≤_, _<_}
 use mathlib.Core.Path.{_≡_}
 use mathlib.Core.Logic.{_↔_}
@@ -48,7 +48,7 @@ pub data LinkFault (trees : List Tree) (before : List Link) (k : ℕ) (x : Link)
   taken : {y : Link} → List·Memᴰ y before → SameLeaf y x → LinkFault trees before k x linkNumber (leafField k)
   not-lower : NamesLeaf trees x → ((y : Link) → List·Memᴰ y before → SameLeaf y x → ⊥) → x .reading ≤ x .driving → LinkFault trees before k x driverNumber k
 
--- The link at position k is the first at fault.
+-- A link is the first at fault.
 pub record FirstFault (trees : List Tree) (links : List Link) (number place : ℕ) : Type 0 where
   pub position : ℕ
   pub before : SoundLinks trees (take position links)
@@ -64,7 +64,7 @@ pub record LinkDemands (s : List ℕ) (head : Counts × ℕ) (trees : List Tree)
 abbrev pub LinksWhereRead : List ℕ → Type 0
 LinksWhereRead s = (head : Counts × ℕ) (trees : List Tree) → sheetRead (λ f. linkNumber) (counts s start) ≡ success head → treesFrom [] (head .0 .trees) (drop (head .1) s) ≡ whole trees → LinkDemands s head trees
 
--- What the links bring where these are the covers, be they those of all trees or of the first alone: to a linked leaf the arrival of its driving tree's cover, to any other node nothing.
+-- What the links bring where these are the covers, be they those of all trees or of the first so many: to a linked leaf the arrival of its driving tree's cover, to any other node nothing.
 pub record LinksBring (links : List Link) (covers : List Cover) : Type 0 where
   pub brings : (x : Link) → List·Memᴰ x links → x .reading ≤ length covers → (d : Cover) → getElem? covers (x .driving) ≡ some d → known links (take (x .reading) covers) (x .node) ≡ some (d .point .arrival)
   pub brings-none : (k n : ℕ) → k ≤ length covers → ((x : Link) → List·Memᴰ x links → (x .reading ≡ k) → (x .node ≡ n) → ⊥) → known links (take k covers) n ≡ none

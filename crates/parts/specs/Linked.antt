@@ -1,4 +1,4 @@
--- Document 02's Paper 7 by examples: linked trees, with document 01's specimen sheet, and a part sheet with its bytes.
+-- Document 02's Paper 7 by examples: linked trees, with document 01's specimen sheet, and part sheets by their bytes.
 use Prim.Native.Nat.{ℕ}
 use mathlib.Core.Path.{_≡_}
 use mathlib.Core.List.{List, [], _∷_, _++_, map}
@@ -87,14 +87,17 @@ Linked = map outcome linked ≡ map (λ (r : Row). r .result) linked
 abbrev head : List ℕ
 head = 0x10 ∷ 0x08 ∷ 0x82 ∷ 0x00 ∷ []
 
--- 01 000006 4 00000 and 01 00000c 4 00064, but for the last byte.
+-- The two trees of `early` and `over 12`: load, required time, the codes of INV and leaf, arrival. The second without its last byte.
 abbrev first : List ℕ
 first = 0x01 ∷ 0x00 ∷ 0x00 ∷ 0x06 ∷ 0x40 ∷ 0x00 ∷ 0x00 ∷ []
 
-abbrev second : List ℕ
-second = 0x01 ∷ 0x00 ∷ 0x00 ∷ 0x0c ∷ 0x40 ∷ 0x00 ∷ []
+abbrev torn : List ℕ
+torn = 0x01 ∷ 0x00 ∷ 0x00 ∷ 0x0c ∷ 0x40 ∷ 0x00 ∷ []
 
--- A leaf, 01 000006 and 22 zero bits, and the last two bits of its last byte.
+abbrev second : List ℕ
+second = torn ++ (0x64 ∷ [])
+
+-- A leaf, by the last two bits of its last byte.
 abbrev lone : ℕ → List ℕ
 lone rest = 0x01 ∷ 0x00 ∷ 0x00 ∷ 0x06 ∷ 0x00 ∷ 0x00 ∷ rest ∷ []
 
@@ -103,22 +106,29 @@ pub record Sheet : Type 0 where
   pub bytes : List ℕ
   pub result : PartAnswer Part
 
+abbrev holds : List ℕ → List Tree → List Link → Sheet
+holds s ts xs = record { bytes = s; result = whole (record { trees = ts; links = xs }) }
+
+abbrev refuses : List ℕ → (tree number place : ℕ) → Sheet
+refuses s k number place = record { bytes = s; result = refusedIn k number place }
+
 abbrev pub sheets : List Sheet
 sheets =
-    record { bytes = head ++ first ++ second ++ (0x64 ∷ []); result = whole (record { trees = early ∷ over 12 ∷ []; links = link 1 1 0 ∷ [] }) }
-    ∷ record { bytes = head ++ lone 0 ++ second ++ (0x64 ∷ []); result = whole (record { trees = tree (plainLeaf 0) 1 6 ∷ over 12 ∷ []; links = link 1 1 0 ∷ [] }) }  -- tree 1 from the next byte on
-    ∷ record { bytes = 0x08 ∷ 0x00 ∷ first; result = whole (record { trees = early ∷ []; links = [] }) }  -- one tree, no link
-    ∷ record { bytes = 0x00 ∷ 0x00 ∷ []; result = refusedIn 0 41 0 }  -- no tree
-    ∷ record { bytes = 0x80 ∷ 0x00 ∷ []; result = refusedIn 0 12 0 }  -- 16 trees, of which the first is missing,
-    ∷ record { bytes = 0x88 ∷ 0x00 ∷ []; result = refusedIn 0 41 0 }  -- and 17
-    ∷ record { bytes = 0x10 ∷ 0x08 ∷ 0x82 ∷ []; result = refusedIn 0 41 23 }  -- torn in the driving tree
-    ∷ record { bytes = 0x10 ∷ 0x08 ∷ 0x82 ∷ 0x01 ∷ []; result = refusedIn 0 41 27 }  -- a set bit after the links
-    ∷ record { bytes = 0x10 ∷ 0x09 ∷ 0x02 ∷ 0x00 ∷ []; result = refusedIn 0 41 13 }  -- a reading tree 2 of two
-    ∷ record { bytes = head; result = refusedIn 0 12 0 }  -- no byte after the links
-    ∷ record { bytes = head ++ lone 1; result = refusedIn 0 13 54 }  -- a leaf as tree 0, and a set bit after it
-    ∷ record { bytes = head ++ first ++ second; result = refusedIn 1 12 36 }  -- tree 1 torn in its leaf, by its own first bit
-    ∷ record { bytes = head ++ first ++ second ++ (0x64 ∷ 0x00 ∷ []); result = refusedIn 1 13 56 }  -- a byte after the last tree
-    ∷ record { bytes = 0x10 ∷ 0x08 ∷ 0x82 ∷ 0x20 ∷ first ++ second ++ (0x64 ∷ []); result = refusedIn 0 42 0 }  -- tree 1 drives itself
+    holds (head ++ first ++ second) (early ∷ over 12 ∷ []) (link 1 1 0 ∷ [])
+    ∷ holds (head ++ lone 0 ++ second) (tree (plainLeaf 0) 1 6 ∷ over 12 ∷ []) (link 1 1 0 ∷ [])  -- tree 1 from the next byte on
+    ∷ holds (0x08 ∷ 0x00 ∷ first) (early ∷ []) []  -- one tree, no link
+    ∷ refuses (0x00 ∷ 0x00 ∷ []) 0 41 0  -- no tree
+    ∷ refuses (0x80 ∷ 0x00 ∷ []) 0 12 0  -- 16 trees, of which the first is missing,
+    ∷ refuses (0x88 ∷ 0x00 ∷ []) 0 41 0  -- and 17
+    ∷ refuses (0x10 ∷ 0x08 ∷ 0x82 ∷ []) 0 41 23  -- torn in the driving tree
+    ∷ refuses (0x10 ∷ 0x08 ∷ 0x82 ∷ 0x01 ∷ []) 0 41 27  -- a set bit after the links
+    ∷ refuses (0x10 ∷ 0x09 ∷ 0x02 ∷ 0x00 ∷ []) 0 41 13  -- a reading tree 2 of two,
+    ∷ refuses (0x10 ∷ 0x08 ∷ 0x82 ∷ 0x40 ∷ []) 0 41 23  -- and a driving one
+    ∷ refuses head 0 12 0  -- no byte after the links
+    ∷ refuses (head ++ lone 1) 0 13 54  -- a set bit after tree 0
+    ∷ refuses (head ++ first ++ torn) 1 12 36  -- tree 1 torn in its leaf, by its own first bit
+    ∷ refuses (head ++ first ++ second ++ (0x00 ∷ [])) 1 13 56  -- a byte after the last tree
+    ∷ refuses (0x10 ∷ 0x08 ∷ 0x82 ∷ 0x20 ∷ first ++ second) 0 42 0  -- tree 1 drives itself
     ∷ []
 
 abbrev pub Sheets : Type 0

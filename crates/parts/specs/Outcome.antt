@@ -47,7 +47,7 @@ unfoldable pub treeMapped : ℕ → Library → (ℕ → Option ℕ) → Tree �
 unfolding afterLate lateLeaf mapped knownTree
 treeMapped most l f t = afterLate (lateLeaf f t) (mapped most l (knownTree f t))
 
--- "Trees are mapped in number order": after the covers of the trees before, the next tree has their number.
+-- "Trees are mapped in number order": after the covers of the trees before, the number of the next tree is how many they are.
 unfoldable pub coversFrom : ℕ → Library → List Link → (before : List Cover) → List Tree → PartAnswer (List Cover)
 unfolding inTree treeMapped linkedArrival _>>=_
 coversFrom most l links before [] = whole before

@@ -25,12 +25,12 @@ leafNodes n (leaf x) = n ∷ []
 leafNodes n (inv a) = leafNodes (suc n) a
 leafNodes n (nand a b) = leafNodes (suc n) a ++ leafNodes (suc n + size a) b
 
--- The tree that drives a node of a tree, if a link says one.
+-- The tree that drives a node of a tree, if a link names one.
 unfoldable pub driverOf : List Link → (tree node : ℕ) → Option ℕ
 driverOf [] k n = none
 driverOf (x ∷ xs) k n = cond (eqb (x .reading) k && eqb (x .node) n) (some (x .driving)) (driverOf xs k n)
 
--- The arrival that the links bring to a node of a tree: that of its driving tree's cover, among those of the trees before it.
+-- The arrival that the links bring to a node of a tree: that of its driving tree's cover, among those of the trees before it (0 if it has none there, which a sound part never comes to).
 unfoldable pub linkedArrival : List Link → List Cover → (tree node : ℕ) → Option ℕ
 unfolding driverOf
 linkedArrival links covers k n = Option·map (λ d. getD (map (λ (c : Cover). c .point .arrival) covers) d 0) (driverOf links k n)

@@ -20,13 +20,14 @@ leafWidth = 6
 abbrev pub treesMost : ℕ
 treesMost = 16
 
--- The first bit of the leaf field of the link at a position.
+-- How wide a link is, and where the first begins.
 abbrev pub linkWidth : ℕ
 linkWidth = treeWidth + leafWidth + treeWidth
 
 abbrev pub linksAt : ℕ
 linksAt = treeCountWidth + linkCountWidth
 
+-- The first bit of the leaf field of the link at a position.
 abbrev pub leafField : ℕ → ℕ
 leafField position = linksAt + linkWidth * position + treeWidth
 

@@ -292,7 +292,7 @@ fn write_part_refusal(tree: u32, number: u32, place: usize) {
     end_line();
 }
 
-// The same of a part; a refusal ends with its tree.
+// The reply of the part operation, in the same way; a refusal ends with its tree.
 fn write_part_reply(reply: PartReply, output: &[u8], work: &[u64]) {
     match reply {
         PartReply::Refused(tree, number, place) => {

@@ -1,5 +1,5 @@
-//! Problems for the benchmark: a typical one, two that take long, one that goes deep, two with many crossings, and one
-//! with driven leaves.
+//! Problems for the benchmark: a typical one, two that take long, one that goes deep, two with many crossings, one
+//! with driven leaves, and two parts.
 
 use super::linked::{Draft, Triple};
 use super::parts::{cell, chain, comb, counted_comb, pin, tree, AND, AOI21, AOI22, INVERTER, NAND, NOR, OR};
