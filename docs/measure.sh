@@ -14,8 +14,8 @@ scratch=$(mktemp -d)
 trap 'rm -rf "$scratch"' EXIT
 
 rt staticlib interface >"$scratch/staticlib" 2>&1
-rt check bill_cases >"$scratch/bill_cases" 2>&1
-export TREECOVER_LIB_DIR=$PWD/target/staticlib TREECOVER_LIB_NAME=interface TREECOVER_BILL_CASES=$PWD/target/bin/bill_cases
+rt check test_cases >"$scratch/test_cases" 2>&1
+export TREECOVER_LIB_DIR=$PWD/target/staticlib TREECOVER_LIB_NAME=interface TREECOVER_CASES=$PWD/target/bin/test_cases
 cargo build -q --release --offline --manifest-path reference/Cargo.toml --features "$features" --bins --target-dir target/reference
 bench=$PWD/target/reference/release/bench
 fresh=$PWD/target/reference/release/fresh
@@ -104,6 +104,11 @@ $("$fresh" part 200000 36)
 ## The gate
 
 $(grep "passed, [0-9]* failed" "$log" | tail -n 1): $(ls crates | wc -l) crates, $(ls crates/*/must-fail/*.edit | wc -l) edits, on two processors, two jobs at a time.
+By part, the seconds of all jobs added up: $(awk '
+    /^rt: [a-z0-9_]+ proved \([0-9]+ s\)/ { t = $4; sub(/\(/, "", t); proofs += t }
+    /^rt: must-fail / { t = $(NF - 1); sub(/.*; /, "", t); edits += t }
+    /^rt: [a-z0-9_]+ ran/ { t = $(NF - 1); sub(/\(/, "", t); programs += t }
+    END { printf "proofs %d, edits %d, programs run %d.", proofs, edits, programs }' "$log")
 
 | crate | proof, s | edits | an edit, s |
 |---|---|---|---|

@@ -55,7 +55,8 @@ uint64_t treecover_judge_library(const uint8_t *library, size_t library_len);
  * Judges a function sheet: cells * 256 + patterns if each drawing of the library, held cells' too, computes the function that the
  * sheet states of its cell; or a refusal, the library's (2 to 6), 31, 32 or 33.
  */
-uint64_t treecover_judge_functions(const uint8_t *library, size_t library_len, const uint8_t *functions, size_t functions_len);
+uint64_t treecover_judge_functions(const uint8_t *library, size_t library_len,
+                                   const uint8_t *functions, size_t functions_len);
 
 /* Judges a tree: its node count, or a refusal with the number 12, 13, 14 or 16. */
 uint64_t treecover_judge_tree(const uint8_t *tree, size_t tree_len);

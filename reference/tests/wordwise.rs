@@ -133,30 +133,25 @@ fn fresh_functions() {
     }
 }
 
+/// The cases of functions stand one after another, and so do their results.
 #[test]
 fn every_stored_function_sheet() {
-    let file = stored("functions.bin");
-    let lines = String::from_utf8(stored("functions.expected")).expect("text");
-    let mut records = Records { rest: &file };
-    for line in lines.lines() {
-        assert_eq!(records.bytes(1), [7]);
-        let [library, functions] = records.sheets::<2, 2>();
-        assert_eq!(compare_functions(library, functions).line(), line);
-    }
-    assert!(records.rest.is_empty());
+    let file = stored("stored.bin");
+    let of_functions = Records { rest: &file }.filter(|&(kind, _)| kind == 7);
+    let lines: Vec<String> =
+        of_functions.map(|(_, sheets)| compare_functions(sheets[0], sheets[1]).line() + "\n").collect();
+    assert!(lines.len() > 2_000, "{} function sheets", lines.len());
+    let expected = String::from_utf8(stored("stored.expected")).expect("text");
+    assert!(expected.contains(&lines.concat()));
 }
 
 #[test]
 fn every_stored_sheet() {
     let mut count = 0;
-    for name in ["stored.bin", "covers.bin", "bills.bin", "functions.bin"] {
-        let file = stored(name);
-        let mut records = Records { rest: &file };
-        while !records.rest.is_empty() {
-            for (kind, sheet) in records.next_sheets() {
-                compare(kind, sheet);
-                count += 1;
-            }
+    for (kind, sheets) in (Records { rest: &stored("stored.bin") }) {
+        for (kind, sheet) in libraries_and_trees(kind, &sheets) {
+            compare(kind, sheet);
+            count += 1;
         }
     }
     assert!(count > 10_000, "{count} sheets");
@@ -167,33 +162,28 @@ struct Records<'a> {
     rest: &'a [u8],
 }
 
-impl<'a> Records<'a> {
-    /// The libraries and trees of the next record.
-    fn next_sheets(&mut self) -> Vec<(Kind, &'a [u8])> {
-        match self.bytes(1)[0] {
-            0 => vec![(Kind::Library, self.sheets::<1, 1>()[0])],
-            1 => vec![(Kind::Tree, self.sheets::<1, 1>()[0])],
-            2 | 3 => problem(self.sheets::<2, 4>()),
-            4 => text::parts(self.sheets::<1, 1>()[0]).map_or(vec![], |(library, tree)| problem([library, tree])),
-            5 => {
-                let [library, tree, _] = self.sheets::<3, 3>();
-                problem([library, tree])
-            }
-            6 => {
-                let sheets = bill::sheets(self.sheets::<1, 1>()[0]);
-                sheets.map_or(vec![], |[library, tree, _]| problem([library, tree]))
-            }
-            7 => vec![(Kind::Library, self.sheets::<2, 2>()[0])],
-            kind => panic!("kind {kind}"),
+impl<'a> Iterator for Records<'a> {
+    type Item = (u8, Vec<&'a [u8]>);
+
+    /// The kind of the next record, and its sheets; their lengths are the first among its numbers.
+    fn next(&mut self) -> Option<Self::Item> {
+        if self.rest.is_empty() {
+            return None;
         }
+        let kind = self.bytes(1)[0];
+        let (sheets, numbers) = match kind {
+            0 | 1 | 4 | 6 => (1, 1),
+            2 | 3 | 8 => (2, 4),
+            5 => (3, 3),
+            7 => (2, 2),
+            kind => panic!("kind {kind}"),
+        };
+        let numbers: Vec<usize> = (0..numbers).map(|_| self.number()).collect();
+        Some((kind, numbers[..sheets].iter().map(|&length| self.bytes(length)).collect()))
     }
+}
 
-    /// The next so many sheets; their lengths are the first among so many numbers.
-    fn sheets<const SHEETS: usize, const NUMBERS: usize>(&mut self) -> [&'a [u8]; SHEETS] {
-        let numbers: [usize; NUMBERS] = std::array::from_fn(|_| self.number());
-        std::array::from_fn(|sheet| self.bytes(numbers[sheet]))
-    }
-
+impl<'a> Records<'a> {
     fn number(&mut self) -> usize {
         let two = self.bytes(2);
         two[0] as usize * 256 + two[1] as usize
@@ -203,6 +193,18 @@ impl<'a> Records<'a> {
         let (bytes, rest) = self.rest.split_at(count);
         self.rest = rest;
         bytes
+    }
+}
+
+/// The libraries and trees of a record.
+fn libraries_and_trees<'a>(kind: u8, sheets: &[&'a [u8]]) -> Vec<(Kind, &'a [u8])> {
+    match kind {
+        0 | 7 | 8 => vec![(Kind::Library, sheets[0])],
+        1 => vec![(Kind::Tree, sheets[0])],
+        2 | 3 | 5 => problem([sheets[0], sheets[1]]),
+        4 => text::parts(sheets[0]).map_or(vec![], |(library, tree)| problem([library, tree])),
+        6 => bill::sheets(sheets[0]).map_or(vec![], |[library, tree, _]| problem([library, tree])),
+        kind => panic!("kind {kind}"),
     }
 }
 

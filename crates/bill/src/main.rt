@@ -1,4 +1,4 @@
 // Reads a library, a tree and a cover sheet from standard input, and prints the bill of the cover.
 fn main() {
-    billing::run();
+    bill_text::run();
 }

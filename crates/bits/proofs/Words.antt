@@ -15,7 +15,7 @@ use borrow.Author.Tests.{le-leb, lt-leb, eq-eqb, ne-eqb}
 use Rattle.bits.specs.declared.Cursor.{Cursor}
 use Rattle.bits.specs.declared.FieldRead.the-variants.{Value, Truncated}
 use Rattle.bits.specs.Bits.{after, bitAt, valueAt, cursorAt, fieldAt, bytesTo, restOf, filledAt, endsAt}
-use Rattle.bits.specs.Promises.{Opens}
+use Rattle.bits.specs.Inside.Promises.{Opens}
 use Rattle.bits.proofs.Laws.{value-lt, value-small, value-cong}
 
 -- a + b bits are the first a and then the last b.

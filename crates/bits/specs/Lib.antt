@@ -1,3 +1,3 @@
--- What the contracts of `bits` say.
+-- Bits, fields and the ends of sheets.
 pub mod Bits
-pub mod Promises
+pub mod Inside

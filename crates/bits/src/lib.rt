@@ -5,7 +5,7 @@ ghost use Prim.Native.Nat.{_+_, _-_, _*_, _/_, _%_, _<_, _≤_, _^_, min};
 ghost use lib.ListN.{length, drop};
 ghost use lib.Dec.{leb};
 ghost use Rattle.bits.specs.Bits.{placeOf, cursorAt, valueAt, fieldAt, bytesTo, filledAt, endsAt, withBit, withField};
-ghost use Rattle.bits.specs.Promises.{Opens, Opened, FieldOf, Weight};
+ghost use Rattle.bits.specs.Inside.Promises.{Opens, Opened, FieldOf, Weight};
 
 // A place in bytes: the number of a byte, and how many of its bits are before the place.
 pub struct Cursor {
@@ -28,7 +28,7 @@ impl Cursor {
     // How many numbers a byte can hold.
     const BYTE_VALUES: u64 = 256;
 
-    // A field is cut from a word of so many bytes where it can be.
+    // How many bytes the word has from which a field is cut where it can be.
     const WORD_BYTES: usize = 4;
 
     const WORD_BITS: usize = 32;
@@ -62,7 +62,7 @@ impl Cursor {
         Cursor { byte, used }
     }
 
-    // Whether so many bytes go as far as the cursor.
+    // Whether `bytes` bytes go as far as the cursor.
     fn inside(self, bytes: usize) -> bool
         requires { ⌜ self .used < 8 ⌝ }
         ensures { λ r. ⌜ r ≡ leb (placeOf self) (8 * bytes) ⌝ }
@@ -157,7 +157,7 @@ impl Cursor {
     }
 }
 
-// How many of so many bytes stand in an opening.
+// How many of `left` bytes stand in an opening.
 fn opened(left: usize) -> usize
     ensures { λ r. ⌜ r ≡ min left 256 ⌝ }
 {

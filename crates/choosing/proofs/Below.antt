@@ -10,14 +10,14 @@ use native.Mathlib.Omega.{arith}
 use lib.ListN.{length, getD, take, drop, length-append, length-map}
 use lib.Seq.{sets, sets-eq, take-suc, take-all, take-append-seam}
 use Rattle.fields.proofs.Lists.{sets-append, at-mem}
-use Rattle.sheets.specs.Model.{Shape, Pin, Cell, Library, Tree}
+use Rattle.sheets_rules.specs.Model.{Shape, Pin, Cell, Library, Tree}
 use Rattle.covers.specs.Lists.{firstSuch}
 use Rattle.covers.specs.Match.{Input, Match, IsMatch, matches, pinAt, pinLoad}
 use Rattle.covers.specs.Cover.{Point, Placed, Cover, nothing, together, delayed, topped, feeds, inputDelay}
 use Rattle.covers.specs.Enumeration.{under, covers}
 use Rattle.covers.specs.Tradeoff.{nodes}
 use Rattle.covers.specs.Choice.{least, chosenInputs, firstReaching, choice}
-use Rattle.covers.specs.Curve.{base, gates}
+use Rattle.covers.specs.Inside.Curve.{base, gates}
 use Rattle.covers.proofs.Basics.{at-all, FirstOf, nowhere, somewhere, first-of}
 use Rattle.covers.proofs.Least.{least-is, least-some}
 use Rattle.covers.proofs.Matching.{Spread, last, next, matches-are, match-inside, spread-in, input-smaller}
@@ -27,12 +27,12 @@ use Rattle.covers.proofs.Nodes.{input-in, nodes-within}
 use Rattle.covers.proofs.Bounds.{match-cell}
 use Rattle.covers.proofs.FromSheets.{binned}
 use Rattle.filling.proofs.Node.{leaf-here}
-use Rattle.results.specs.declared.CoverRecord.{CoverRecord}
-use Rattle.results.specs.Public.{placedOf, coverOf}
-use Rattle.results.proofs.Laws.{placed-parts}
+use Rattle.result_sheets.specs.declared.CoverRecord.{CoverRecord}
+use Rattle.result_sheets.specs.Public.{placedOf, coverOf}
+use Rattle.result_sheets.proofs.Laws.{placed-parts}
 use Rattle.choosing.specs.declared.Goal.{Goal}
 use Rattle.choosing.specs.declared.Inputs.{Inputs}
-use Rattle.choosing.specs.Promises.{noInput, goalOf, goalAt, InputsAre, Prepared, below, Driven, Chooses, appended}
+use Rattle.choosing.specs.Inside.Promises.{noInput, goalOf, goalAt, InputsAre, Prepared, below, Driven, Chooses, appended}
 use Rattle.choosing.proofs.Gate.{parts, size-at, ready}
 
 -- The matches of a choice, if there is one.

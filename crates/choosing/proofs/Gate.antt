@@ -1,4 +1,4 @@
--- The match chosen at a gate: the first found row that reaches the least point in time is the row of the first match that does.
+-- The match chosen at a gate: the first hit that reaches the least point in time is that of the first match that does.
 use Prim.Native.Nat.{ℕ, zero, suc, _+_, _*_, _%_, _≤_, _<_}
 use mathlib.Core.Path.{_≡_, refl, sym, ap, ap₂, subst, _∙_}
 use mathlib.Core.Logic.{_⊎_, inl, inr, _↔_}
@@ -9,14 +9,14 @@ use native.Mathlib.Decide.{ℕ-discrete}
 use native.Mathlib.Numerals.{add-one}
 use native.Mathlib.Omega.{arith}
 use lib.ListN.{length, getD}
-use Rattle.sheets.specs.Model.{Shape, size, Library, Tree}
+use Rattle.sheets_rules.specs.Model.{Shape, size, Library, Tree}
 use Rattle.covers.specs.Lists.{keepIf, select, firstSuch}
 use Rattle.covers.specs.Match.{Match, legal, fitting, matches}
 use Rattle.covers.specs.Cover.{Point, Cover, topped}
 use Rattle.covers.specs.Enumeration.{matchCovers, under, covers, allBelow}
 use Rattle.covers.specs.Tradeoff.{Node}
 use Rattle.covers.specs.Choice.{least, reaches, chosenInputs, withInputs, firstReaching, gateChoice, choice}
-use Rattle.covers.specs.Curve.{Filled, base, curve, gates, lookup, pointOf}
+use Rattle.covers.specs.Inside.Curve.{Filled, base, curve, gates, lookup, pointOf}
 use Rattle.covers.proofs.Basics.{lt-or-le, at-all, in-select}
 use Rattle.covers.proofs.Least.{In, IsLeast, least-is, least-some}
 use Rattle.covers.proofs.Deadline.{bestMatch}
@@ -29,18 +29,18 @@ use Rattle.covers.proofs.Curve.{curve-is, lookup-is-least}
 use Rattle.covers.proofs.Filling.{fromTable, reaches-from-table}
 use Rattle.covers.proofs.FromSheets.{binned}
 use Rattle.overlay.proofs.Walking.{stands-size}
-use Rattle.matching.specs.Found.{matchBytes}
-use Rattle.matching.specs.Promises.{Ready}
+use Rattle.matching.specs.Inside.Found.{matchBytes}
+use Rattle.matching.specs.Inside.Promises.{Ready}
 use Rattle.matching.proofs.Patterns.{fitting-sound}
-use Rattle.curves.specs.Words.{absent, pointLimit, tableOf}
-use Rattle.curves.specs.Best.{rowOf, patternOf, legalBest, RowKnown}
-use Rattle.curves.specs.Promises.{Worth}
+use Rattle.curves.specs.Inside.Words.{absent, pointLimit, tableOf}
+use Rattle.curves.specs.Inside.Best.{hitAt, patternOf, legalBest, HitKnown}
+use Rattle.curves.specs.Inside.Promises.{Worth}
 use Rattle.curves.proofs.Laws.{part-length}
-use Rattle.filling.proofs.Rows.{legal-is, row-is-match}
-use Rattle.filling.proofs.Node.{noMatch, here, node-within, gate-here, FoundIs, match-in, found-at, rows-ready}
+use Rattle.filling.proofs.Hits.{legal-is, hit-is-match}
+use Rattle.filling.proofs.Node.{noMatch, here, node-within, gate-here, FoundIs, match-in, found-at, hits-ready}
 use Rattle.choosing.specs.declared.Goal.{Goal}
 use Rattle.choosing.specs.declared.Inputs.{Inputs}
-use Rattle.choosing.specs.Promises.{FirstRow, RowHolds, InputsAre, Prepared, Drives, at-root, below, Driven}
+use Rattle.choosing.specs.Inside.Promises.{FirstHit, HitHolds, InputsAre, Prepared, Drives, at-root, below, Driven}
 
 -- ---- the first that passes
 
@@ -145,15 +145,15 @@ module _ {most : ℕ} {l : Library} {t : Tree} {rows ss zs : List ℕ} {room : �
 
 module _ {most : ℕ} {l : Library} {t : Tree} {rows ss zs found₀ work : List ℕ} (dec : Prepared most l t rows ss zs (length found₀) work) {goal : Goal} {s : Shape} (drv : Driven l t goal s)
     {found : List ℕ} {count : ℕ} (are : FoundIs l (goal .node) s found₀ found count) where
-  -- The match in row j.
+  -- The match of hit j.
   abbrev nth : ℕ → Match
   nth j = getD (fitting l (goal .node) s) j noMatch
 
   inside : (j : ℕ) → j < count → List·Memᴰ (nth j) (fitting l (goal .node) s)
   inside j h = match-in (ready dec drv) are j h
 
-  row-held : (j : ℕ) → j < count → RowHolds l (patternOf rows (rowOf found j)) (rowOf found j) (nth j)
-  row-held j h = let f = found-at (ready dec drv) are j h in record { few = fitting-sound l (goal .node) s (dec .decoded .library) (inside j h) .few; words = f .holds; held = f .held; pinned = f .pinned }
+  hit-stored : (j : ℕ) → j < count → HitHolds l (patternOf rows (hitAt found j)) (hitAt found j) (nth j)
+  hit-stored j h = let f = found-at (ready dec drv) are j h in record { few = fitting-sound l (goal .node) s (dec .decoded .library) (inside j h) .few; words = f .holds; stored = f .stored; pinned = f .pinned }
 
   module _ (w : ℕ) (g : 0 < gates s) (e : least (suc (goal .time)) (covers l (goal .load) (goal .node) s) ≡ some (pointOf w)) where
     abbrev passes : Match → Bool
@@ -169,20 +169,20 @@ module _ {most : ℕ} {l : Library} {t : Tree} {rows ss zs found₀ work : List 
     unfolding pointOf
     arrival-is = add-one (w % base)
 
-    -- What a row says of its match.
-    row-says : (j : ℕ) → j < count → legalBest most ss work (patternOf rows (rowOf found j)) (rowOf found j) (goal .load) (w % base + 1)
+    -- What a hit says of its match.
+    hit-says : (j : ℕ) → j < count → legalBest most ss work (patternOf rows (hitAt found j)) (hitAt found j) (goal .load) (w % base + 1)
         ≡ cond (legal (nth j .pattern .cell) (goal .load)) (bestMatch (fromTable l (tableOf most work)) (goal .load) (suc (pointOf w .arrival)) (nth j)) none
     unfolding legalBest
-    row-says j h =
+    hit-says j h =
         let f = found-at (ready dec drv) are j h in
         ap₂ (λ (b : Bool) (o : Option Point). cond b o none)
-        (legal-is (f .held) (goal .load))
-        (row-is-match most l ss work (patternOf rows (rowOf found j)) (rowOf found j) (nth j) (goal .load) (w % base + 1) (f .held) (f .holds) (f .pinned) (f .headed)
+        (legal-is (f .stored) (goal .load))
+        (hit-is-match most l ss work (patternOf rows (hitAt found j)) (hitAt found j) (nth j) (goal .load) (w % base + 1) (f .stored) (f .holds) (f .pinned) (f .headed)
         ∙ ap (λ (k : ℕ). bestMatch (fromTable l (tableOf most work)) (goal .load) k (nth j)) arrival-is)
 
-    -- A row reaches the word exactly when its match is legal and reaches the point.
-    row-passes : (j : ℕ) → j < count → (legalBest most ss work (patternOf rows (rowOf found j)) (rowOf found j) (goal .load) (w % base + 1) ≡ some (pointOf w)) ↔ (passes (nth j) ≡ true)
-    row-passes j h = rw (row-says j h) (go (nth j) (inside j h) (legal (nth j .pattern .cell) (goal .load)) refl)
+    -- A hit reaches the word exactly when its match is legal and reaches the point.
+    hit-passes : (j : ℕ) → j < count → (legalBest most ss work (patternOf rows (hitAt found j)) (hitAt found j) (goal .load) (w % base + 1) ≡ some (pointOf w)) ↔ (passes (nth j) ≡ true)
+    hit-passes j h = rw (hit-says j h) (go (nth j) (inside j h) (legal (nth j .pattern .cell) (goal .load)) refl)
       where
         go : (m : Match) → List·Memᴰ m (fitting l (goal .node) s) → (b : Bool) → legal (m .pattern .cell) (goal .load) ≡ b →
             (cond b (bestMatch (fromTable l (tableOf most work)) (goal .load) (suc (pointOf w .arrival)) m) none ≡ some (pointOf w)) ↔ (b && reaches (pointOf w) (matchCovers (allBelow l) (goal .load) (goal .node) m) ≡ true)
@@ -191,7 +191,7 @@ module _ {most : ℕ} {l : Library} {t : Tree} {rows ss zs found₀ work : List 
             (r .1, r .0)
         go m i false f = ((λ q. absurd (Option·none-ne-some _ q)), (λ q. absurd (false≢true q)))
 
-    first-found : (r : ℕ) → FirstRow most ss work rows found (goal .load) w count r → (r < count) × (firstReaching l (goal .load) (goal .node) s (pointOf w) ≡ some (nth r))
+    first-found : (r : ℕ) → FirstHit most ss work rows found (goal .load) w count r → (r < count) × (firstReaching l (goal .load) (goal .node) s (pointOf w) ≡ some (nth r))
     first-found r f = go (lt-or-le r count)
       where
         is : firstReaching l (goal .load) (goal .node) s (pointOf w) ≡ firstSuch passes (fitting l (goal .node) s)
@@ -202,50 +202,50 @@ module _ {most : ℕ} {l : Library} {t : Tree} {rows ss zs found₀ work : List 
         not-so false h = refl
 
         fails : (j : ℕ) → j < r → j < count → passes (nth j) ≡ false
-        fails j g h = not-so (passes (nth j)) (λ q. f .before j g (row-passes j h .1 q))
+        fails j g h = not-so (passes (nth j)) (λ q. f .before j g (hit-passes j h .1 q))
 
         go : (r < count) ⊎ (count ≤ r) → (r < count) × (firstReaching l (goal .load) (goal .node) s (pointOf w) ≡ some (nth r))
-        go (inl h) = (h, is ∙ first-at passes (fitting l (goal .node) s) r noMatch (omega (arith, are .many)) (λ j k. fails j k (omega arith)) (row-passes r h .0 (f .here h)))
+        go (inl h) = (h, is ∙ first-at passes (fitting l (goal .node) s) r noMatch (omega (arith, are .many)) (λ j k. fails j k (omega arith)) (hit-passes r h .0 (f .here h)))
         go (inr h) =
             let c = chosen-there l (goal .load) (goal .node) s (goal .time) e in
             let p = parts l (goal .load) (goal .node) s (goal .time) g e (c .1) in
             absurd (Option·none-ne-some _ (sym (is ∙ first-none passes (fitting l (goal .node) s) noMatch (λ j k. fails j (omega arith) (omega (arith, are .many)))) ∙ p .first))
 
--- The row that was picked for a word, and its match.
+-- The hit that was picked for a word, and its match.
 pub record Picked (l : Library) (goal : Goal) (s : Shape) (rows found : List ℕ) (w r : ℕ) : Type 0 where
   pub match : Match
   pub inside : matchBytes * r + matchBytes ≤ length found
-  pub held : RowHolds l (patternOf rows (rowOf found r)) (rowOf found r) match
-  pub known : RowKnown rows (rowOf found r)
-  pub long : length (rowOf found r) ≡ matchBytes
+  pub stored : HitHolds l (patternOf rows (hitAt found r)) (hitAt found r) match
+  pub known : HitKnown rows (hitAt found r)
+  pub long : length (hitAt found r) ≡ matchBytes
   pub word : least (suc (goal .time)) (covers l (goal .load) (goal .node) s) ≡ some (pointOf w)
   pub first : firstReaching l (goal .load) (goal .node) s (pointOf w) ≡ some match
 
 pub picked : {most : ℕ} {l : Library} {t : Tree} {rows ss zs found₀ work : List ℕ} → Prepared most l t rows ss zs (length found₀) work → {goal : Goal} {s : Shape} → Driven l t goal s →
     getD ss (goal .node) 0 < 2 → {found : List ℕ} {count : ℕ} → FoundIs l (goal .node) s found₀ found count → (w r : ℕ) →
-    Worth pointLimit (goal .time + 1) w (lookup (goal .time + 1) (tableOf most work (goal .node) (goal .bin))) → FirstRow most ss work rows found (goal .load) w count r → Picked l goal s rows found w r
+    Worth pointLimit (goal .time + 1) w (lookup (goal .time + 1) (tableOf most work (goal .node) (goal .bin))) → FirstHit most ss work rows found (goal .load) w count r → Picked l goal s rows found w r
 picked {l = l} dec {goal} {s} drv small {found} are w r worth f =
     let g = gate-here (ready dec drv) small in
     let e = word-found dec drv w worth g .1 in
     let q = first-found dec drv are w g e r f in
-    let held = row-held dec drv are r (q .0) in
-    let safe = rows-ready (ready dec drv) are (dec .area) in
+    let stored = hit-stored dec drv are r (q .0) in
+    let safe = hits-ready (ready dec drv) are (dec .area) in
     let within : matchBytes * r + matchBytes ≤ length found = omega (arith, q .0, safe .room) in
     record {
       match = getD (fitting l (goal .node) s) r noMatch;
       inside = within;
-      held = held;
-      known = safe .rows-known r (q .0);
+      stored = stored;
+      known = safe .hits-known r (q .0);
       long = part-length matchBytes (matchBytes * r) found within;
       word = e;
       first = q .1;
     }
 
 pub picked-inputs : {l : Library} {goal : Goal} {s : Shape} {rows found : List ℕ} {w r : ℕ} → Picked l goal s rows found w r → (x : Inputs) →
-    ((l : Library) (m : Match) → RowHolds l (patternOf rows (rowOf found r)) (rowOf found r) m → InputsAre l m (goal .load) (w % base) x) →
+    ((l : Library) (m : Match) → HitHolds l (patternOf rows (hitAt found r)) (hitAt found r) m → InputsAre l m (goal .load) (w % base) x) →
     (p : Point) → least (suc (goal .time)) (covers l (goal .load) (goal .node) s) ≡ some p → (m : Match) → firstReaching l (goal .load) (goal .node) s p ≡ some m → InputsAre l m (goal .load) (p .arrival) x
 unfolding pointOf
 picked-inputs {l} {goal} {s} {w = w} k x reads p e m f =
     let point : pointOf w ≡ p = Option·some-injective _ _ (sym (k .word) ∙ e) in
     let match : k .match ≡ m = Option·some-injective _ _ (sym (k .first) ∙ ap (firstReaching l (goal .load) (goal .node) s) point ∙ f) in
-    subst (λ (q : Match). InputsAre l q (goal .load) (p .arrival) x) match (subst (λ (q : Point). InputsAre l (k .match) (goal .load) (q .arrival) x) point (reads l (k .match) (k .held)))
+    subst (λ (q : Match). InputsAre l q (goal .load) (p .arrival) x) match (subst (λ (q : Point). InputsAre l (k .match) (goal .load) (q .arrival) x) point (reads l (k .match) (k .stored)))

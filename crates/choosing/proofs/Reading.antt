@@ -1,4 +1,4 @@
--- Which row reaches a word, and the inputs read from a row.
+-- Which hit reaches a word, and the inputs read from a hit.
 use mathlib.Core.Path.{_≡_, sym, ap, ap₂, subst, _∙_}
 use mathlib.Core.Logic.{_⊎_, inl, inr}
 use mathlib.Core.Option.{Option, some, Option·none-ne-some, Option·some-injective}
@@ -8,22 +8,22 @@ use native.Mathlib.Decide.{ℕ-discrete}
 use native.Mathlib.Omega.{arith}
 use lib.ListN.{length, getD, set}
 use lib.Seq.{getD-set-same, getD-set-other}
-use Rattle.sheets.specs.Model.{Library}
-use Rattle.sheets.specs.Layout.{figuresAt, pinWords}
+use Rattle.sheets_rules.specs.Model.{Library}
+use Rattle.sheets_rules.specs.Inside.Layout.{figuresAt, pinWords}
 use Rattle.covers.specs.Match.{Match, delay, pinAt}
 use Rattle.covers.specs.Cover.{Point, feeds, inputDelay}
-use Rattle.covers.specs.Curve.{pointOf, wordOf}
+use Rattle.covers.specs.Inside.Curve.{pointOf, wordOf}
 use Rattle.covers.proofs.Basics.{lt-or-le}
 use Rattle.fields.proofs.Lists.{at-mem}
-use Rattle.overlay.specs.Held.{PinHeld}
-use Rattle.matching.specs.Found.{inputPlace, matchRow}
-use Rattle.matching.proofs.Written.{length-row, row-pin, row-node}
-use Rattle.curves.specs.Words.{absent, pointLimit, matchLimit}
-use Rattle.curves.specs.Best.{rowCount, inputNode, inputBin, inputLoad, inputIntrinsic, inputDrive}
-use Rattle.curves.specs.Promises.{Worth}
+use Rattle.overlay.specs.Inside.Promises.{PinStored}
+use Rattle.matching.specs.Inside.Found.{inputPlace, hitOf}
+use Rattle.matching.proofs.Written.{length-hit, hit-pin, hit-node}
+use Rattle.curves.specs.Inside.Words.{absent, pointLimit, matchLimit}
+use Rattle.curves.specs.Inside.Best.{hitCount, inputNode, inputBin, inputLoad, inputIntrinsic, inputDrive}
+use Rattle.curves.specs.Inside.Promises.{Worth}
 use Rattle.curves.proofs.Laws.{word-point}
 use Rattle.choosing.specs.declared.Goal.{Goal}
-use Rattle.choosing.specs.Promises.{RowHolds, goalOf, noInput}
+use Rattle.choosing.specs.Inside.Promises.{HitHolds, goalOf, noInput}
 
 module _ (w r end : ℕ) (o : Option Point) (small : w < pointLimit) (g : Worth matchLimit end r o) where
   -- The word found is the word sought exactly when its point is.
@@ -49,43 +49,43 @@ goal-path p q r s = cc
 abbrev pub goalIn : List ℕ → List ℕ → List ℕ → List ℕ → ℕ → Goal
 goalIn nodes loads bins times i = record { node = getD nodes i 0; load = getD loads i 0; bin = getD bins i 0; time = getD times i 0 }
 
--- ---- the inputs in a row
+-- ---- the inputs in a hit
 
-module _ (l : Library) (pattern row : List ℕ) (m : Match) (holds : RowHolds l pattern row m) where
-  pub count-at : rowCount row ≡ length (m .inputs)
-  unfolding matchRow
+module _ (l : Library) (pattern hit : List ℕ) (m : Match) (holds : HitHolds l pattern hit m) where
+  pub count-at : hitCount hit ≡ length (m .inputs)
+  unfolding hitOf
   count-at = holds .words 2 (omega arith)
 
-  pub pattern-at : getD row 0 0 ≡ m .number
-  unfolding matchRow
+  pub pattern-at : getD hit 0 0 ≡ m .number
+  unfolding hitOf
   pattern-at = holds .words 0 (omega arith)
 
-  pub crossing-at : getD row 1 0 ≡ m .crossing
-  unfolding matchRow
+  pub crossing-at : getD hit 1 0 ≡ m .crossing
+  unfolding hitOf
   crossing-at = holds .words 1 (omega arith)
 
-  goal-read : (load t k x : ℕ) → k < length (m .inputs) → x ≡ t - (inputIntrinsic pattern row k + inputDrive pattern row k * load) →
-      record { node = inputNode pattern row k; load = inputLoad pattern row k; bin = inputBin pattern row k; time = x } ≡ goalOf l m load t (getD (m .inputs) k noInput)
+  goal-read : (load t k x : ℕ) → k < length (m .inputs) → x ≡ t - (inputIntrinsic pattern hit k + inputDrive pattern hit k * load) →
+      record { node = inputNode pattern hit k; load = inputLoad pattern hit k; bin = inputBin pattern hit k; time = x } ≡ goalOf l m load t (getD (m .inputs) k noInput)
   unfolding inputDelay delay feeds
   goal-read load t k x h e =
       let i = getD (m .inputs) k noInput in
-      let pin-is : getD row (inputPlace k) 0 ≡ i .pin = holds .words (inputPlace k) (omega (arith, length-row m)) ∙ row-pin m k h in
-      let node-is : getD row (inputPlace k + 1) 0 ≡ i .node = holds .words (inputPlace k + 1) (omega (arith, length-row m)) ∙ row-node m k h in
+      let pin-is : getD hit (inputPlace k) 0 ≡ i .pin = holds .words (inputPlace k) (omega (arith, length-hit m)) ∙ hit-pin m k h in
+      let node-is : getD hit (inputPlace k + 1) 0 ≡ i .node = holds .words (inputPlace k + 1) (omega (arith, length-hit m)) ∙ hit-node m k h in
       let p = pinAt (m .pattern .cell) (i .pin) in
-      let f : PinHeld l pattern (figuresAt + pinWords * getD row (inputPlace k) 0) p =
-      subst (λ y. PinHeld l pattern (figuresAt + pinWords * y) p) (sym pin-is) (holds .held .pins-are (i .pin) (holds .pinned i (at-mem (m .inputs) k noInput h))) in
+      let f : PinStored l pattern (figuresAt + pinWords * getD hit (inputPlace k) 0) p =
+      subst (λ y. PinStored l pattern (figuresAt + pinWords * y) p) (sym pin-is) (holds .stored .pins-are (i .pin) (holds .pinned i (at-mem (m .inputs) k noInput h))) in
       goal-path node-is (f .load-is) (f .bin-is) (e ∙ ap₂ (λ (a b : ℕ). t - (a + b * load)) (f .intrinsic-is) (f .drive-is))
 
   -- One input more.
-  pub inputs-turn : (load t k x : ℕ) (nodes loads bins times : List ℕ) → k < rowCount row → length nodes ≡ 6 → length loads ≡ 6 → length bins ≡ 6 → length times ≡ 6 →
-      x ≡ t - (inputIntrinsic pattern row k + inputDrive pattern row k * load) →
+  pub inputs-turn : (load t k x : ℕ) (nodes loads bins times : List ℕ) → k < hitCount hit → length nodes ≡ 6 → length loads ≡ 6 → length bins ≡ 6 → length times ≡ 6 →
+      x ≡ t - (inputIntrinsic pattern hit k + inputDrive pattern hit k * load) →
       ((i : ℕ) → i < k → goalIn nodes loads bins times i ≡ goalOf l m load t (getD (m .inputs) i noInput)) →
       (i : ℕ) → i < k + 1 →
-      goalIn (set nodes k (inputNode pattern row k)) (set loads k (inputLoad pattern row k)) (set bins k (inputBin pattern row k)) (set times k x) i ≡ goalOf l m load t (getD (m .inputs) i noInput)
+      goalIn (set nodes k (inputNode pattern hit k)) (set loads k (inputLoad pattern hit k)) (set bins k (inputBin pattern hit k)) (set times k x) i ≡ goalOf l m load t (getD (m .inputs) i noInput)
   inputs-turn load t k x nodes loads bins times h ln ll lb lt e old i g = go (lt-or-le i k)
     where
       go : (i < k) ⊎ (k ≤ i) →
-          goalIn (set nodes k (inputNode pattern row k)) (set loads k (inputLoad pattern row k)) (set bins k (inputBin pattern row k)) (set times k x) i ≡ goalOf l m load t (getD (m .inputs) i noInput)
+          goalIn (set nodes k (inputNode pattern hit k)) (set loads k (inputLoad pattern hit k)) (set bins k (inputBin pattern hit k)) (set times k x) i ≡ goalOf l m load t (getD (m .inputs) i noInput)
       go (inl z) =
           let ne : i ≡ k → ⊥ = λ q. omega arith in
           goal-path (getD-set-other nodes k i _ 0 ne) (getD-set-other loads k i _ 0 ne) (getD-set-other bins k i _ 0 ne) (getD-set-other times k i _ 0 ne) ∙ old i z

@@ -1,2 +1,2 @@
--- What the contracts of `choosing` say, in reading order.
-pub mod Promises
+-- What the functions of `choosing` promise.
+pub mod Inside

@@ -1,24 +1,24 @@
 // The choice of a cover under a required time, from the curves in the work area.
 use curves::Words;
-use matching::Row;
-use results::CoverRecord;
-use sheets::Limits;
-use sheets::library::PatternRow;
+use matching::Hit;
+use result_sheets::CoverRecord;
+use sheets_rules::Limits;
+use sheets_rules::PatternRow;
 ghost use mathlib.Core.Path.{_≡_};
 ghost use mathlib.Core.List.{[], _∷_};
 ghost use mathlib.Core.Option.{some};
 ghost use Prim.Native.Nat.{suc, _+_, _-_, _*_, _<_, _≤_};
 ghost use lib.ListN.{length, getD};
-ghost use Rattle.sheets.specs.Model.{Shape, Library, Tree};
-ghost use Rattle.sheets.specs.Layout.{rowWords};
+ghost use Rattle.sheets_rules.specs.Model.{Shape, Library, Tree};
+ghost use Rattle.sheets_rules.specs.Inside.Layout.{rowWords};
 ghost use Rattle.covers.specs.Match.{Match};
 ghost use Rattle.covers.specs.Cover.{Point, Cover};
 ghost use Rattle.covers.specs.Enumeration.{covers};
 ghost use Rattle.covers.specs.Choice.{least, firstReaching, choice};
-ghost use Rattle.curves.specs.Words.{pointLimit};
-ghost use Rattle.curves.specs.Best.{RowSafe, Matches};
-ghost use Rattle.matching.specs.Found.{matchBytes};
-ghost use Rattle.choosing.specs.Promises.{FirstRow, RowHolds, goalAt, InputsAre, Prepared, Driven, Chooses, appended};
+ghost use Rattle.curves.specs.Inside.Words.{pointLimit};
+ghost use Rattle.curves.specs.Inside.Best.{HitSafe, Matches};
+ghost use Rattle.matching.specs.Inside.Found.{matchBytes};
+ghost use Rattle.choosing.specs.Inside.Promises.{FirstHit, HitHolds, goalAt, InputsAre, Prepared, Driven, Chooses, appended};
 
 // What is asked of a node: the load that it drives, the bin of that load and the time by which it is to arrive. At the root, whose load need
 // not be that of a bin, bin 0 has the curve.
@@ -53,7 +53,7 @@ fn first_reaching(
 ) -> usize
     requires { ⌜ Matches most (now rows) (now found) count (now symbols) (now work) ⌝ }
     requires { ⌜ (load ≤ 255) × (w < pointLimit) ⌝ }
-    ensures { λ r. ⌜ FirstRow most (now (symbols .entry)) (now (work .entry)) (now (rows .entry)) (now (found .entry)) load w count r ⌝ }
+    ensures { λ r. ⌜ FirstHit most (now (symbols .entry)) (now (work .entry)) (now (rows .entry)) (now (found .entry)) load w count r ⌝ }
 {
     let mut j: usize = 0;
     while j < count {
@@ -87,21 +87,21 @@ fn time_left(time: u32, intrinsic: u32, drive: u32, load: u32) -> u32
     time - delay
 }
 
-// The inputs of the match in a row, which drives a load and is to arrive by `time`, with its pattern's row.
-fn read_inputs<'a>(pattern: &'a [u32], row: &'a [u8], load: u32, time: u32) -> Inputs
-    requires { ⌜ RowSafe (now pattern) (now row) × (length (now pattern) ≡ rowWords) × (length (now row) ≡ matchBytes) × (load ≤ 255) ⌝ }
-    ensures { λ r. ⌜ ((l : Library) (m : Match) → RowHolds l (now (pattern .entry)) (now (row .entry)) m → InputsAre l m load time r) ⌝ }
+// The inputs of a hit, which drives a load and is to arrive by `time`, with its pattern's row.
+fn read_inputs<'a>(pattern: &'a [u32], hit: &'a [u8], load: u32, time: u32) -> Inputs
+    requires { ⌜ HitSafe (now pattern) (now hit) × (length (now pattern) ≡ rowWords) × (length (now hit) ≡ matchBytes) × (load ≤ 255) ⌝ }
+    ensures { λ r. ⌜ ((l : Library) (m : Match) → HitHolds l (now (pattern .entry)) (now (hit .entry)) m → InputsAre l m load time r) ⌝ }
 {
     let mut nodes = [0u8; 6];
     let mut loads = [0u8; 6];
     let mut bins = [0u8; 6];
     let mut times = [0u32; 6];
-    let count = row[Row::COUNT] as usize;
+    let count = hit[Hit::COUNT] as usize;
     let mut k: usize = 0;
     while k < count {
-        let at = Row::INPUTS + Row::INPUT * k;
-        let figures = PatternRow::FIGURES + PatternRow::PIN * row[at] as usize;
-        nodes[k] = row[at + Row::NODE];
+        let at = Hit::INPUTS + Hit::INPUT * k;
+        let figures = PatternRow::FIGURES + PatternRow::PIN * hit[at] as usize;
+        nodes[k] = hit[at + Hit::NODE];
         loads[k] = pattern[figures + PatternRow::LOAD] as u8;
         bins[k] = pattern[figures] as u8;
         times[k] = time_left(
@@ -113,8 +113,8 @@ fn read_inputs<'a>(pattern: &'a [u32], row: &'a [u8], load: u32, time: u32) -> I
         k += 1;
     }
     Inputs {
-        pattern: row[Row::PATTERN],
-        crossing: row[Row::CROSSING],
+        pattern: hit[Hit::PATTERN],
+        crossing: hit[Hit::CROSSING],
         count,
         nodes,
         loads,
@@ -145,11 +145,11 @@ fn choose_match<'a>(
         (goal.time + 1) as u64,
     );
     let count = matching::find_matches(rows, symbols, sizes, goal.node, found);
-    let first = Row::BYTES * first_reaching(rows, found, count, symbols, work, most, load, w);
-    let at = PatternRow::WORDS * found[first + Row::PATTERN] as usize;
+    let first = Hit::BYTES * first_reaching(rows, found, count, symbols, work, most, load, w);
+    let at = PatternRow::WORDS * found[first + Hit::PATTERN] as usize;
     read_inputs(
         &rows[at..at + PatternRow::WORDS],
-        &found[first..first + Row::BYTES],
+        &found[first..first + Hit::BYTES],
         load,
         (w % Limits::TIMES) as u32,
     )

@@ -7,14 +7,14 @@ use mathlib.Core.Logic.{⊎-elim}
 use mathlib.Core.List.{List, [], _∷_, List·Memᴰ, List·Memᴰ·head, List·Memᴰ·tail, List·Memᴰ·append-cases, List·Memᴰ·not-nil}
 use native.Mathlib.Nat.{mul-le-mul, mul-le-mul-right}
 use native.Mathlib.Omega.{arith}
-use Rattle.sheets.specs.Model.{Leaf, arrivalOf, Shape, size, leaves, Pin, Cell, Library, Pattern, drawn, patternsFrom, patterns}
-use Rattle.sheets.specs.Sound.{SoundLeaf}
+use Rattle.sheets_rules.specs.Model.{Leaf, arrivalOf, Shape, size, leaves, Pin, Cell, Library, Pattern, drawn, patternsFrom, patterns}
+use Rattle.sheets_rules.specs.Inside.Sound.{SoundLeaf}
 use Rattle.covers.specs.Match.{Input, Match, IsMatch, pinAt, pinLoad, delay}
 use Rattle.covers.specs.Cover.{Point, Cover, latestArrival, largestArea, IsCover, bare, matching, AreCovers, done, more, leafArrival, leafPoint, leafCover, nothing, beside, late, raised, together, delayed, topped, feeds, inputDelay}
 use Rattle.covers.specs.Enumeration.{covers}
 use Rattle.covers.specs.Tradeoff.{Node, nodes}
 use Rattle.covers.proofs.Basics.{at-in, at-all}
-use Rattle.covers.specs.Curve.{gates}
+use Rattle.covers.specs.Inside.Curve.{gates}
 use Rattle.covers.proofs.Matching.{gates-lt-size, Spread, next, match-inside}
 use Rattle.covers.proofs.Nodes.{input-in, leaves-within, node-ends}
 use Rattle.covers.proofs.Relation.{covers-are}

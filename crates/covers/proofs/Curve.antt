@@ -13,7 +13,7 @@ use borrow.Author.Tests.{lt-ltb, le-ltb}
 use Rattle.covers.specs.Cover.{Point, Cover}
 use Rattle.covers.specs.Tradeoff.{IsTradeoff, Climbing, top, step, tradeoffsOf, points}
 use Rattle.covers.specs.Choice.{least}
-use Rattle.covers.specs.Curve.{byDeadline, chained, curve, lookup}
+use Rattle.covers.specs.Inside.Curve.{byDeadline, chained, curve, lookup}
 use Rattle.covers.proofs.Basics.{tests, each}
 use Rattle.covers.proofs.Points.{Leq, smaller, earlier, leq-area, point-path}
 use Rattle.covers.proofs.Least.{In, IsLeast, LeastOf, absent, found, least-is}

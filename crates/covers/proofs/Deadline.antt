@@ -3,12 +3,12 @@ use Prim.Native.Nat.{ℕ, _-_}
 use mathlib.Core.Path.{_≡_, refl, ap, ap₂, _∙_}
 use mathlib.Core.List.{List, [], _∷_, map, flatMap}
 use mathlib.Core.Option.{Option, none, Option·map}
-use Rattle.sheets.specs.Model.{Pin, Cell}
+use Rattle.sheets_rules.specs.Model.{Pin, Cell}
 use Rattle.covers.specs.Match.{Input, Match}
 use Rattle.covers.specs.Cover.{Point, Cover, late, raised, nothing, delayed, topped, feeds, inputDelay}
 use Rattle.covers.specs.Enumeration.{inputCovers, matchCovers}
 use Rattle.covers.specs.Choice.{lesser, before, least}
-use Rattle.covers.specs.Curve.{both}
+use Rattle.covers.specs.Inside.Curve.{both}
 use Rattle.covers.proofs.Points.{lesser-none, late-carries, raised-carries, before-late, before-raised}
 use Rattle.covers.proofs.Least.{least-append, least-map, least-combined}
 

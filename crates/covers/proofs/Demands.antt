@@ -10,13 +10,12 @@ use borrow.Author.Tests.{le-leb}
 use Rattle.bits.specs.declared.Cursor.{Cursor}
 use Rattle.fields.specs.declared.Scan.{Scan}
 use Rattle.fields.specs.declared.Scan.the-variants.{At}
-use Rattle.fields.specs.Promises.{Live}
-use Rattle.fields.specs.Reading.{start}
+use Rattle.fields.specs.Reading.{Live, start}
 use Rattle.fields.specs.Answer.{Answer, refused, success, onSuccess}
-use Rattle.sheets.specs.Model.{Library, Tree}
-use Rattle.sheets.specs.LibrarySheet.{library}
-use Rattle.sheets.specs.TreeSheet.{tree}
-use Rattle.sheets.proofs.Sound.{library-limits, tree-limits}
+use Rattle.sheets_rules.specs.Model.{Library, Tree}
+use Rattle.sheets_rules.specs.LibrarySheet.{library}
+use Rattle.sheets_rules.specs.TreeSheet.{tree}
+use Rattle.sheets_rules.proofs.Sound.{library-limits, tree-limits}
 use Rattle.covers.specs.Capacity.{capacity, workWords}
 use Rattle.covers.specs.Cover.{Point, Cover}
 use Rattle.covers.specs.Tradeoff.{Node, considered}

@@ -4,11 +4,11 @@ use mathlib.Core.Path.{_≡_, sym, ap, ap₂, subst, _∙_}
 use mathlib.Core.List.{List, head-eq-of-cons-eq, tail-eq-of-cons-eq}
 use mathlib.Core.Option.{Option·some-injective}
 use native.Mathlib.Omega.{arith}
-use Rattle.sheets.specs.Model.{Shape, Cell, Library}
+use Rattle.sheets_rules.specs.Model.{Shape, Cell, Library}
 use Rattle.covers.specs.Match.{Input, Match, IsMatch}
 use Rattle.covers.specs.Cover.{Cover, IsCover, bare, matching, AreCovers, done, more, nothing, leafCover, together, delayed, topped, inputDelay}
 use Rattle.covers.proofs.Ascending.{ascending-parts}
-use Rattle.covers.specs.Curve.{gates}
+use Rattle.covers.specs.Inside.Curve.{gates}
 use Rattle.covers.proofs.Matching.{Spread, next, match-inside}
 use Rattle.covers.proofs.Listing.{cover-ascends, inputs-ascend}
 

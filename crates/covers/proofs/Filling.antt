@@ -7,14 +7,14 @@ use mathlib.Core.List.{List, [], _∷_, List·Memᴰ, List·Memᴰ·head, List·
 use mathlib.Core.Option.{Option, some, Option·map}
 use native.Mathlib.Omega.{arith}
 use lib.ListN.{length, getD}
-use Rattle.sheets.specs.Model.{Shape, leaf, inv, nand, size, Pin, Cell, Library}
+use Rattle.sheets_rules.specs.Model.{Shape, leaf, inv, nand, size, Pin, Cell, Library}
 use Rattle.covers.specs.Match.{Input, Match, IsMatch, matches, pinAt, pinLoad}
 use Rattle.covers.specs.Cover.{Point, late, raised, leafPoint, leafCover, feeds, inputDelay}
 use Rattle.covers.specs.Enumeration.{matchCovers, gateCovers, under, coversStep, covers, allBelow}
 use Rattle.covers.specs.Tradeoff.{nodes}
 use Rattle.covers.specs.Choice.{lesser, before, least, reaches}
 use Rattle.covers.proofs.Basics.{lt-or-le, at-all}
-use Rattle.covers.specs.Curve.{both, curve, Filled, gates, lookup}
+use Rattle.covers.specs.Inside.Curve.{both, curve, Filled, gates, lookup}
 use Rattle.covers.proofs.Points.{lesser-none}
 use Rattle.covers.proofs.Least.{In, IsLeast}
 use Rattle.covers.proofs.Deadline.{bestInputs, bestMatch, bestOf, leastInput, deadline-match, deadline}

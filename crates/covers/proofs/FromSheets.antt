@@ -4,8 +4,8 @@ use mathlib.Core.Path.{ap}
 use mathlib.Core.List.{List, List·Memᴰ}
 use native.Mathlib.Omega.{arith}
 use lib.ListN.{length}
-use Rattle.sheets.specs.Model.{Library, Tree}
-use Rattle.sheets.specs.Sound.{SoundLibrary, SoundTree}
+use Rattle.sheets_rules.specs.Model.{Library, Tree}
+use Rattle.sheets_rules.specs.Inside.Sound.{SoundLibrary, SoundTree}
 use Rattle.covers.specs.Capacity.{capacity}
 use Rattle.covers.specs.Cover.{Point, Cover, latestArrival, largestArea}
 use Rattle.covers.specs.Tradeoff.{IsTradeoff}

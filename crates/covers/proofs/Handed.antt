@@ -9,7 +9,7 @@ use native.Mathlib.Nat.{le-refl}
 use native.Mathlib.Omega.{arith}
 use lib.Dec.{leb}
 use borrow.Author.Tests.{le-leb, lt-leb}
-use Rattle.sheets.specs.Model.{Leaf, Shape, leaf, inv, nand, size, Pin, Cell, Library}
+use Rattle.sheets_rules.specs.Model.{Leaf, Shape, leaf, inv, nand, size, Pin, Cell, Library}
 use Rattle.covers.specs.Match.{Input, Match, matches, pinLoad}
 use Rattle.covers.specs.Cover.{Point, Cover, IsCover, bare, matching, AreCovers, done, more, leafArrival, leafCover, nothing, late, raised, together, delayed, topped, feeds, inputDelay}
 use Rattle.covers.specs.Enumeration.{inputCovers, matchCovers, gateCovers, under, coversStep, covers, allBelow}
@@ -18,7 +18,7 @@ use Rattle.covers.specs.Choice.{lesser, before, least, reaches, bothChos
 use Rattle.covers.specs.Crossing.{crossingLimit}
 use Rattle.covers.specs.Promise.{firstPlaced, rootPattern, rootCrossing, Handed}
 use Rattle.covers.proofs.Basics.{lt-or-le, before-next, by-then, any-true, true-any, FirstOf, nowhere, somewhere, first-of, in-flatMap, of-flatMap}
-use Rattle.covers.specs.Curve.{both, gates}
+use Rattle.covers.specs.Inside.Curve.{both, gates}
 use Rattle.covers.proofs.Points.{same-true, same-refl, Leq, smaller, earlier, leq-area, before-yes, before-no}
 use Rattle.covers.proofs.Least.{IsLeast, LeastOf, absent, found, In, least-is, least-some, least-none, is-least}
 use Rattle.covers.proofs.Deadline.{bestInputs, bestMatch, leastInput, deadline-match}

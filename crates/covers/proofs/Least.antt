@@ -11,7 +11,7 @@ use Rattle.covers.specs.Cover.{Point, Cover, together}
 use Rattle.covers.specs.Enumeration.{combined}
 use Rattle.covers.specs.Choice.{pick, lesser, before, least}
 use Rattle.covers.proofs.Basics.{tests, each}
-use Rattle.covers.specs.Curve.{both}
+use Rattle.covers.specs.Inside.Curve.{both}
 use Rattle.covers.proofs.Points.{Leq, leq-refl, leq-trans, leq-antisym, leq-total, pick-left, pick-right, lesser-assoc, Carries, both-lesser, both-carries, before-beside}
 
 pub least-append : (end : ℕ) (cs ds : List Cover) → least end (cs ++ ds) ≡ lesser (least end cs) (least end ds)

@@ -6,14 +6,14 @@ use mathlib.Core.List.{List, [], _∷_, _++_, List·Memᴰ, List·Memᴰ·not-ni
 use native.Mathlib.Nat.{le-refl, le-add-right, zero-add, add-assoc}
 use native.Mathlib.Omega.{arith}
 use lib.ListN.{getElem?, length, length-append}
-use Rattle.sheets.specs.Model.{Shape, size, Cell, Library, patterns}
+use Rattle.sheets_rules.specs.Model.{Shape, size, Cell, Library, patterns}
 use Rattle.covers.specs.Crossing.{crossingLimit}
 use Rattle.covers.specs.Match.{Input}
 use Rattle.covers.specs.Cover.{Placed, Cover, IsCover, bare, matching, AreCovers, done, more, leafPoint, leafCover, nothing, beside, late, raised, together, delayed, topped}
 use Rattle.covers.specs.Promise.{cellArea, listedArea}
 use Rattle.covers.proofs.Basics.{each, at-below}
 use Rattle.covers.proofs.Ascending.{Ascending, end, then, lowered, ascending-append}
-use Rattle.covers.specs.Curve.{gates}
+use Rattle.covers.specs.Inside.Curve.{gates}
 use Rattle.covers.proofs.Matching.{Spread, last, next, match-inside, crossing-small}
 
 module _ {l : Library} where

@@ -9,10 +9,10 @@ use native.Mathlib.Nat.{zero-add, le-refl, le-add-left, le-add-right}
 use native.Mathlib.Omega.{arith}
 use lib.ListN.{getElem?, length}
 use lib.Dec.{leb, ltb, eqb}
-use Rattle.sheets.specs.Model.{pinOf, Shape, leaf, inv, nand, size, nands, Library, Pattern, patterns}
+use Rattle.sheets_rules.specs.Model.{pinOf, Shape, leaf, inv, nand, size, nands, Library, Pattern, patterns}
 use Rattle.covers.specs.Crossing.{crossingLimit, redrawn, isCrossing, counted, crossings}
 use Rattle.covers.specs.Match.{Input, joined, laid, matched, usable, legal, Match, IsMatch, putFirst, fittingUnder, fittingFrom, fitting, matches}
-use Rattle.covers.specs.Curve.{gates}
+use Rattle.covers.specs.Inside.Curve.{gates}
 use Rattle.covers.proofs.Basics.{tests, lt-or-le, of-select, in-select}
 use Rattle.covers.proofs.Ascending.{Ascending, end, then, lowered, ascending-append, select-ascends}
 

@@ -6,7 +6,7 @@ use mathlib.Core.List.{List, _++_, List·Memᴰ, List·Memᴰ·head, List·Mem�
 use mathlib.Core.Option.{Option, some, Option·none-ne-some}
 use native.Mathlib.Nat.{le-refl}
 use native.Mathlib.Omega.{arith}
-use Rattle.sheets.specs.Model.{Leaf, pinOf, Shape, leaf, inv, nand, size, leaves, Library}
+use Rattle.sheets_rules.specs.Model.{Leaf, pinOf, Shape, leaf, inv, nand, size, leaves, Library}
 use Rattle.covers.specs.Crossing.{redrawn}
 use Rattle.covers.specs.Match.{Input, joined, laid, matched, Match, IsMatch}
 use Rattle.covers.specs.Tradeoff.{Node, nodes}

@@ -10,7 +10,7 @@ use native.Mathlib.Omega.{arith}
 use lib.Dec.{ltb}
 use lib.ListN.{length}
 use borrow.Author.Tests.{lt-ltb}
-use Rattle.sheets.specs.Model.{Shape, leaf, inv, nand, size, Library, Tree}
+use Rattle.sheets_rules.specs.Model.{Shape, leaf, inv, nand, size, Library, Tree}
 use Rattle.covers.specs.Enumeration.{covers}
 use Rattle.covers.specs.Tradeoff.{points, tradeoffs, TooMany, Node, nodes, considered, overfull, orElse, lastSuch, overfullNode}
 use Rattle.covers.proofs.Basics.{tests, each, any-true, true-any}

@@ -10,7 +10,7 @@ use borrow.Author.Tests.{eqb-false, lt-ltb, le-ltb, eq-eqb}
 use Rattle.covers.specs.Cover.{Point, beside, late, raised}
 use Rattle.covers.specs.Tradeoff.{same}
 use Rattle.covers.specs.Choice.{cheaper, pick, lesser, before}
-use Rattle.covers.specs.Curve.{both}
+use Rattle.covers.specs.Inside.Curve.{both}
 use Rattle.covers.proofs.Basics.{tests, lt-or-le}
 
 pub point-path : {p q : Point} → p .area ≡ q .area → p .arrival ≡ q .arrival → p ≡ q

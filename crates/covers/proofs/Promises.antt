@@ -6,7 +6,7 @@ use mathlib.Core.List.{List, [], _∷_, List·Memᴰ·head, List·Memᴰ·not-ni
 use mathlib.Core.Option.{Option, none, some}
 use native.Mathlib.Omega.{arith}
 use Rattle.fields.specs.Answer.{Answer, refused, success}
-use Rattle.sheets.specs.Model.{Library, Tree}
+use Rattle.sheets_rules.specs.Model.{Library, Tree}
 use Rattle.covers.specs.Cover.{Point, Cover}
 use Rattle.covers.specs.Enumeration.{covers}
 use Rattle.covers.specs.Tradeoff.{Climbing, points, tradeoffs, Node, nodes, TooMany, overfull, overfullNode}

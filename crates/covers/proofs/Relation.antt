@@ -3,7 +3,7 @@ use Prim.Native.Nat.{ℕ, _<_}
 use mathlib.Core.Path.{refl, sym, ap, _∙_}
 use mathlib.Core.List.{List, [], _∷_, map, List·Memᴰ, List·Memᴰ·head, List·Memᴰ·tail, List·Memᴰ·eq-of-singleton, Memᴰ·map, Memᴰ·of-map, Memᴰ·cast}
 use native.Mathlib.Omega.{arith}
-use Rattle.sheets.specs.Model.{Shape, leaf, inv, nand, size, Cell, Library}
+use Rattle.sheets_rules.specs.Model.{Shape, leaf, inv, nand, size, Cell, Library}
 use Rattle.covers.specs.Match.{Input, matches}
 use Rattle.covers.specs.Cover.{Cover, IsCover, bare, matching, AreCovers, done, more, nothing, together, delayed, topped, feeds, inputDelay}
 use Rattle.covers.specs.Enumeration.{combined, inputCovers, matchCovers, gateCovers, under, coversStep, covers, allBelow}

@@ -8,15 +8,15 @@ use native.Mathlib.Omega.{arith}
 use lib.Dec.{leb, ltb}
 use lib.ListN.{length, take}
 use Rattle.fields.specs.Answer.{Answer}
-use Rattle.sheets.specs.Model.{Leaf, leaf, Library}
+use Rattle.sheets_rules.specs.Model.{Leaf, leaf, Library}
 use Rattle.covers.specs.Crossing.{redrawn, crossings}
 use Rattle.covers.specs.Cover.{Point, Cover, leafArrival, leafPoint, leafCover}
 use Rattle.covers.specs.Choice.{choiceStep}
 use Rattle.covers.specs.Capacity.{capacity}
 use Rattle.covers.specs.Answer.{answered, mapped}
-use Rattle.covers.specs.Specimens.{specimen, tree, Case, cases, Specimens}
-use Rattle.covers.specs.Exchanges.{Redrawings, Crossings, Exchanges}
-use Rattle.covers.specs.Drivers.{Drivers}
+use Rattle.covers.specs.Examples.Specimens.{specimen, tree, Case, cases, Specimens}
+use Rattle.covers.specs.Examples.Exchanges.{Redrawings, Crossings, Exchanges}
+use Rattle.covers.specs.Examples.Drivers.{Drivers}
 use Rattle.covers.proofs.Tradeoffs.{leaf-tradeoffs}
 use Rattle.covers.proofs.Unroll.{choice-unroll}
 

@@ -9,7 +9,7 @@ use native.Mathlib.Omega.{arith}
 use lib.Dec.{leb, ltb}
 use lib.ListN.{length}
 use borrow.Author.Tests.{le-leb, not-true, not-false}
-use Rattle.sheets.specs.Model.{Leaf, Shape, leaf, Library}
+use Rattle.sheets_rules.specs.Model.{Leaf, Shape, leaf, Library}
 use Rattle.covers.specs.Lists.{keepIf, select}
 use Rattle.covers.specs.Cover.{Point, Cover, IsCover, leafPoint}
 use Rattle.covers.specs.Enumeration.{coversStep, covers}

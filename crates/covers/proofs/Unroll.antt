@@ -5,13 +5,13 @@ use mathlib.Core.List.{List, [], _∷_, _++_, map, flatMap, List·Memᴰ, List·
 use mathlib.Core.Option.{Option, none, some, Option·map}
 use native.Mathlib.Nat.{le-refl}
 use native.Mathlib.Omega.{arith}
-use Rattle.sheets.specs.Model.{Shape, leaf, inv, nand, size, Pin, Cell, Library}
+use Rattle.sheets_rules.specs.Model.{Shape, leaf, inv, nand, size, Pin, Cell, Library}
 use Rattle.covers.specs.Match.{Input, Match, matches}
 use Rattle.covers.specs.Cover.{Point, Cover, delayed, topped, feeds, inputDelay}
 use Rattle.covers.specs.Enumeration.{combined, deepened, throughout, inputCovers, matchCovers, gateCovers, under, coversStep, covers, allBelow}
 use Rattle.covers.specs.Choice.{least, reaches, bothChosen, chosenInputs, withInputs, firstReaching, gateChoice, choiceStep, choice}
 use Rattle.covers.proofs.Basics.{FirstOf, nowhere, somewhere, first-of}
-use Rattle.covers.specs.Curve.{gates}
+use Rattle.covers.specs.Inside.Curve.{gates}
 use Rattle.covers.proofs.Matching.{size-pos, matches-are, input-smaller}
 
 module _ {A : Type 0} (base : A) (step : (ℕ → ℕ → Shape → A) → ℕ → ℕ → Shape → A) where

@@ -3,7 +3,7 @@ use Prim.Native.Nat.{ℕ}
 use mathlib.Core.List.{List, [], _∷_}
 use mathlib.Core.Option.{Option, none, some}
 use Rattle.fields.specs.Answer.{Answer, refused, success, onSuccess}
-use Rattle.sheets.specs.Model.{Library, Tree}
+use Rattle.sheets_rules.specs.Model.{Library, Tree}
 use Rattle.covers.specs.Cover.{Point, Cover}
 use Rattle.covers.specs.Tradeoff.{tradeoffs, overfullNode}
 use Rattle.covers.specs.Choice.{choice}

@@ -4,7 +4,7 @@ use mathlib.Core.Bool.{Bool, _&&_, _||_, cond}
 use mathlib.Core.List.{List, [], _∷_}
 use mathlib.Core.Option.{Option, none, some, Option·map}
 use lib.Dec.{leb, ltb, eqb}
-use Rattle.sheets.specs.Model.{Shape, leaf, inv, nand, Pin, Cell, Library}
+use Rattle.sheets_rules.specs.Model.{Shape, leaf, inv, nand, Pin, Cell, Library}
 use Rattle.covers.specs.Lists.{any, firstSuch}
 use Rattle.covers.specs.Match.{Input, Match, matches}
 use Rattle.covers.specs.Cover.{Point, Cover, leafArrival, leafCover, nothing, together, delayed, topped, feeds, inputDelay}

@@ -2,7 +2,7 @@
 use Prim.Native.Nat.{ℕ, _+_, _*_, max}
 use mathlib.Core.Path.{_≡_}
 use mathlib.Core.List.{List, [], _∷_, _++_}
-use Rattle.sheets.specs.Model.{Leaf, arrivalOf, Shape, leaf, Pin, Cell, Library}
+use Rattle.sheets_rules.specs.Model.{Leaf, arrivalOf, Shape, leaf, Pin, Cell, Library}
 use Rattle.covers.specs.Match.{Input, Match, IsMatch, pinAt, pinLoad, delay}
 
 -- What a cover costs: its area, and the arrival at its root.

@@ -3,10 +3,10 @@ use Prim.Native.Nat.{ℕ, zero, suc, _+_, _-_, _/_, _%_, _^_}
 use mathlib.Core.Bool.{Bool, true, false, _&&_}
 use mathlib.Core.List.{List, [], _∷_}
 use lib.Dec.{eqb, ltb}
-use Rattle.sheets.specs.Model.{Shape, leaf, inv, nand, nands}
+use Rattle.sheets_rules.specs.Model.{Shape, leaf, inv, nand, nands}
 use Rattle.covers.specs.Lists.{select}
 
--- A crossing number is five bits "read as one number, first bit highest"; these are so many numbers.
+-- A crossing number is five bits "read as one number, first bit highest"; how many such numbers there are.
 abbrev pub crossingLimit : ℕ
 crossingLimit = 2 ^ 5
 
@@ -36,7 +36,7 @@ unfoldable pub isCrossing : Shape → ℕ → Bool
 unfolding nands
 isCrossing d x = ltb x crossingLimit && eqb (x % 2 ^ (5 - nands d)) 0
 
--- So many numbers from k on.
+-- `count` numbers from k on.
 unfoldable pub counted : ℕ → ℕ → List ℕ
 counted k zero = []
 counted k (suc n) = k ∷ counted (suc k) n

@@ -7,9 +7,9 @@ use Rattle.bits.specs.declared.Cursor.{Cursor}
 use Rattle.fields.specs.declared.Scan.the-variants.{At}
 use Rattle.fields.specs.Reading.{start}
 use Rattle.fields.specs.Answer.{Answer, refused, success}
-use Rattle.sheets.specs.Model.{Library, Tree}
-use Rattle.sheets.specs.LibrarySheet.{library}
-use Rattle.sheets.specs.TreeSheet.{tree}
+use Rattle.sheets_rules.specs.Model.{Library, Tree}
+use Rattle.sheets_rules.specs.LibrarySheet.{library}
+use Rattle.sheets_rules.specs.TreeSheet.{tree}
 use Rattle.covers.specs.Capacity.{capacity, workWords}
 use Rattle.covers.specs.Cover.{Cover}
 use Rattle.covers.specs.Tradeoff.{Node, nodes, TooMany}

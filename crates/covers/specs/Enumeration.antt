@@ -1,7 +1,7 @@
 -- The list of every cover of a node under a load. It computes what the relation says.
 use Prim.Native.Nat.{ℕ, zero, suc}
 use mathlib.Core.List.{List, [], _∷_, map, flatMap}
-use Rattle.sheets.specs.Model.{Shape, leaf, inv, nand, size, Pin, Cell, Library}
+use Rattle.sheets_rules.specs.Model.{Shape, leaf, inv, nand, size, Pin, Cell, Library}
 use Rattle.covers.specs.Match.{Input, Match, matches, pinLoad}
 use Rattle.covers.specs.Cover.{Cover, leafCover, nothing, together, delayed, topped, feeds, inputDelay}
 

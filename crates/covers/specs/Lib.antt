@@ -12,7 +12,5 @@ pub mod Answer
 pub mod Outcome
 pub mod Promise
 pub mod Demands
-pub mod Specimens
-pub mod Exchanges
-pub mod Drivers
-pub mod Curve
+pub mod Examples
+pub mod Inside

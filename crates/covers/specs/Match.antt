@@ -6,7 +6,7 @@ use mathlib.Core.List.{List, [], _∷_, _++_}
 use mathlib.Core.Option.{Option, none, some}
 use lib.ListN.{getD, getElem?}
 use lib.Dec.{leb}
-use Rattle.sheets.specs.Model.{pinOf, Shape, leaf, inv, nand, size, Pin, binLoadOf, Cell, Library, Pattern, patterns, patternsFrom, drawn}
+use Rattle.sheets_rules.specs.Model.{pinOf, Shape, leaf, inv, nand, size, Pin, binLoadOf, Cell, Library, Pattern, patterns, patternsFrom, drawn}
 use Rattle.covers.specs.Lists.{select}
 use Rattle.covers.specs.Crossing.{redrawn, isCrossing, crossings}
 

@@ -8,10 +8,10 @@ use Rattle.fields.specs.declared.Scan.{Scan}
 use Rattle.fields.specs.declared.Scan.the-variants.{At, Refused}
 use Rattle.fields.specs.Reading.{start}
 use Rattle.fields.specs.Answer.{Answer, refused, success, onSuccess}
-use Rattle.sheets.specs.Model.{Library, Tree}
-use Rattle.sheets.specs.LibrarySheet.{library}
-use Rattle.sheets.specs.TreeSheet.{tree}
-use Rattle.sheets.specs.Report.{afterLibrary, treeNumber}
+use Rattle.sheets_rules.specs.Model.{Library, Tree}
+use Rattle.sheets_rules.specs.LibrarySheet.{library}
+use Rattle.sheets_rules.specs.TreeSheet.{tree}
+use Rattle.sheets_rules.specs.Report.{afterLibrary, treeNumber}
 use Rattle.covers.specs.Capacity.{capacity, workWords}
 use Rattle.covers.specs.Answer.{shortNumber, overfullNumber, noCoverNumber, mapAnswer, listAnswer}
 

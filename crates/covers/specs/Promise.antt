@@ -5,7 +5,7 @@ use mathlib.Core.Logic.{_↔_}
 use mathlib.Core.List.{List, [], _∷_, List·Memᴰ}
 use mathlib.Core.Option.{Option, none, some}
 use lib.ListN.{getElem?}
-use Rattle.sheets.specs.Model.{Shape, Library, Tree, Pattern, patterns}
+use Rattle.sheets_rules.specs.Model.{Shape, Library, Tree, Pattern, patterns}
 use Rattle.covers.specs.Cover.{Point, Placed, Cover, IsCover}
 use Rattle.covers.specs.Tradeoff.{IsTradeoff, Climbing, Node, nodes, TooMany}
 

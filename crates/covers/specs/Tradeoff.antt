@@ -6,7 +6,7 @@ use mathlib.Core.List.{List, [], _∷_, _++_, map, foldr, List·Memᴰ}
 use mathlib.Core.Option.{Option, none, some}
 use lib.ListN.{length}
 use lib.Dec.{leb, ltb, eqb}
-use Rattle.sheets.specs.Model.{Shape, leaf, inv, nand, size, Library, Tree}
+use Rattle.sheets_rules.specs.Model.{Shape, leaf, inv, nand, size, Library, Tree}
 use Rattle.covers.specs.Lists.{any, select}
 use Rattle.covers.specs.Cover.{Point, Cover, IsCover}
 use Rattle.covers.specs.Enumeration.{covers}

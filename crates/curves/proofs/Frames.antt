@@ -16,12 +16,12 @@ use Rattle.fields.proofs.Lists.{sets-append}
 use Rattle.covers.specs.Cover.{Point, late, raised, leafPoint}
 use Rattle.covers.specs.Choice.{before, lesser}
 use Rattle.covers.proofs.Basics.{lt-or-le}
-use Rattle.covers.specs.Curve.{base, both, byDeadline, chained, lookup, pointOf, wordOf}
-use Rattle.curves.specs.Words.{absent, pointLimit, matchLimit, stored, slot, curveAt, Small, AgreeFrom}
-use Rattle.curves.specs.Best.{rowOf, patternOf, rowArea, rowLegal, rowCount, inputNode, inputBin, inputLoad, rowDelay, inputBest, inputLate, inputsBest, rowBest, legalBest, rowsBest, Above}
-use Rattle.curves.specs.Promises.{Worth, matchBefore, AllRising, bestBefore, nodePoints, PointsFit, Kept, Least, CurveStored, Fit}
+use Rattle.covers.specs.Inside.Curve.{base, both, byDeadline, chained, lookup, pointOf, wordOf}
+use Rattle.curves.specs.Inside.Words.{absent, pointLimit, matchLimit, stored, slot, curveAt, Small, AgreeFrom}
+use Rattle.curves.specs.Inside.Best.{hitAt, patternOf, rowArea, rowLegal, hitCount, inputNode, inputBin, inputLoad, hitDelay, inputBest, inputLate, inputsBest, hitBest, legalBest, hitsBest, Above}
+use Rattle.curves.specs.Inside.Promises.{Worth, matchBefore, AllRising, bestBefore, nodePoints, PointsFit, Kept, Least, CurveStored, Fit}
 use Rattle.curves.proofs.Laws.{word-point, point-word, apart, part-word}
-use Rattle.overlay.specs.Held.{leafOf}
+use Rattle.leaves.specs.Inside.Leaf.{leafOf}
 
 -- ---- the other curves
 
@@ -53,33 +53,33 @@ module _ (most : ℕ) (symbols work work′ : List ℕ) (m : ℕ) (a : AgreeFrom
   input-same node bin load end h =
       ap (λ (ws : List ℕ). cond (leb 2 (getD symbols node 0)) (before end (leafPoint (leafOf (getD symbols node 0)) load)) (lookup end (stored ws))) (a (4 * node + bin) (omega arith))
 
-  inputs-same : (pattern row : List ℕ) (load end n k : ℕ) → ((i : ℕ) → i < k + n → m ≤ 4 * inputNode pattern row i) →
-      inputsBest most symbols work pattern row load end k n ≡ inputsBest most symbols work′ pattern row load end k n
+  inputs-same : (pattern hit : List ℕ) (load end n k : ℕ) → ((i : ℕ) → i < k + n → m ≤ 4 * inputNode pattern hit i) →
+      inputsBest most symbols work pattern hit load end k n ≡ inputsBest most symbols work′ pattern hit load end k n
   unfolding inputsBest inputLate
-  inputs-same pattern row load end zero k h = refl
-  inputs-same pattern row load end (suc n) k h =
-      let d = rowDelay pattern row k load in
+  inputs-same pattern hit load end zero k h = refl
+  inputs-same pattern hit load end (suc n) k h =
+      let d = hitDelay pattern hit k load in
       ap₂ (λ (o o′ : Option Point). both (Option·map (late d) o) o′)
-      (input-same (inputNode pattern row k) (inputBin pattern row k) (inputLoad pattern row k) (end - d) (h k (omega arith)))
-      (inputs-same pattern row load end n (suc k) (λ i l. h i (omega arith)))
+      (input-same (inputNode pattern hit k) (inputBin pattern hit k) (inputLoad pattern hit k) (end - d) (h k (omega arith)))
+      (inputs-same pattern hit load end n (suc k) (λ i l. h i (omega arith)))
 
 -- What is read of later nodes' curves alone is the same where those are.
 module _ (most : ℕ) (symbols work work′ : List ℕ) (at : ℕ) (a : AgreeFrom most (at + 1) work work′) (rows found : List ℕ) (load n : ℕ) (above : Above at found n) where
   match-same : (j : ℕ) → j < n → (end : ℕ) → matchBefore most symbols work rows found load j end ≡ matchBefore most symbols work′ rows found load j end
-  unfolding legalBest rowBest
+  unfolding legalBest hitBest
   match-same j l end =
-      let row = rowOf found j in
-      let pattern = patternOf rows row in
+      let hit = hitAt found j in
+      let pattern = patternOf rows hit in
       ap (λ (o : Option Point). cond (rowLegal pattern load) (Option·map (raised (rowArea pattern)) o) none)
-      (inputs-same most symbols work work′ (at + 1) a pattern row load end (rowCount row) 0 (λ i h. omega (arith, above j l i (omega arith))))
+      (inputs-same most symbols work work′ (at + 1) a pattern hit load end (hitCount hit) 0 (λ i h. omega (arith, above j l i (omega arith))))
 
-  rows-upto : (end k : ℕ) → k ≤ n → rowsBest most symbols work rows found load end k ≡ rowsBest most symbols work′ rows found load end k
-  unfolding rowsBest
-  rows-upto end zero h = refl
-  rows-upto end (suc k) h = ap₂ lesser (rows-upto end k (omega arith)) (match-same k (omega arith) end)
+  hits-upto : (end k : ℕ) → k ≤ n → hitsBest most symbols work rows found load end k ≡ hitsBest most symbols work′ rows found load end k
+  unfolding hitsBest
+  hits-upto end zero h = refl
+  hits-upto end (suc k) h = ap₂ lesser (hits-upto end k (omega arith)) (match-same k (omega arith) end)
 
-  pub rows-same : (end : ℕ) → rowsBest most symbols work rows found load end n ≡ rowsBest most symbols work′ rows found load end n
-  rows-same end = rows-upto end n (omega arith)
+  pub hits-same : (end : ℕ) → hitsBest most symbols work rows found load end n ≡ hitsBest most symbols work′ rows found load end n
+  hits-same end = hits-upto end n (omega arith)
 
   pub kept-same : {end : ℕ} {kept : List ℕ} → Kept most symbols work rows found load n end kept → Kept most symbols work′ rows found load n end kept
   kept-same {kept = kept} k = record {
@@ -142,12 +142,12 @@ module _ {most : ℕ} {symbols work rows found : List ℕ} {load count at k end 
   growing-kept = kept-same most symbols work work′ at (λ j le. sym (agrees j le)) rows found load count above (g .lasting)
 
   -- The next point, if there is one.
-  step : (o : Option Point) → rowsBest most symbols work′ rows found load end count ≡ o →
+  step : (o : Option Point) → hitsBest most symbols work′ rows found load end count ≡ o →
       nodePoints most symbols work rows found load count ≡ g .points ++ chained o (λ p. byDeadline (most - k) (bestBefore most symbols work rows found load count) (p .arrival))
   unfolding byDeadline
   step o e =
       let left : most + 1 - k ≡ suc (most - k) = omega (arith, g .few) in
-      rw (left, ← rows-same most symbols work′ work at agrees rows found load count above end, e) at (g .so-far)
+      rw (left, ← hits-same most symbols work′ work at agrees rows found load count above end, e) at (g .so-far)
 
   finished : (ps : List Point) (r : ℕ) → nodePoints most symbols work rows found load count ≡ ps → r ≡ length ps → take most ps ≡ g .points → CurveStored most symbols work rows found load count at work′ r
   finished ps r e l t = record { counted = rw e l; laid = rw (e, t) (g .laid); small = g .small }
@@ -169,7 +169,7 @@ module _ {most : ℕ} {symbols work rows found : List ℕ} {load count at k end 
     unfolding chained pointOf
     growing-next n m fit l =
         let left : most - k ≡ most + 1 - (k + 1) = omega (arith, g .few) in
-        let now : bestBefore most symbols work rows found load count end ≡ some (pointOf w) = sym (rows-same most symbols work′ work at agrees rows found load count above end) ∙ o .least .point n in
+        let now : bestBefore most symbols work rows found load count end ≡ some (pointOf w) = sym (hits-same most symbols work′ work at agrees rows found load count above end) ∙ o .least .point n in
         let earlier : w % base ≤ end = omega (arith, o .least .intime n) in
         record {
           points = g .points ++ (pointOf w ∷ []);

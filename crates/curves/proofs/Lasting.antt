@@ -12,15 +12,15 @@ use lib.Dec.{leb}
 use lib.ListN.{length, getD, set}
 use Rattle.covers.specs.Cover.{Point, late, raised, beside, leafPoint}
 use Rattle.covers.specs.Choice.{before}
-use Rattle.covers.specs.Curve.{base, both, lookup, pointOf, wordOf}
+use Rattle.covers.specs.Inside.Curve.{base, both, lookup, pointOf, wordOf}
 use Rattle.covers.proofs.Basics.{lt-or-le}
 use Rattle.covers.proofs.Points.{both-carries}
-use Rattle.curves.specs.Words.{absent, matchLimit, tableOf}
-use Rattle.curves.specs.Best.{rowOf, patternOf, rowArea, rowLegal, rowCount, inputNode, inputBin, inputLoad, rowDelay, inputBest, inputLate, inputsBest, rowBest, legalBest}
-use Rattle.curves.specs.Promises.{Worth, matchBefore, Rising, Kept}
+use Rattle.curves.specs.Inside.Words.{absent, matchLimit, tableOf}
+use Rattle.curves.specs.Inside.Best.{hitAt, patternOf, rowArea, rowLegal, hitCount, inputNode, inputBin, inputLoad, hitDelay, inputBest, inputLate, inputsBest, hitBest, legalBest}
+use Rattle.curves.specs.Inside.Promises.{Worth, matchBefore, Rising, Kept}
 use Rattle.curves.proofs.Laws.{word-point, point-word, word-arrival, worth-point, worth-none}
 use Rattle.curves.proofs.Frames.{set-each}
-use Rattle.overlay.specs.Held.{leafOf}
+use Rattle.leaves.specs.Inside.Leaf.{leafOf}
 
 -- From a least point to that before an earlier instant: it is the same if it is still in time, and none stays none.
 data Stays (end : ℕ) : Option Point → Option Point → Type 0 where
@@ -56,18 +56,18 @@ module _ (most : ℕ) (symbols work : List ℕ) where
   unfolding inputBest before lookup
   input-stays h node bin load = cond-stays (leb 2 (getD symbols node 0)) (lookup-stays h (leafPoint (leafOf (getD symbols node 0)) load ∷ [])) (lookup-stays h (tableOf most work node bin))
 
-  module _ (pattern row : List ℕ) (load : ℕ) {end end′ : ℕ} (h : end′ ≤ end) where
-    inputs-stay : (n k : ℕ) → Stays end′ (inputsBest most symbols work pattern row load end k n) (inputsBest most symbols work pattern row load end′ k n)
+  module _ (pattern hit : List ℕ) (load : ℕ) {end end′ : ℕ} (h : end′ ≤ end) where
+    inputs-stay : (n k : ℕ) → Stays end′ (inputsBest most symbols work pattern hit load end k n) (inputsBest most symbols work pattern hit load end′ k n)
     unfolding inputsBest inputLate before lookup late
     inputs-stay zero k = lookup-stays h (record { area = 0; arrival = 0 } ∷ [])
     inputs-stay (suc n) k =
-        let d = rowDelay pattern row k load in
+        let d = hitDelay pattern hit k load in
         let less : end′ - d ≤ end - d = omega arith in
-        both-stays (map-stays (late d) (λ p t. omega arith) (input-stays less (inputNode pattern row k) (inputBin pattern row k) (inputLoad pattern row k))) (inputs-stay n (suc k))
+        both-stays (map-stays (late d) (λ p t. omega arith) (input-stays less (inputNode pattern hit k) (inputBin pattern hit k) (inputLoad pattern hit k))) (inputs-stay n (suc k))
 
-    match-stays : Stays end′ (legalBest most symbols work pattern row load end) (legalBest most symbols work pattern row load end′)
-    unfolding legalBest rowBest raised
-    match-stays = cond-stays (rowLegal pattern load) (map-stays (raised (rowArea pattern)) (λ p t. t) (inputs-stay (rowCount row) 0)) (gone refl)
+    match-stays : Stays end′ (legalBest most symbols work pattern hit load end) (legalBest most symbols work pattern hit load end′)
+    unfolding legalBest hitBest raised
+    match-stays = cond-stays (rowLegal pattern load) (map-stays (raised (rowArea pattern)) (λ p t. t) (inputs-stay (hitCount hit) 0)) (gone refl)
 
 -- So a word that is right before an instant is right before every earlier one that it is still before.
 none-stays : {end : ℕ} {o : Option Point} → Stays end none o → o ≡ none
@@ -123,6 +123,6 @@ pub kept-set : {most : ℕ} {symbols work rows found : List ℕ} {load n m end :
     ((k : ℕ) → k < m → (k ≡ j → ⊥) → k < n) → Worth matchLimit end w (matchBefore most symbols work rows found load j end) → Kept most symbols work rows found load m end (set kept j w)
 kept-set {most} {symbols} {work} {rows} {found} {load} {end = end} {kept = kept} k j w r l b g = record {
   lasts = λ i h. set-each (λ i x. (e : ℕ) → e ≤ end → x % base < e → Worth matchLimit e x (matchBefore most symbols work rows found load i e)) kept j w l
-      (λ e le t. worth-stays g (match-stays most symbols work (patternOf rows (rowOf found j)) (rowOf found j) load le) t) i (λ n. k .lasts i (b i h n));
+      (λ e le t. worth-stays g (match-stays most symbols work (patternOf rows (hitAt found j)) (hitAt found j) load le) t) i (λ n. k .lasts i (b i h n));
   bounds = λ i h. set-each (λ i x. (e : ℕ) → e ≤ end → (p : Point) → matchBefore most symbols work rows found load i e ≡ some p → x ≤ wordOf p) kept j w l (worth-bounds r end g) i (λ n. k .bounds i (b i h n));
 }

@@ -11,18 +11,17 @@ use native.Mathlib.Omega.{arith}
 use lib.ListN.{length, getD, take, drop, length-drop, length-take, drop-of-length-le, List·getD-eq-default}
 use lib.Seq.{length-take-le, getD-take, getD-drop, drop-cons}
 use borrow.Author.Tests.{eq-eqb, ne-eqb, lt-ltb, le-ltb, le-leb, lt-leb}
-use Rattle.sheets.specs.Layout.{figuresAt, pinWords, rowWords}
+use Rattle.sheets_rules.specs.Inside.Layout.{figuresAt, pinWords, rowWords, heldAt, highestAt}
 use Rattle.covers.specs.Cover.{Point, late, raised, beside, leafArrival, leafPoint}
 use Rattle.covers.specs.Choice.{before, lesser}
-use Rattle.covers.specs.Curve.{base, both, lookup, pointOf, wordOf}
+use Rattle.covers.specs.Inside.Curve.{base, both, lookup, pointOf, wordOf}
 use Rattle.covers.proofs.Points.{point-path, both-assoc, both-carries, Leq, smaller, earlier, pick-left, pick-right, lesser-none}
 use Rattle.covers.proofs.Basics.{lt-or-le}
-use Rattle.curves.specs.Words.{absent, areaLimit, pointLimit, matchLimit, stored, slot, tableOf, Small, ZeroBelow, WorkArea}
-use Rattle.sheets.specs.Layout.{heldAt, highestAt}
-use Rattle.matching.specs.Found.{matchBytes}
-use Rattle.curves.specs.Best.{rowOf, patternOf, rowArea, rowCount, rowLegal, inputPin, inputNode, rowDelay, inputBest, inputLate, inputsBest, rowBest, legalBest, rowsBest, Sources, Tables, RowKnown, Matches}
-use Rattle.curves.specs.Promises.{Worth, matchBefore, Kept}
-use Rattle.overlay.specs.Held.{leafOf}
+use Rattle.curves.specs.Inside.Words.{absent, areaLimit, pointLimit, matchLimit, stored, slot, tableOf, Small, ZeroBelow, WorkArea}
+use Rattle.matching.specs.Inside.Found.{matchBytes}
+use Rattle.curves.specs.Inside.Best.{hitAt, patternOf, rowArea, hitCount, rowLegal, inputPin, inputNode, hitDelay, inputBest, inputLate, inputsBest, hitBest, legalBest, hitsBest, Sources, Tables, HitKnown, Matches}
+use Rattle.curves.specs.Inside.Promises.{Worth, matchBefore, Kept}
+use Rattle.leaves.specs.Inside.Leaf.{leafOf}
 
 -- ---- words
 
@@ -167,30 +166,30 @@ worth-late end d w o h g n =
     worth-point pointLimit end (w + d) _ (omega arith) (omega arith) (omega arith)
     (ap (Option·map (late d)) (g .point n) ∙ ap {B = Option Point} some (sym (point-path high low)))
 
-module _ {most : ℕ} {pattern row symbols work : List ℕ} (t : Tables most pattern row symbols work) (load end : ℕ) where
+module _ {most : ℕ} {pattern hit symbols work : List ℕ} (t : Tables most pattern hit symbols work) (load end : ℕ) where
   abbrev one : ℕ → Option Point
-  one = inputLate most symbols work pattern row load end
+  one = inputLate most symbols work pattern hit load end
 
   abbrev rest : ℕ → ℕ → Option Point
-  rest = inputsBest most symbols work pattern row load end
+  rest = inputsBest most symbols work pattern hit load end
 
   abbrev all : Option Point
-  all = rowBest most symbols work pattern row load end
+  all = hitBest most symbols work pattern hit load end
 
   -- Input k, from its least point before what its pin leaves of the bound.
   module _ (k d left w : ℕ) where
     -- The pin's figures stand in a part of the pattern's row.
     abbrev pin : List ℕ
-    pin = pinPart pattern (figuresAt + pinWords * inputPin pattern row k)
+    pin = pinPart pattern (figuresAt + pinWords * inputPin pattern hit k)
 
     abbrev own : Option Point
-    own = inputBest most symbols work (inputNode pattern row k) (getD pin 0 0) (getD pin 1 0) left
+    own = inputBest most symbols work (inputNode pattern hit k) (getD pin 0 0) (getD pin 1 0) left
 
     module _ (ed : d ≡ getD pin 2 0 + getD pin 3 0 * load) (el : left ≡ end - d) where
       seen : Option·map (late d) own ≡ one k
-      unfolding inputLate rowDelay
+      unfolding inputLate hitDelay
       seen =
-          let at = figuresAt + pinWords * inputPin pattern row k in
+          let at = figuresAt + pinWords * inputPin pattern hit k in
           rw (el, ed, bin-is pattern at, figure-is pattern at 1 (omega arith), figure-is pattern at 2 (omega arith), figure-is pattern at 3 (omega arith))
 
       pub input-missing : Worth pointLimit left w own → w ≡ absent → Worth pointLimit end absent (one k)
@@ -202,7 +201,7 @@ module _ {most : ℕ} {pattern row symbols work : List ℕ} (t : Tables most pat
   -- ---- a match: its inputs one after another
 
   abbrev many : ℕ
-  many = rowCount row
+  many = hitCount hit
 
   -- After k inputs, which are side by side the point p.
   module _ (k : ℕ) (p : Point) (i : rest 0 many ≡ both (some p) (rest k (many - k))) where
@@ -216,11 +215,11 @@ module _ {most : ℕ} {pattern row symbols work : List ℕ} (t : Tables most pat
     match-turn h w e = next h (some (pointOf w)) e ∙ sym (both-assoc (some p) (some (pointOf w)) (rest (k + 1) (many - (k + 1))))
 
     pub match-stops : k < many → one k ≡ none → Worth matchLimit end absent all
-    unfolding rowBest both
+    unfolding hitBest both
     match-stops h e = worth-none matchLimit end all (rw (next h none e))
 
     pub match-worth : many ≤ k → p .area ≤ 6 * areaLimit → p .arrival < end → end ≤ base → Worth matchLimit end ((rowArea pattern + p .area) * base + p .arrival) all
-    unfolding rowBest raised pointOf inputsBest both beside before
+    unfolding hitBest raised pointOf inputsBest both beside before
     match-worth h hp ht he =
         let a = rowArea pattern in
         let w = (a + p .area) * base + p .arrival in
@@ -237,13 +236,13 @@ module _ {most : ℕ} {pattern row symbols work : List ℕ} (t : Tables most pat
   nothing (suc n) k e = ap (both (one k)) (nothing n (suc k) e) ∙ both-carries (one k) .on-none
 
   pub match-never : end ≡ 0 → Worth matchLimit end absent all
-  unfolding rowBest
-  match-never e = worth-none matchLimit end all (ap (Option·map (raised (rowArea pattern))) (nothing (rowCount row) 0 e))
+  unfolding hitBest
+  match-never e = worth-none matchLimit end all (ap (Option·map (raised (rowArea pattern))) (nothing (hitCount hit) 0 e))
 
   -- ---- a match, if it is legal
 
   abbrev allowed : Option Point
-  allowed = legalBest most symbols work pattern row load end
+  allowed = legalBest most symbols work pattern hit load end
 
   pub match-held : (getD pattern heldAt 0 ≡ 0 → ⊥) → Worth matchLimit end absent allowed
   unfolding legalBest rowLegal
@@ -303,29 +302,29 @@ module _ (limit end v w : ℕ) (o o′ : Option Point) (fits : limit ≤ absent)
       go (inl h) = let e : min v w ≡ w = omega arith in rw e (lesser-new h)
       go (inr h) = let e : min v w ≡ v = omega arith in rw e (lesser-old h)
 
--- ---- the rows of a node
+-- ---- the hits of a node
 
-pub rows-turn : {most : ℕ} {symbols work rows found : List ℕ} {load count end : ℕ} {kept : List ℕ} → Kept most symbols work rows found load count end kept → (j v w : ℕ) →
-    Worth matchLimit end v (rowsBest most symbols work rows found load end j) → Worth matchLimit end w (matchBefore most symbols work rows found load j end) →
-    Worth matchLimit end (min v w) (rowsBest most symbols work rows found load end (j + 1))
-unfolding rowsBest
-rows-turn {end = end} k j v w a b = rw add-one (lesser-word matchLimit end v w _ _ (omega arith) a b)
+pub hits-turn : {most : ℕ} {symbols work rows found : List ℕ} {load count end : ℕ} {kept : List ℕ} → Kept most symbols work rows found load count end kept → (j v w : ℕ) →
+    Worth matchLimit end v (hitsBest most symbols work rows found load end j) → Worth matchLimit end w (matchBefore most symbols work rows found load j end) →
+    Worth matchLimit end (min v w) (hitsBest most symbols work rows found load end (j + 1))
+unfolding hitsBest
+hits-turn {end = end} k j v w a b = rw add-one (lesser-word matchLimit end v w _ _ (omega arith) a b)
 
 -- What reading one of the matches requires.
-pub row-ready : {most : ℕ} {rows found : List ℕ} {count : ℕ} {symbols work : List ℕ} → Matches most rows found count symbols work → (j : ℕ) → j < count →
-    RowKnown rows (rowOf found j) × (matchBytes * (j + 1) ≤ length found)
-row-ready m j h = (m .rows-known j h, omega (arith, m .room))
+pub hit-ready : {most : ℕ} {rows found : List ℕ} {count : ℕ} {symbols work : List ℕ} → Matches most rows found count symbols work → (j : ℕ) → j < count →
+    HitKnown rows (hitAt found j) × (matchBytes * (j + 1) ≤ length found)
+hit-ready m j h = (m .hits-known j h, omega (arith, m .room))
 
 -- The matches of a node, read with another work area.
 pub matches-in : {most : ℕ} {rows found : List ℕ} {count : ℕ} {symbols work work′ : List ℕ} → Matches most rows found count symbols work → WorkArea most work′ → Matches most rows found count symbols work′
-matches-in m w = record { rows-known = m .rows-known; room = m .room; sources = record { symbols-length = m .sources .symbols-length; symbols-small = m .sources .symbols-small; curves = w } }
+matches-in m w = record { hits-known = m .hits-known; room = m .room; sources = record { symbols-length = m .sources .symbols-length; symbols-small = m .sources .symbols-small; curves = w } }
 
 -- The tables that one of the matches is read with.
-pub row-tables : {most : ℕ} {rows symbols work : List ℕ} (found : List ℕ) (j : ℕ) → RowKnown rows (rowOf found j) → matchBytes * (j + 1) ≤ length found → Sources most symbols work →
-    Tables most (patternOf rows (rowOf found j)) (rowOf found j) symbols work
-row-tables {rows = rows} found j k h s = record {
+pub hit-tables : {most : ℕ} {rows symbols work : List ℕ} (found : List ℕ) (j : ℕ) → HitKnown rows (hitAt found j) → matchBytes * (j + 1) ≤ length found → Sources most symbols work →
+    Tables most (patternOf rows (hitAt found j)) (hitAt found j) symbols work
+hit-tables {rows = rows} found j k h s = record {
   safe = k .safe;
-  pattern-length = part-length rowWords (rowWords * getD (rowOf found j) 0 0) rows (omega (arith, k .known));
-  row-length = part-length matchBytes (matchBytes * j) found (omega arith);
+  pattern-length = part-length rowWords (rowWords * getD (hitAt found j) 0 0) rows (omega (arith, k .known));
+  hit-length = part-length matchBytes (matchBytes * j) found (omega arith);
   sources = s;
 }

@@ -1,5 +1,2 @@
--- What the contracts of `curves` say.
-pub mod Words
-pub mod Best
-pub mod Promises
-pub mod Stored
+-- What the functions of `curves` promise.
+pub mod Inside

@@ -1,15 +1,15 @@
 // Curves by deadline: the least point of a node before an instant, and the curve of a node under a load.
-use matching::Row;
-use sheets::Limits;
-use sheets::library::PatternRow;
+use matching::Hit;
+use sheets_rules::Limits;
+use sheets_rules::PatternRow;
 ghost use mathlib.Core.Path.{_≡_};
 ghost use Prim.Native.Nat.{_+_, _-_, _*_, _<_, _≤_, min, max};
 ghost use lib.ListN.{length, getD, drop};
-ghost use Rattle.covers.specs.Curve.{base, lookup};
-ghost use Rattle.matching.specs.Found.{matchBytes};
-ghost use Rattle.curves.specs.Words.{pointLimit, matchLimit, stored, curveAt, Small, WorkArea};
-ghost use Rattle.curves.specs.Best.{rowOf, patternOf, inputBest, inputLate, rowBest, legalBest, PinSafe, InputSafe, Sources, Tables, RowKnown, Matches, Above};
-ghost use Rattle.curves.specs.Promises.{Probed, Worth, AllRising, PointsFit, Kept, Least, CurveStored};
+ghost use Rattle.covers.specs.Inside.Curve.{base, lookup};
+ghost use Rattle.matching.specs.Inside.Found.{matchBytes};
+ghost use Rattle.curves.specs.Inside.Words.{pointLimit, matchLimit, stored, curveAt, Small, WorkArea};
+ghost use Rattle.curves.specs.Inside.Best.{hitAt, patternOf, inputBest, inputLate, hitBest, legalBest, PinSafe, InputSafe, Sources, Tables, HitKnown, Matches, Above};
+ghost use Rattle.curves.specs.Inside.Promises.{Probed, Worth, AllRising, PointsFit, Kept, Least, CurveStored};
 
 // The word for no point; how many curves a node has: one for each load bin; and how many words of a curve are tested in a straight line.
 pub struct Words {}
@@ -35,7 +35,7 @@ pub enum Probe {
     Beyond,
 }
 
-// So many words from `first` on. None is tested for 0, which ends the curve, unless it passes the other test.
+// The words from `first` on, `count` of them. None is tested for 0, which ends the curve, unless it passes the other test.
 fn probe_words(curve: &[u64], first: usize, count: usize, end: u64) -> Probe
     requires { ⌜ Small (now curve) × (first + count ≤ length (now curve)) ⌝ }
     ensures { λ r. ⌜ Probed (now (curve .entry)) end first count r ⌝ }
@@ -97,7 +97,7 @@ fn input_best(symbols: &[u32], work: &[u64], most: usize, node: usize, pin: &[u3
 {
     let symbol = symbols[node];
     if 2 <= symbol {
-        let arrival = overlay::leaf_arrival_at(symbol, pin, PatternRow::LOAD);
+        let arrival = leaves::leaf_arrival_at(symbol, pin, PatternRow::LOAD);
         if arrival < end {
             return arrival;
         }
@@ -148,11 +148,11 @@ fn later(a: u64, b: u64) -> u64
     a
 }
 
-// The least point before `end` of input k of a match, as the match sees it: its pin and its node stand in the match's row, the pin's figures in
-// the pattern's.
+// The least point before `end` of input k of a match, as the match sees it: its pin and its node stand in the hit, the pin's figures in
+// the pattern's row.
 fn input_word(
     pattern: &[u32],
-    row: &[u8],
+    hit: &[u8],
     symbols: &[u32],
     work: &[u64],
     most: usize,
@@ -160,16 +160,16 @@ fn input_word(
     end: u64,
     k: usize,
 ) -> u64
-    requires { ⌜ Tables most (now pattern) (now row) (now symbols) (now work) ⌝ }
-    requires { ⌜ InputSafe (now pattern) (now row) k × (k < 6) ⌝ }
+    requires { ⌜ Tables most (now pattern) (now hit) (now symbols) (now work) ⌝ }
+    requires { ⌜ InputSafe (now pattern) (now hit) k × (k < 6) ⌝ }
     requires { ⌜ (load ≤ 255) × (end ≤ base) ⌝ }
-    ensures { λ r. ⌜ Worth pointLimit end r (inputLate most (now (symbols .entry)) (now (work .entry)) (now (pattern .entry)) (now (row .entry)) load end k) ⌝ }
+    ensures { λ r. ⌜ Worth pointLimit end r (inputLate most (now (symbols .entry)) (now (work .entry)) (now (pattern .entry)) (now (hit .entry)) load end k) ⌝ }
 {
-    let place = Row::INPUTS + Row::INPUT * k;
-    let figures = PatternRow::FIGURES + PatternRow::PIN * (row[place] as usize);
+    let place = Hit::INPUTS + Hit::INPUT * k;
+    let figures = PatternRow::FIGURES + PatternRow::PIN * (hit[place] as usize);
     let pin = &pattern[figures..figures + PatternRow::PIN];
     let d = delay(pin[PatternRow::INTRINSIC], pin[PatternRow::DRIVE], load);
-    let node = row[place + Row::NODE] as usize;
+    let node = hit[place + Hit::NODE] as usize;
     let w = input_best(symbols, work, most, node, pin, less(end, d));
     if w == Words::ABSENT {
         return Words::ABSENT;
@@ -180,26 +180,26 @@ fn input_word(
 // The least point of a match before `end`: its cell on top of its inputs side by side.
 fn best_match(
     pattern: &[u32],
-    row: &[u8],
+    hit: &[u8],
     symbols: &[u32],
     work: &[u64],
     most: usize,
     load: u32,
     end: u64,
 ) -> u64
-    requires { ⌜ Tables most (now pattern) (now row) (now symbols) (now work) ⌝ }
+    requires { ⌜ Tables most (now pattern) (now hit) (now symbols) (now work) ⌝ }
     requires { ⌜ (load ≤ 255) × (end ≤ base) ⌝ }
-    ensures { λ r. ⌜ Worth matchLimit end r (rowBest most (now (symbols .entry)) (now (work .entry)) (now (pattern .entry)) (now (row .entry)) load end) ⌝ }
+    ensures { λ r. ⌜ Worth matchLimit end r (hitBest most (now (symbols .entry)) (now (work .entry)) (now (pattern .entry)) (now (hit .entry)) load end) ⌝ }
 {
     if end == 0 {
         return Words::ABSENT;
     }
-    let count = row[Row::COUNT] as usize;
+    let count = hit[Hit::COUNT] as usize;
     let mut area: u64 = 0;
     let mut arrival: u64 = 0;
     let mut k = 0;
     while k < count {
-        let w = input_word(pattern, row, symbols, work, most, load, end, k);
+        let w = input_word(pattern, hit, symbols, work, most, load, end, k);
         if w == Words::ABSENT {
             return Words::ABSENT;
         }
@@ -223,16 +223,16 @@ fn lower(a: u64, b: u64) -> u64
 // The least point of a match before `end`, if the match is legal under the load.
 fn legal_match(
     pattern: &[u32],
-    row: &[u8],
+    hit: &[u8],
     symbols: &[u32],
     work: &[u64],
     most: usize,
     load: u32,
     end: u64,
 ) -> u64
-    requires { ⌜ Tables most (now pattern) (now row) (now symbols) (now work) ⌝ }
+    requires { ⌜ Tables most (now pattern) (now hit) (now symbols) (now work) ⌝ }
     requires { ⌜ (load ≤ 255) × (end ≤ base) ⌝ }
-    ensures { λ r. ⌜ Worth matchLimit end r (legalBest most (now (symbols .entry)) (now (work .entry)) (now (pattern .entry)) (now (row .entry)) load end) ⌝ }
+    ensures { λ r. ⌜ Worth matchLimit end r (legalBest most (now (symbols .entry)) (now (work .entry)) (now (pattern .entry)) (now (hit .entry)) load end) ⌝ }
 {
     if pattern[PatternRow::HELD] != 0 {
         return Words::ABSENT;
@@ -240,7 +240,7 @@ fn legal_match(
     if pattern[PatternRow::HIGHEST] < load {
         return Words::ABSENT;
     }
-    best_match(pattern, row, symbols, work, most, load, end)
+    best_match(pattern, hit, symbols, work, most, load, end)
 }
 
 // The least point before `end` of match j of a node, if it is legal under the load.
@@ -254,16 +254,16 @@ pub fn match_best(
     load: u32,
     end: u64,
 ) -> u64
-    requires { ⌜ RowKnown (now rows) (rowOf (now found) j) × (matchBytes * (j + 1) ≤ length (now found)) ⌝ }
+    requires { ⌜ HitKnown (now rows) (hitAt (now found) j) × (matchBytes * (j + 1) ≤ length (now found)) ⌝ }
     requires { ⌜ Sources most (now symbols) (now work) ⌝ }
     requires { ⌜ (load ≤ 255) × (end ≤ base) ⌝ }
-    ensures { λ r. ⌜ Worth matchLimit end r (legalBest most (now (symbols .entry)) (now (work .entry)) (patternOf (now (rows .entry)) (rowOf (now (found .entry)) j)) (rowOf (now (found .entry)) j) load end) ⌝ }
+    ensures { λ r. ⌜ Worth matchLimit end r (legalBest most (now (symbols .entry)) (now (work .entry)) (patternOf (now (rows .entry)) (hitAt (now (found .entry)) j)) (hitAt (now (found .entry)) j) load end) ⌝ }
 {
-    let first = Row::BYTES * j;
-    let row = &found[first..first + Row::BYTES];
-    let from = PatternRow::WORDS * (row[Row::PATTERN] as usize);
+    let first = Hit::BYTES * j;
+    let hit = &found[first..first + Hit::BYTES];
+    let from = PatternRow::WORDS * (hit[Hit::PATTERN] as usize);
     let pattern = &rows[from..from + PatternRow::WORDS];
-    legal_match(pattern, row, symbols, work, most, load, end)
+    legal_match(pattern, hit, symbols, work, most, load, end)
 }
 
 // The least point of each match before the latest instant, kept.

@@ -21,8 +21,8 @@ use Rattle.fields.specs.declared.Fault.{Fault}
 use Rattle.fields.specs.declared.Fault.the-variants.{Tail, Range}
 use Rattle.fields.specs.declared.Verdict.{Verdict}
 use Rattle.fields.specs.declared.Verdict.the-variants.{Sound, Faulty}
-use Rattle.fields.specs.Reading.{Reader, times, start, place, free, within, field, taken, settled, tailed}
-use Rattle.fields.specs.Promises.{Reads, Live, settling, settlingAt}
+use Rattle.fields.specs.Reading.{Reader, times, start, place, free, within, field, scanned, settled, tailed, Live}
+use Rattle.fields.specs.Inside.Promises.{Reads, settling, settlingAt}
 
 pub start-place : place start ≡ 0
 start-place = place-at 0
@@ -76,7 +76,7 @@ module _ (s : List ℕ) (w : ℕ) (verdict : ℕ → Verdict) where
   field-small (Refused f p) most h = omega arith
   field-small (At c) most h = go (fieldAt s (placeOf c) w) (read s (placeOf c) w)
     where
-      go : (f : FieldRead.FieldRead) → Read s (placeOf c) w f → taken (placeOf c) verdict f .0 ≤ most
+      go : (f : FieldRead.FieldRead) → Read s (placeOf c) w f → scanned (placeOf c) verdict f .0 ≤ most
       go f ends = omega arith
       go f (reads l) = settled-small (placeOf c) w most (valueAt s (placeOf c) w) (verdict (valueAt s (placeOf c) w)) (At (cursorAt (placeOf c + w))) (h (valueAt s (placeOf c) w) l)
 
@@ -84,7 +84,7 @@ module _ (s : List ℕ) (w : ℕ) (verdict : ℕ → Verdict) where
   field-near (Refused f p) = omega arith
   field-near (At c) = go (fieldAt s (placeOf c) w) (read s (placeOf c) w)
     where
-      go : (f : FieldRead.FieldRead) → Read s (placeOf c) w f → place (taken (placeOf c) verdict f .1) ≤ placeOf c + w
+      go : (f : FieldRead.FieldRead) → Read s (placeOf c) w f → place (scanned (placeOf c) verdict f .1) ≤ placeOf c + w
       go f ends = omega arith
       go f (reads l) = settled-near (placeOf c) (placeOf c + w) (valueAt s (placeOf c) w) (verdict (valueAt s (placeOf c) w)) (At (cursorAt (placeOf c + w))) (omega arith) (omega (arith, place-at (placeOf c + w)))
 
@@ -107,7 +107,7 @@ module _ (s : List ℕ) (w : ℕ) (verdict : ℕ → Verdict) where
       judged Sound x n e h = sym e
       judged (Faulty f) x n e h = absurd h
 
-      go : (f : FieldRead.FieldRead) → Live (taken (placeOf c) verdict f .1) → (verdict (taken (placeOf c) verdict f .0) ≡ Sound) × Unit {0}
+      go : (f : FieldRead.FieldRead) → Live (scanned (placeOf c) verdict f .1) → (verdict (scanned (placeOf c) verdict f .0) ≡ Sound) × Unit {0}
       go FieldRead.the-variants.Truncated h = absurd h
       go (FieldRead.the-variants.Value x n) h = (judged (verdict x) x n refl h, tt)
 
@@ -120,7 +120,7 @@ module _ (s : List ℕ) (w : ℕ) (verdict : ℕ → Verdict) where
       judged Sound x n h = tt
       judged (Faulty f) x n h = omega arith
 
-      go : (f : FieldRead.FieldRead) → 0 < taken (placeOf c) verdict f .0 → Live (taken (placeOf c) verdict f .1)
+      go : (f : FieldRead.FieldRead) → 0 < scanned (placeOf c) verdict f .0 → Live (scanned (placeOf c) verdict f .1)
       go FieldRead.the-variants.Truncated h = omega arith
       go (FieldRead.the-variants.Value x n) h = judged (verdict x) x n h
 
@@ -133,7 +133,7 @@ module _ (s : List ℕ) (w : ℕ) (verdict : ℕ → Verdict) where
       judged Sound x n h = absurd (h tt)
       judged (Faulty f) x n h = omega arith
 
-      go : (f : FieldRead.FieldRead) → (Live (taken (placeOf c) verdict f .1) → ⊥) → place (taken (placeOf c) verdict f .1) ≤ placeOf c
+      go : (f : FieldRead.FieldRead) → (Live (scanned (placeOf c) verdict f .1) → ⊥) → place (scanned (placeOf c) verdict f .1) ≤ placeOf c
       go FieldRead.the-variants.Truncated h = omega arith
       go (FieldRead.the-variants.Value x n) h = judged (verdict x) x n h
 
@@ -151,7 +151,7 @@ module _ (s : List ℕ) (w : ℕ) (verdict : ℕ → Verdict) where
       judged Sound x n = refl
       judged (Faulty f) x n = refl
 
-      go : (f : FieldRead.FieldRead) → after (At c) (taken (placeOf c) free f) ≡ taken (placeOf c) verdict f
+      go : (f : FieldRead.FieldRead) → after (At c) (scanned (placeOf c) free f) ≡ scanned (placeOf c) verdict f
       go FieldRead.the-variants.Truncated = refl
       go (FieldRead.the-variants.Value x n) = judged (verdict x) x n
 
@@ -181,10 +181,10 @@ module _ (s : List ℕ) (w : ℕ) (verdict : ℕ → Verdict) (c : Scan) {c′ :
   scan-at = h .scan ∙ ap (λ (k : Scan). field s w verdict k .1) e
 
 -- A field of any value, by what was found at the cursor.
-pub reads-taken : (s : List ℕ) (w : ℕ) (scan : Scan) (c : Cursor) (f : FieldRead.FieldRead) (r : Got) → scan ≡ At c → f ≡ fieldAt s (placeOf c) w →
-    (r .value, r .scan) ≡ taken (placeOf c) free f → Reads r (field s w free scan) (place scan + w) (2 ^ w - 1)
-reads-taken s w scan c f r e ef er =
-    reads-field s w free scan r (2 ^ w - 1) (er ∙ ap (taken (placeOf c) free) ef ∙ sym (ap (field s w free) e)) (free-passes w)
+pub reads-scanned : (s : List ℕ) (w : ℕ) (scan : Scan) (c : Cursor) (f : FieldRead.FieldRead) (r : Got) → scan ≡ At c → f ≡ fieldAt s (placeOf c) w →
+    (r .value, r .scan) ≡ scanned (placeOf c) free f → Reads r (field s w free scan) (place scan + w) (2 ^ w - 1)
+reads-scanned s w scan c f r e ef er =
+    reads-field s w free scan r (2 ^ w - 1) (er ∙ ap (scanned (placeOf c) free) ef ∙ sym (ap (field s w free) e)) (free-passes w)
 
 -- What a range lets pass.
 in-range : (least most x : ℕ) → within least most x ≡ Sound → (least ≤ x) × (x ≤ most)
@@ -270,3 +270,8 @@ unfolding times
 times-more {A} n r c {q} {q′} {xs} {x} e e′ =
     rw add-one
     (ap (λ (y : List A × Scan). (y .0 ++ (r (y .0) (y .1) .0 ∷ []), r (y .0) (y .1) .1)) e ∙ ap (λ (y : A × Scan). (xs ++ (y .0 ∷ []), y .1)) e′)
+
+-- Whether a scan was refused.
+pub live? : (c : Scan) → Dec (Live c)
+live? (At c) = yes tt
+live? (Refused f p) = no (λ x. x)

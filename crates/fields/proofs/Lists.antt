@@ -70,18 +70,18 @@ module _ {A : Type 0} where
   at-map f (x ∷ l) (suc k) d e h = at-map f l k d e (omega arith)
 
 -- A list stands in another from place i on.
-abbrev pub Held : List ℕ → ℕ → List ℕ → Type 0
-Held l i xs = (k : ℕ) → k < length xs → getD l (i + k) 0 ≡ getD xs k 0
+abbrev pub Stored : List ℕ → ℕ → List ℕ → Type 0
+Stored l i xs = (k : ℕ) → k < length xs → getD l (i + k) 0 ≡ getD xs k 0
 
-pub held-head : (l : List ℕ) (i x : ℕ) (xs : List ℕ) → Held l i (x ∷ xs) → getD l i 0 ≡ x
-held-head l i x xs h = ap (λ (k : ℕ). getD l k 0) (sym (add-zero i)) ∙ h 0 (omega arith)
+pub stored-head : (l : List ℕ) (i x : ℕ) (xs : List ℕ) → Stored l i (x ∷ xs) → getD l i 0 ≡ x
+stored-head l i x xs h = ap (λ (k : ℕ). getD l k 0) (sym (add-zero i)) ∙ h 0 (omega arith)
 
-pub held-tail : (l : List ℕ) (i x : ℕ) (xs : List ℕ) → Held l i (x ∷ xs) → Held l (suc i) xs
-held-tail l i x xs h k g = ap (λ (j : ℕ). getD l j 0) (suc-add i k ∙ sym (add-suc i k)) ∙ h (suc k) (omega arith)
+pub stored-tail : (l : List ℕ) (i x : ℕ) (xs : List ℕ) → Stored l i (x ∷ xs) → Stored l (suc i) xs
+stored-tail l i x xs h k g = ap (λ (j : ℕ). getD l j 0) (suc-add i k ∙ sym (add-suc i k)) ∙ h (suc k) (omega arith)
 
-pub held-left : (l : List ℕ) (i : ℕ) (xs ys : List ℕ) → Held l i (xs ++ ys) → Held l i xs
-held-left l i xs ys h k g = h k (omega (arith, length-append xs ys)) ∙ List·getD-append xs ys 0 k g
+pub stored-left : (l : List ℕ) (i : ℕ) (xs ys : List ℕ) → Stored l i (xs ++ ys) → Stored l i xs
+stored-left l i xs ys h k g = h k (omega (arith, length-append xs ys)) ∙ List·getD-append xs ys 0 k g
 
-pub held-right : (l : List ℕ) (i : ℕ) (xs ys : List ℕ) → Held l i (xs ++ ys) → Held l (i + length xs) ys
-held-right l i xs ys h k g =
+pub stored-right : (l : List ℕ) (i : ℕ) (xs ys : List ℕ) → Stored l i (xs ++ ys) → Stored l (i + length xs) ys
+stored-right l i xs ys h k g =
     ap (λ (j : ℕ). getD l j 0) (add-assoc i (length xs) k) ∙ h (length xs + k) (omega (arith, length-append xs ys)) ∙ getD-append-add xs ys k 0

@@ -18,8 +18,7 @@ use Rattle.fields.specs.declared.Scan.the-variants.{At, Refused}
 use Rattle.fields.specs.declared.Fault.the-variants.{Tail}
 use Rattle.fields.specs.declared.Verdict.{Verdict}
 use Rattle.fields.specs.declared.Verdict.the-variants.{Sound, Faulty}
-use Rattle.fields.specs.Reading.{Reader, times, start, place, field, taken, settled, ended}
-use Rattle.fields.specs.Promises.{Live}
+use Rattle.fields.specs.Reading.{Reader, times, start, place, field, scanned, settled, ended, Live}
 use Rattle.fields.specs.Written.{Field, widths, written, packed}
 use Rattle.bits.proofs.Words.{zeros-at}
 use Rattle.fields.proofs.Laws.{Read, ends, reads, read}
@@ -109,7 +108,7 @@ found-field s w verdict (At c) h = go (fieldAt s (placeOf c) w) (read s (placeOf
         record { live = tt; stand = (refl, tt); after = there ∙ ap (λ (j : ℕ). placeOf c + j) (sym (add-zero w)); kept = λ e. ap (λ (j : ℕ). At (cursorAt j)) (sym there) }
     judged (Faulty f) h = absurd h
 
-    go : (f : FieldRead.FieldRead) → Read s (placeOf c) w f → Out (taken (placeOf c) verdict f)
+    go : (f : FieldRead.FieldRead) → Read s (placeOf c) w f → Out (scanned (placeOf c) verdict f)
     go f ends h = absurd h
     go f (reads l) h = judged (verdict (valueAt s (placeOf c) w)) h
 

@@ -18,7 +18,7 @@ use Rattle.fields.specs.declared.Scan.the-variants.{At, Refused}
 use Rattle.fields.specs.declared.Fault.the-variants.{Tail}
 use Rattle.fields.specs.declared.Verdict.{Verdict}
 use Rattle.fields.specs.declared.Verdict.the-variants.{Sound}
-use Rattle.fields.specs.Reading.{Reader, done, _>>=_, times, start, free, settled, taken, field, ended}
+use Rattle.fields.specs.Reading.{Reader, done, _>>=_, times, start, free, settled, scanned, field, ended}
 use Rattle.fields.specs.Written.{Field, widths, written, packed}
 use Rattle.bits.proofs.Words.{zeros-at}
 use Rattle.fields.proofs.Laws.{times-more}
@@ -113,7 +113,7 @@ says-sound {all} {rest} {v} w verdict fits sound = record {
       let room : i + w ≤ 8 * length (packed all) = omega (arith, length-packed all, h .place-is) in
       let value : valueAt (packed all) i w ≡ v = rw (h .whole, h .place-is) (packed-reads (h .before) f rest ∙ mod-eq-of-lt fits) in
       let found : fieldAt (packed all) i w ≡ Value v (cursorAt (i + w)) = rw (le-leb (i + w) (8 * length (packed all)) room) (ap (λ (x : ℕ). Value x (cursorAt (i + w))) value) in
-      ap (λ (p : ℕ). taken p verdict (fieldAt (packed all) p w)) (place-at i) ∙ ap (taken i verdict) found ∙ ap (λ (d : Verdict). settled i d v (At (cursorAt (i + w)))) sound
+      ap (λ (p : ℕ). scanned p verdict (fieldAt (packed all) p w)) (place-at i) ∙ ap (scanned i verdict) found ∙ ap (λ (d : Verdict). settled i d v (At (cursorAt (i + w)))) sound
       ∙ ap (λ (j : ℕ). (v, At (cursorAt (i + j)))) (sym (add-zero w));
 }
 

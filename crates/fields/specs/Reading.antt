@@ -54,9 +54,9 @@ abbrev pub settled : ℕ → Verdict → ℕ → Scan → ℕ × Scan
 settled p Sound x c = (x, c)
 settled p (Faulty f) x c = (0, Refused f p)
 
-abbrev pub taken : ℕ → (ℕ → Verdict) → FieldRead.FieldRead → ℕ × Scan
-taken p verdict FieldRead.the-variants.Truncated = (0, Refused Truncated p)
-taken p verdict (FieldRead.the-variants.Value x c) = settled p (verdict x) x (At c)
+abbrev pub scanned : ℕ → (ℕ → Verdict) → FieldRead.FieldRead → ℕ × Scan
+scanned p verdict FieldRead.the-variants.Truncated = (0, Refused Truncated p)
+scanned p verdict (FieldRead.the-variants.Value x c) = settled p (verdict x) x (At c)
 
 -- What follows the last field is refused there if it is not as wanted.
 abbrev pub tailed : (ℕ → Bool) → Scan → Scan
@@ -66,7 +66,7 @@ tailed wanted (Refused f p) = Refused f p
 module _ (s : List ℕ) where
   -- A field of w bits. That the bytes end before or inside it is the first fault looked for.
   abbrev pub field : ℕ → (ℕ → Verdict) → Reader ℕ
-  field w verdict (At c) = taken (placeOf c) verdict (fieldAt s (placeOf c) w)
+  field w verdict (At c) = scanned (placeOf c) verdict (fieldAt s (placeOf c) w)
   field w verdict (Refused f p) = (0, Refused f p)
 
   -- The rest of the byte after a sheet's last field: zero bits.
@@ -76,3 +76,8 @@ module _ (s : List ℕ) where
   -- The end of a sheet: zero bits to the byte, and no byte more.
   abbrev pub ended : Scan → Scan
   ended = tailed (endsAt s)
+
+-- The scan was not refused.
+abbrev pub Live : Scan → Type 0
+Live (At c) = Unit {0}
+Live (Refused f p) = ⊥

@@ -8,7 +8,7 @@ ghost use Rattle.bits.specs.Bits.{placeOf};
 ghost use Rattle.fields.specs.declared.Fault.the-variants.{Tail};
 ghost use Rattle.fields.specs.declared.Scan.the-variants.{At, Refused};
 ghost use Rattle.fields.specs.Reading.{start, place, free, within, field, filled, ended};
-ghost use Rattle.fields.specs.Promises.{ReadsWide, Reads, settling};
+ghost use Rattle.fields.specs.Inside.Promises.{ReadsWide, Reads, settling};
 
 // What can be wrong with a sheet: its bytes end in a field ("torn"), go on after the last ("loose tail"), a value is out of range
 // ("off the scale"), a pattern is wrongly drawn ("misdrawn"), or there is one node or pattern too many ("overgrown").
@@ -83,7 +83,7 @@ pub fn raw(scan: Scan, s: &[u8], width: usize) -> Got
 }
 
 // The same of a field of up to 64 bits. A field of up to 24 is not read through it: that made the judges of sheets slower.
-pub fn wide(scan: Scan, s: &[u8], width: usize) -> GotWide
+pub fn raw_wide(scan: Scan, s: &[u8], width: usize) -> GotWide
     requires { ⌜ (place scan < 2 ^ 32) × (width ≤ 64) ⌝ }
     ensures { λ r. ⌜ ReadsWide r (field (now (s .entry)) width free scan) (place scan + width) (2 ^ width - 1) ⌝ }
 {

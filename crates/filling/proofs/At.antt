@@ -5,13 +5,13 @@ use Prim.Native.Nat.{ℕ, _+_, _≤_, _<_}
 use native.Mathlib.Omega.{arith}
 use lib.ListN.{length, take, replicate}
 use lib.Seq.{take-all}
-use Rattle.sheets.specs.Model.{Shape, Library, Tree}
-use Rattle.covers.specs.Curve.{gates}
+use Rattle.sheets_rules.specs.Model.{Shape, Library, Tree}
+use Rattle.covers.specs.Inside.Curve.{gates}
 use Rattle.fields.proofs.Lists.{zeros-at}
 use Rattle.filling.specs.declared.Turn.{Turn}
 use Rattle.filling.specs.declared.Counts.{Counts}
-use Rattle.filling.specs.Promises.{loadAt, curveUnder, pointsUnder, NodeReady, NodeFilled, FillReady, NodeDone}
-use Rattle.filling.proofs.Node.{node-within, FoundIs, rows-ready, rows-above, points-fit, curve-is-found}
+use Rattle.filling.specs.Inside.Promises.{loadAt, curveUnder, pointsUnder, NodeReady, NodeFilled, FillReady, NodeDone}
+use Rattle.filling.proofs.Node.{node-within, FoundIs, hits-ready, hits-above, points-fit, curve-is-found}
 
 module _ {l : Library} {t : Tree} {rows ss zs : List ℕ} {turn : Turn} {found₀ work : List ℕ} {s : Shape} (g : FillReady l t rows ss zs turn found₀ work s) where
   pub leaf-done : gates s ≡ 0 → NodeDone l s turn work work (record { points = replicate 4 0 })
@@ -28,10 +28,10 @@ module _ {l : Library} {t : Tree} {rows ss zs : List ℕ} {turn : Turn} {found�
   module _ {found : List ℕ} {count : ℕ} (f : FoundIs l (turn .node) s found₀ found count) (gate : 0 < gates s) where
     pub gate-ready : NodeReady ss work rows found count turn
     gate-ready = record {
-      matches = rows-ready (g .ready) f (g .curves);
+      matches = hits-ready (g .ready) f (g .curves);
       node = node-within (g .ready);
       few-bins = g .few-bins;
-      above = rows-above (g .ready) f;
+      above = hits-above (g .ready) f;
       fit = λ b h. points-fit (g .ready) f (turn .most) work (g .filled) gate (loadAt turn b) (g .light b h);
       zero = g .zero;
     }

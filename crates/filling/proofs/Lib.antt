@@ -1,5 +1,5 @@
 -- Laws that join the tables to the theorems about covers.
-pub mod Rows
+pub mod Hits
 pub mod Node
 pub mod Steps
 pub mod At

@@ -1,4 +1,4 @@
--- One node of the decoded tree: what its symbol says, its found rows, which are safe to read, and the least points and the curve read from the tables, which are those of its covers.
+-- One node of the decoded tree: what its symbol says, its hits, which are safe to read, and the least points and the curve read from the tables, which are those of its covers.
 use mathlib.Core.Path.{_≡_, refl, sym, ap, subst, fun-ext, _∙_}
 use mathlib.Core.Logic.{_⊎_, inl, inr, ⊎-elim}
 use mathlib.Core.Bool.{Bool, true, false, cond}
@@ -7,15 +7,15 @@ use mathlib.Core.Option.{Option, none, some, Option·none-ne-some}
 use Prim.Native.Nat.{ℕ, suc, _+_, _*_, _≤_, _<_}
 use native.Mathlib.Omega.{arith}
 use lib.ListN.{length, getD, take, drop}
-use Rattle.sheets.specs.Model.{plainLeaf, Shape, leaf, inv, nand, size, leaves, Pin, Cell, Library, Tree, patterns}
-use Rattle.sheets.specs.Layout.{tableFrom, rowWords, figuresAt, pinWords}
-use Rattle.sheets.specs.Sound.{SoundCell, SoundLibrary}
+use Rattle.sheets_rules.specs.Model.{plainLeaf, Shape, leaf, inv, nand, size, leaves, Pin, Cell, Library, Tree, patterns}
+use Rattle.sheets_rules.specs.Inside.Layout.{tableFrom, rowWords, figuresAt, pinWords}
+use Rattle.sheets_rules.specs.Inside.Sound.{SoundCell, SoundLibrary}
 use Rattle.covers.specs.Crossing.{redrawn}
 use Rattle.covers.specs.Match.{Input, Match, legal, fitting, matches, pinAt, pinLoad}
 use Rattle.covers.specs.Cover.{Point, Cover, raised, topped, IsCover, bare, matching}
 use Rattle.covers.specs.Enumeration.{matchCovers, gateCovers, covers, allBelow}
 use Rattle.covers.specs.Choice.{least}
-use Rattle.covers.specs.Curve.{Filled, base, byDeadline, curve, gates, wordOf}
+use Rattle.covers.specs.Inside.Curve.{Filled, base, byDeadline, curve, gates, wordOf}
 use Rattle.covers.proofs.Basics.{at-below, at-value, at-all, in-select, in-flatMap}
 use Rattle.covers.proofs.Least.{In, IsLeast, least-is, least-some, least-rises}
 use Rattle.covers.proofs.Matching.{size-pos, fitting-are, fits-inside, spread-in}
@@ -28,21 +28,21 @@ use Rattle.covers.proofs.Unroll.{gate-covers}
 use Rattle.covers.proofs.Filling.{fromTable, best-from-table, match-from-table}
 use Rattle.covers.proofs.FromSheets.{limited, binned}
 use Rattle.fields.proofs.Lists.{at-mem}
-use Rattle.overlay.specs.Standing.{Stands, Subject}
-use Rattle.overlay.specs.Held.{PinHeld, CellHeld}
-use Rattle.overlay.proofs.Patterns.{noInput, noPattern, patternAt, rows-long, row-held}
+use Rattle.overlay.specs.Inside.Standing.{Stands, Subject}
+use Rattle.overlay.specs.Inside.Promises.{PinStored, CellStored}
+use Rattle.overlay.proofs.Patterns.{noInput, noPattern, patternAt, rows-long, row-stored}
 use Rattle.overlay.proofs.Standing.{heads-everywhere, subject-everywhere}
-use Rattle.matching.specs.Found.{matchMost, matchBytes, inputPlace, matchRow}
-use Rattle.matching.specs.Promises.{Ready}
-use Rattle.matching.proofs.Written.{length-row, row-pin, row-node}
-use Rattle.matching.proofs.Patterns.{SoundMatch, fitting-sound, fitting-few, match-row-at}
-use Rattle.sheets.proofs.Tables.{length-table}
-use Rattle.curves.specs.Words.{tableOf, WorkArea}
-use Rattle.curves.specs.Best.{rowOf, patternOf, rowCount, InputSafe, RowKnown, Sources, Matches, Above, rowsBest}
-use Rattle.curves.specs.Promises.{matchBefore, Rising, bestBefore, nodePoints, PointsFit, Fit}
+use Rattle.matching.specs.Inside.Found.{matchMost, matchBytes, inputPlace, hitOf}
+use Rattle.matching.specs.Inside.Promises.{Ready}
+use Rattle.matching.proofs.Written.{length-hit, hit-pin, hit-node}
+use Rattle.matching.proofs.Patterns.{SoundMatch, fitting-sound, fitting-few, hit-read}
+use Rattle.sheets_rules.proofs.Tables.{length-table}
+use Rattle.curves.specs.Inside.Words.{tableOf, WorkArea}
+use Rattle.curves.specs.Inside.Best.{hitAt, patternOf, hitCount, InputSafe, HitKnown, Sources, Matches, Above, hitsBest}
+use Rattle.curves.specs.Inside.Promises.{matchBefore, Rising, bestBefore, nodePoints, PointsFit, Fit}
 use Rattle.curves.proofs.Laws.{part-word, point-order}
-use Rattle.overlay.proofs.Symbols.{symbols-small}
-use Rattle.filling.proofs.Rows.{Headed, Holds, Found, legal-row, rows-are-best}
+use Rattle.leaves.proofs.Symbols.{symbols-small}
+use Rattle.filling.proofs.Hits.{Headed, Holds, Found, legal-hit, hits-are-best}
 
 -- ---- a node
 
@@ -101,7 +101,7 @@ module _ {l : Library} {t : Tree} {rows ss zs : List ℕ} {n room : ℕ} {s : Sh
 -- The matches of a node as they are found.
 pub record FoundIs (l : Library) (n : ℕ) (s : Shape) (found₀ found : List ℕ) (count : ℕ) : Type 0 where
   pub many : count ≡ length (fitting l n s)
-  pub table : found ≡ tableFrom matchBytes found₀ 0 (map matchRow (fitting l n s))
+  pub table : found ≡ tableFrom matchBytes found₀ 0 (map hitOf (fitting l n s))
 
 module _ {l : Library} {t : Tree} {rows ss zs : List ℕ} {n : ℕ} {found₀ : List ℕ} {s : Shape} (g : Ready l t rows ss zs n (length found₀) s)
     {found : List ℕ} {count : ℕ} (f : FoundIs l n s found₀ found count) where
@@ -114,35 +114,35 @@ module _ {l : Library} {t : Tree} {rows ss zs : List ℕ} {n : ℕ} {found₀ : 
   pub match-in : (j : ℕ) → j < count → List·Memᴰ (matchAt j) (fitting l n s)
   match-in j h = at-mem (fitting l n s) j noMatch (omega (arith, f .many))
 
-  pub row-holds : (j : ℕ) → j < count → Holds (rowOf found j) (matchAt j)
-  row-holds j h c k =
-      let few = sound-match g (match-in j h) .row-few in
+  pub hit-holds : (j : ℕ) → j < count → Holds (hitAt found j) (matchAt j)
+  hit-holds j h c k =
+      let few = sound-match g (match-in j h) .hit-few in
       part-word matchBytes (matchBytes * j) found c (omega arith) ∙ ap (λ (q : List ℕ). getD q (matchBytes * j + c) 0) (f .table)
-      ∙ match-row-at l n s sound found₀ (g .room-is) noMatch j c (omega (arith, f .many)) k
+      ∙ hit-read l n s sound found₀ (g .room-is) noMatch j c (omega (arith, f .many)) k
 
-  -- The row's pattern, and its own row.
-  number-is : (j : ℕ) → j < count → getD (rowOf found j) 0 0 ≡ matchAt j .number
-  unfolding matchRow
-  number-is j h = row-holds j h 0 (omega arith)
+  -- The hit's pattern, and that pattern's row.
+  number-is : (j : ℕ) → j < count → getD (hitAt found j) 0 0 ≡ matchAt j .number
+  unfolding hitOf
+  number-is j h = hit-holds j h 0 (omega arith)
 
   number-small : (j : ℕ) → j < count → matchAt j .number < length (patterns l)
   number-small j h = at-below (patterns l) (matchAt j .number) (sound-match g (match-in j h) .fitting-is .numbered)
 
-  pub pattern-held : (j : ℕ) → j < count → CellHeld l (patternOf rows (rowOf found j)) (matchAt j .pattern .cell)
-  pattern-held j h =
+  pub pattern-stored : (j : ℕ) → j < count → CellStored l (patternOf rows (hitAt found j)) (matchAt j .pattern .cell)
+  pattern-stored j h =
       let m = matchAt j in
       let same : patternAt l (m .number) ≡ m .pattern = at-value (patterns l) (m .number) noPattern (sound-match g (match-in j h) .fitting-is .numbered) in
-      let held = row-held (g .decoded) (m .number) (number-small j h) rowWords refl .cell in
-      subst (λ p. CellHeld l (patternOf rows (rowOf found j)) (p .cell)) same
-      (subst (λ k. CellHeld l (take rowWords (drop (rowWords * k) rows)) (patternAt l (m .number) .cell)) (sym (number-is j h)) held)
+      let stored = row-stored (g .decoded) (m .number) (number-small j h) rowWords refl .cell in
+      subst (λ p. CellStored l (patternOf rows (hitAt found j)) (p .cell)) same
+      (subst (λ k. CellStored l (take rowWords (drop (rowWords * k) rows)) (patternAt l (m .number) .cell)) (sym (number-is j h)) stored)
 
-  pub found-at : (j : ℕ) → j < count → Found l rows ss (rowOf found j) (matchAt j)
-  found-at j h = record { holds = row-holds j h; held = pattern-held j h; pinned = sound-match g (match-in j h) .pinned; headed = headed g (match-in j h) }
+  pub found-at : (j : ℕ) → j < count → Found l rows ss (hitAt found j) (matchAt j)
+  found-at j h = record { holds = hit-holds j h; stored = pattern-stored j h; pinned = sound-match g (match-in j h) .pinned; headed = headed g (match-in j h) }
 
   -- How many inputs there are, and input k.
-  row-many : (j : ℕ) → j < count → rowCount (rowOf found j) ≡ length (matchAt j .inputs)
-  unfolding matchRow
-  row-many j h = row-holds j h 2 (omega arith)
+  hit-many : (j : ℕ) → j < count → hitCount (hitAt found j) ≡ length (matchAt j .inputs)
+  unfolding hitOf
+  hit-many j h = hit-holds j h 2 (omega arith)
 
   module _ (j : ℕ) (h : j < count) (k : ℕ) (hk : k < length (matchAt j .inputs)) where
     abbrev inputAt : Input
@@ -151,18 +151,18 @@ module _ {l : Library} {t : Tree} {rows ss zs : List ℕ} {n : ℕ} {found₀ : 
     input-in : List·Memᴰ inputAt (matchAt j .inputs)
     input-in = at-mem (matchAt j .inputs) k noInput hk
 
-    input-pin : getD (rowOf found j) (inputPlace k) 0 ≡ inputAt .pin
-    input-pin = row-holds j h (inputPlace k) (omega (arith, length-row (matchAt j))) ∙ row-pin (matchAt j) k hk
+    input-pin : getD (hitAt found j) (inputPlace k) 0 ≡ inputAt .pin
+    input-pin = hit-holds j h (inputPlace k) (omega (arith, length-hit (matchAt j))) ∙ hit-pin (matchAt j) k hk
 
-    input-node : getD (rowOf found j) (inputPlace k + 1) 0 ≡ inputAt .node
-    input-node = row-holds j h (inputPlace k + 1) (omega (arith, length-row (matchAt j))) ∙ row-node (matchAt j) k hk
+    input-node : getD (hitAt found j) (inputPlace k + 1) 0 ≡ inputAt .node
+    input-node = hit-holds j h (inputPlace k + 1) (omega (arith, length-hit (matchAt j))) ∙ hit-node (matchAt j) k hk
 
-    input-held : PinHeld l (patternOf rows (rowOf found j)) (figuresAt + pinWords * getD (rowOf found j) (inputPlace k) 0) (pinAt (matchAt j .pattern .cell) (inputAt .pin))
-    input-held =
-        subst (λ x. PinHeld l (patternOf rows (rowOf found j)) (figuresAt + pinWords * x) (pinAt (matchAt j .pattern .cell) (inputAt .pin))) (sym input-pin)
-        (pattern-held j h .pins-are (inputAt .pin) (sound-match g (match-in j h) .pinned inputAt input-in))
+    input-stored : PinStored l (patternOf rows (hitAt found j)) (figuresAt + pinWords * getD (hitAt found j) (inputPlace k) 0) (pinAt (matchAt j .pattern .cell) (inputAt .pin))
+    input-stored =
+        subst (λ x. PinStored l (patternOf rows (hitAt found j)) (figuresAt + pinWords * x) (pinAt (matchAt j .pattern .cell) (inputAt .pin))) (sym input-pin)
+        (pattern-stored j h .pins-are (inputAt .pin) (sound-match g (match-in j h) .pinned inputAt input-in))
 
-    input-safe : InputSafe (patternOf rows (rowOf found j)) (rowOf found j) k
+    input-safe : InputSafe (patternOf rows (hitAt found j)) (hitAt found j) k
     input-safe =
         let sm = sound-match g (match-in j h) in
         let c = matchAt j .pattern .cell in
@@ -171,10 +171,10 @@ module _ {l : Library} {t : Tree} {rows ss zs : List ℕ} {n : ℕ} {found₀ : 
         record {
           pin = omega (arith, input-pin, sm .pinned inputAt input-in, sm .cell .few-pins);
           node = rw input-node (place-of g (match-in j h) inputAt input-in .1);
-          bin = rw (input-held .bin-is) (omega (arith, pin .0, sound .few-bins));
-          load = rw (input-held .load-is) (light p);
-          intrinsic = rw (input-held .intrinsic-is) (pin .1);
-          drive = rw (input-held .drive-is) (pin .2);
+          bin = rw (input-stored .bin-is) (omega (arith, pin .0, sound .few-bins));
+          load = rw (input-stored .load-is) (light p);
+          intrinsic = rw (input-stored .intrinsic-is) (pin .1);
+          drive = rw (input-stored .drive-is) (pin .2);
         }
       where
         sound-pin : {c : Cell} → SoundCell (length (l .bins)) c → (x : ℕ) → (pinAt c x .bin < length (l .bins)) × (pinAt c x .intrinsic ≤ 65535) × (pinAt c x .drive ≤ 255)
@@ -183,29 +183,29 @@ module _ {l : Library} {t : Tree} {rows ss zs : List ℕ} {n : ℕ} {found₀ : 
         light : (p : Pin) → pinLoad l p ≤ 255
         light p = unfold pinLoad in at-all (λ x. x ≤ 255) (l .bins) (p .bin) 0 (omega arith) (sound .loads)
 
-  row-known : (j : ℕ) → j < count → RowKnown rows (rowOf found j)
-  row-known j h =
+  hit-known : (j : ℕ) → j < count → HitKnown rows (hitAt found j)
+  hit-known j h =
       let sm = sound-match g (match-in j h) in
-      let many = row-many j h in
+      let many = hit-many j h in
       record {
         known = omega (arith, number-is j h, number-small j h, rows-long (g .decoded));
-        safe = record { area = omega (arith, pattern-held j h .area-is, sm .cell .area); few = omega (arith, many, sm .few); inputs = λ k below. input-safe j h k (omega arith) };
+        safe = record { area = omega (arith, pattern-stored j h .area-is, sm .cell .area); few = omega (arith, many, sm .few); inputs = λ k below. input-safe j h k (omega arith) };
       }
 
-  pub rows-ready : {most : ℕ} {work : List ℕ} → WorkArea most work → Matches most rows found count ss work
-  rows-ready w = record {
-    rows-known = row-known;
-    room = omega (arith, f .many, fitting-few l n s, sound .few-patterns, ap length (f .table), length-table matchBytes found₀ 0 (map matchRow (fitting l n s)), g .room-is);
+  pub hits-ready : {most : ℕ} {work : List ℕ} → WorkArea most work → Matches most rows found count ss work
+  hits-ready w = record {
+    hits-known = hit-known;
+    room = omega (arith, f .many, fitting-few l n s, sound .few-patterns, ap length (f .table), length-table matchBytes found₀ 0 (map hitOf (fitting l n s)), g .room-is);
     sources = sources g w;
   }
 
   pub count-few : count ≤ matchMost
   count-few = omega (arith, f .many, fitting-few l n s, sound .few-patterns)
 
-  pub rows-above : Above (4 * n + 3) found count
-  rows-above j h k below =
+  pub hits-above : Above (4 * n + 3) found count
+  hits-above j h k below =
       let m = matchAt j in
-      let inside : k < length (m .inputs) = omega (arith, row-many j h) in
+      let inside : k < length (m .inputs) = omega (arith, hit-many j h) in
       omega (arith, input-node j h k inside, place-of g (match-in j h) (getD (m .inputs) k noInput) (at-mem (m .inputs) k noInput inside) .0)
 
   -- With the curves of all later nodes in the work area.
@@ -213,8 +213,8 @@ module _ {l : Library} {t : Tree} {rows ss zs : List ℕ} {n : ℕ} {found₀ : 
     best-is-least : (end : ℕ) → bestBefore most ss work rows found load count end ≡ least end (covers l load n s)
     unfolding matches
     best-is-least end =
-        ap (rowsBest most ss work rows found load end) (f .many)
-        ∙ rows-are-best most l ss work rows found load end (fitting l n s) noMatch (λ j h. found-at j (omega (arith, f .many)))
+        ap (hitsBest most ss work rows found load end) (f .many)
+        ∙ hits-are-best most l ss work rows found load end (fitting l n s) noMatch (λ j h. found-at j (omega (arith, f .many)))
         ∙ best-from-table l (binned sound) (t .shape) (tableOf most work) n s filled (g .here) load end gate
 
     timely : (c : Cover) → In (covers l load n s) c → c .point .arrival < base
@@ -238,7 +238,7 @@ module _ {l : Library} {t : Tree} {rows ss zs : List ℕ} {n : ℕ} {found₀ : 
 
         before-is : (end : ℕ) → matchBefore most ss work rows found load j end ≡ least end matchOnly
         before-is end =
-            legal-row (found-at j h) most work load end ∙ ap (λ (b : Bool). cond b (bestMatch (fromTable l (tableOf most work)) load end (matchAt j)) none) allowed
+            legal-hit (found-at j h) most work load end ∙ ap (λ (b : Bool). cond b (bestMatch (fromTable l (tableOf most work)) load end (matchAt j)) none) allowed
             ∙ match-from-table l (binned sound) (t .shape) (tableOf most work) n s filled (g .here) load end match-legal
 
         among : (c : Cover) → In matchOnly c → In (covers l load n s) c
@@ -265,7 +265,7 @@ module _ {l : Library} {t : Tree} {rows ss zs : List ℕ} {n : ℕ} {found₀ : 
           go true e = legal-rises e
           go false e =
               let never : (end : ℕ) (p : Point) → matchBefore most ss work rows found load j end ≡ some p → ⊥ =
-              λ end p q. Option·none-ne-some p (sym (legal-row (found-at j h) most work load end ∙ ap (λ (b : Bool). cond b (bestMatch (fromTable l (tableOf most work)) load end (matchAt j)) none) e) ∙ q) in
+              λ end p q. Option·none-ne-some p (sym (legal-hit (found-at j h) most work load end ∙ ap (λ (b : Bool). cond b (bestMatch (fromTable l (tableOf most work)) load end (matchAt j)) none) e) ∙ q) in
               record { intime = λ end p q. absurd (never end p q); small = λ end p q. absurd (never end p q); rises = λ end end′ less p q. absurd (never end p q) }
 
     pub points-fit : PointsFit most ss work rows found load count

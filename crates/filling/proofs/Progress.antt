@@ -10,13 +10,13 @@ use native.Mathlib.Numerals.{add-one}
 use lib.Dec.{ltb}
 use lib.ListN.{length, getD, length-take, length-reverse}
 use borrow.Author.Tests.{lt-ltb, le-ltb}
-use Rattle.sheets.specs.declared.library.Bins.{Bins}
-use Rattle.sheets.specs.declared.tree.TreeRecord.{TreeRecord}
-use Rattle.sheets.specs.Model.{Leaf, Shape, leaf, inv, nand, size, Library, Tree}
-use Rattle.sheets.specs.Layout.{libraryLaid, treeLaid}
+use Rattle.sheets_rules.specs.declared.Bins.{Bins}
+use Rattle.sheets_rules.specs.declared.TreeRecord.{TreeRecord}
+use Rattle.sheets_rules.specs.Model.{Leaf, Shape, leaf, inv, nand, size, Library, Tree}
+use Rattle.sheets_rules.specs.Inside.Layout.{libraryLaid, treeLaid}
 use Rattle.covers.specs.Enumeration.{covers}
 use Rattle.covers.specs.Tradeoff.{Node, nodes, tradeoffs, tradeoffsOf, points, considered, overfull, overfullNode}
-use Rattle.covers.specs.Curve.{Filled, curve, gates}
+use Rattle.covers.specs.Inside.Curve.{Filled, curve, gates}
 use Rattle.covers.proofs.Basics.{lt-or-le, at-all, true-any, false-any}
 use Rattle.covers.proofs.Matching.{size-pos}
 use Rattle.covers.proofs.Tradeoffs.{leaf-tradeoffs}
@@ -25,13 +25,13 @@ use Rattle.covers.proofs.Ascending.{ascending-range, ascending-unique}
 use Rattle.covers.proofs.Overfull.{nodes-ascend, overfull-named, LastOf, nowhere, at, highest-unique}
 use Rattle.covers.proofs.Filling.{filled-start, filled-next}
 use Rattle.fields.proofs.Lists.{at-mem}
-use Rattle.sheets.proofs.Laws.{in-padded}
-use Rattle.curves.specs.Words.{stored, tableOf, Small, ZeroBelow}
-use Rattle.curves.specs.Stored.{Stored}
+use Rattle.sheets_rules.proofs.Laid.{in-padded}
+use Rattle.curves.specs.Inside.Words.{stored, tableOf, Small, ZeroBelow}
+use Rattle.curves.specs.Inside.Stored.{CurvesStored}
 use Rattle.curves.proofs.Laws.{zero-curves}
 use Rattle.filling.specs.declared.Turn.{Turn}
 use Rattle.filling.specs.declared.Counts.{Counts}
-use Rattle.filling.specs.Promises.{loadAt, curveUnder, FillReady, NodeDone, Exceeds, FillStart}
+use Rattle.filling.specs.Inside.Promises.{loadAt, curveUnder, FillReady, NodeDone, Exceeds, FillStart}
 
 -- ---- nodes and their trade-offs
 
@@ -226,7 +226,7 @@ module _ {l : Library} {t : Tree} {rows : List ℕ} {bins : Bins} {tree : TreeRe
 
       pub turn-root : Progress most l t 1 work →
           ((s : Shape) → FillReady l t rows (tree .symbols) (tree .sizes) (atRoot tree most) found work s → NodeDone l s (atRoot tree most) work work′ r) →
-          (Exceeds (atRoot tree most) true r → overfullNode most l t ≡ some 0) × (Exceeds (atRoot tree most) false r → (overfullNode most l t ≡ none) × Stored most l t work′)
+          (Exceeds (atRoot tree most) true r → overfullNode most l t ≡ some 0) × (Exceeds (atRoot tree most) false r → (overfullNode most l t ≡ none) × CurvesStored most l t work′)
       turn-root p done =
           let x = ready-root p in
           let s = x .0 in

@@ -9,14 +9,14 @@ use native.Mathlib.Omega.{arith}
 use lib.ListN.{length, getD, take, set, length-map, length-take, length-set}
 use lib.Seq.{sets, getD-set-same, getD-set-other, take-all}
 use Rattle.covers.specs.Cover.{Point}
-use Rattle.covers.specs.Curve.{base, byDeadline, wordOf}
-use Rattle.curves.specs.Words.{curveAt, tableOf, stored, AgreeFrom, ZeroBelow, WorkArea}
-use Rattle.curves.specs.Best.{rowsBest, Matches}
-use Rattle.curves.specs.Promises.{bestBefore, nodePoints, PointsFit, CurveStored}
+use Rattle.covers.specs.Inside.Curve.{base, byDeadline, wordOf}
+use Rattle.curves.specs.Inside.Words.{curveAt, tableOf, stored, AgreeFrom, ZeroBelow, WorkArea}
+use Rattle.curves.specs.Inside.Best.{hitsBest, Matches}
+use Rattle.curves.specs.Inside.Promises.{bestBefore, nodePoints, PointsFit, CurveStored}
 use Rattle.curves.proofs.Laws.{slot-within, matches-in}
-use Rattle.curves.proofs.Frames.{curve-other, curve-laid, rows-same, rising-same, deadline-all, deadline-few}
+use Rattle.curves.proofs.Frames.{curve-other, curve-laid, hits-same, rising-same, deadline-all, deadline-few}
 use Rattle.filling.specs.declared.Turn.{Turn}
-use Rattle.filling.specs.Promises.{loadAt, firstCurve, nextCurve, pointsUnder, NodeReady, NodeFilled}
+use Rattle.filling.specs.Inside.Promises.{loadAt, firstCurve, nextCurve, pointsUnder, NodeReady, NodeFilled}
 
 module _ (symbols work₀ rows found : List ℕ) (count : ℕ) (turn : Turn) where
   abbrev under : ℕ → List Point
@@ -55,8 +55,8 @@ module _ {symbols work₀ rows found : List ℕ} {count : ℕ} {turn : Turn} (re
 
   module _ {b : ℕ} {work points : List ℕ} (d : DoneTo b work points) where
     -- What the tables say is what they said at the start.
-    done-same : (load e : ℕ) → rowsBest most symbols work rows found load e count ≡ rowsBest most symbols work₀ rows found load e count
-    done-same load e = rows-same most symbols work work₀ (firstCurve turn + 3) (λ j l. d .agree j (omega arith)) rows found load count (ready .above) e
+    done-same : (load e : ℕ) → hitsBest most symbols work rows found load e count ≡ hitsBest most symbols work₀ rows found load e count
+    done-same load e = hits-same most symbols work work₀ (firstCurve turn + 3) (λ j l. d .agree j (omega arith)) rows found load count (ready .above) e
 
     pub same-points : (i : ℕ) → nodePoints most symbols work rows found (loadAt turn i) count ≡ wanted i
     same-points i = ap (λ (f : ℕ → Option Point). byDeadline (most + 1) f base) (fun-ext (done-same (loadAt turn i)))

@@ -1,2 +1,2 @@
--- What the contracts of `filling` say.
-pub mod Promises
+-- What the functions of `filling` promise.
+pub mod Inside

@@ -1,13 +1,13 @@
 // Every node's curves, filled from the highest number down.
 use curves::Target;
 use curves::Words;
-use sheets::library::Bins;
-use sheets::tree::TreeRecord;
+use sheets_rules::Bins;
+use sheets_rules::TreeRecord;
 ghost use Prim.Native.Nat.{_≤_};
 ghost use lib.ListN.{length};
-ghost use Rattle.sheets.specs.Model.{Shape, Library, Tree};
-ghost use Rattle.matching.specs.Found.{matchMost};
-ghost use Rattle.filling.specs.Promises.{NodeReady, NodeFilled, FillReady, NodeDone, Exceeds, FillStart, FillingIs};
+ghost use Rattle.sheets_rules.specs.Model.{Shape, Library, Tree};
+ghost use Rattle.matching.specs.Inside.Found.{matchMost};
+ghost use Rattle.filling.specs.Inside.Promises.{NodeReady, NodeFilled, FillReady, NodeDone, Exceeds, FillStart, FillingIs};
 
 // A node, the loads considered there, and how many trade-offs it may have.
 pub struct Turn {

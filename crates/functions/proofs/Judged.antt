@@ -8,13 +8,13 @@ use native.Mathlib.Omega.{arith}
 use lib.ListN.{length, getD, drop, drop-of-length-le}
 use lib.Seq.{drop-cons}
 use Rattle.fields.specs.Answer.{Answer, refused, success, onSuccess, Bounded}
-use Rattle.sheets.specs.Model.{Library, Pattern}
-use Rattle.sheets.specs.Reach.{libraryBits}
-use Rattle.sheets.specs.Report.{LibraryCounts, libraryWord, LibraryLimits}
-use Rattle.sheets.proofs.Patterns.{noPattern}
-use Rattle.functions.specs.Function.{settings, computes}
-use Rattle.functions.specs.Report.{otherNumber, isRight, drawingsJudged}
-use Rattle.functions.specs.Inside.{RowsHold, Fits, Stated}
+use Rattle.sheets_rules.specs.Model.{Library, Pattern}
+use Rattle.sheets_rules.specs.Reach.{libraryBits}
+use Rattle.sheets_rules.specs.Report.{LibraryCounts, libraryWord, LibraryLimits}
+use Rattle.sheets_rules.proofs.Patterns.{noPattern}
+use Rattle.functions_rules.specs.Function.{settings, computes}
+use Rattle.functions_rules.specs.Report.{otherNumber, isRight, drawingsJudged}
+use Rattle.functions.specs.Inside.Promises.{RowsHold, FieldFits, Stated}
 use Rattle.functions.proofs.Rows.{patternAt, known, count-of}
 
 -- What is said of all patterns is what is said of those from number k on.
@@ -37,7 +37,7 @@ unfolding drawingsJudged
 judged-all functions counts ps k h before = sym (before ∙ ap (drawingsJudged functions counts k) (drop-of-length-le ps h))
 
 -- The function of a pattern's cell fits, if all do.
-pub stated-fits : {l : Library} {rows : List ℕ} {total : ℕ} (h : RowsHold l rows total) (k : ℕ) → k < total → (functions : List ℕ) → Stated l functions → Fits (patternAt l k) functions
+pub stated-fits : {l : Library} {rows : List ℕ} {total : ℕ} (h : RowsHold l rows total) (k : ℕ) → k < total → (functions : List ℕ) → Stated l functions → FieldFits (patternAt l k) functions
 stated-fits {l} h k g functions fits =
     subst (λ (n : ℕ). getD functions (patternAt l k .cellNumber) 0 < 2 ^ settings n) (count-of h k g) (fits (patternAt l k .cellNumber) (known h k g .number-small))
 

@@ -8,23 +8,17 @@ use native.Mathlib.Nat.{zero-add, eq-or-lt-of-le}
 use native.Mathlib.Omega.{arith}
 use lib.ListN.{length, getD, take, drop, set, length-map}
 use lib.Seq.{getD-take, getD-drop, getD-set-same, getD-set-other, ext-getD, length-take-le}
-use Rattle.fields.proofs.Lists.{at-mem, at-map}
-use Rattle.shapes.proofs.Drawn.{length-symbols}
-use Rattle.sheets.specs.Model.{Cell, Library, Pattern, patterns}
-use Rattle.sheets.specs.Layout.{numberAt, rowWords, pinsAt}
-use Rattle.sheets.proofs.Patterns.{SoundPattern, sound-pattern, Told, row-told, table-long, noCell, noPattern, shown}
-use Rattle.functions.specs.FunctionSheet.{pinCounts}
-use Rattle.functions.specs.Inside.{RowHolds, RowsHold}
+use Rattle.fields.proofs.Lists.{at-mem}
+use Rattle.shapes_rules.proofs.Drawing.{length-symbols}
+use Rattle.sheets_rules.specs.Model.{Cell, Library, Pattern, patterns}
+use Rattle.sheets_rules.specs.Inside.Layout.{numberAt, rowWords, pinsAt}
+use Rattle.sheets_rules.proofs.Patterns.{SoundPattern, sound-pattern, Told, row-told, table-long, noPattern, shown}
+use Rattle.functions_rules.specs.FunctionSheet.{pinCounts}
+use Rattle.functions.specs.Inside.Promises.{RowHolds, RowsHold}
+use Rattle.functions_rules.proofs.Pins.{pattern-pins}
 
 abbrev pub patternAt : Library → ℕ → Pattern
 patternAt l k = getD (patterns l) k noPattern
-
--- The pin count of a pattern's cell.
-pub pattern-pins : {l : Library} {p : Pattern} → SoundPattern l p → getD (pinCounts l) (p .cellNumber) 0 ≡ length (p .cell .pins)
-unfolding pinCounts
-pattern-pins {l} {p} known =
-    let pins : Cell → ℕ = λ c. length (c .pins) in
-    at-map pins (l .cells) (p .cellNumber) noCell 0 (known .number-small) ∙ ap pins (known .cell-at noCell)
 
 -- A row that tells of a pattern holds it.
 told-holds : (l : Library) (p : Pattern) {r : List ℕ} → length (l .cells) ≤ 64 → SoundPattern l p → Told (l .bins) p r → RowHolds r p

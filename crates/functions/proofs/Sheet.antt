@@ -3,7 +3,7 @@ use Prim.Native.Nat.{ℕ, _+_, _*_, _<_}
 use mathlib.Core.Path.{_≡_, sym, ap, subst, _∙_}
 use mathlib.Core.List.{List}
 use native.Mathlib.Omega.{arith}
-use lib.ListN.{length, getD, take, replicate, length-map, length-replicate}
+use lib.ListN.{length, getD, take, replicate, length-replicate}
 use lib.Seq.{getD-take, length-sets}
 use Rattle.bits.specs.declared.Cursor.{Cursor}
 use Rattle.fields.specs.declared.Fault.{Fault}
@@ -13,33 +13,30 @@ use Rattle.fields.specs.Reading.{start, place}
 use Rattle.fields.specs.Answer.{Answer, refused}
 use Rattle.fields.proofs.Laws.{length-times}
 use Rattle.fields.proofs.Lists.{at-mem, at-map}
-use Rattle.sheets.specs.Model.{Cell, Library, patterns}
-use Rattle.sheets.specs.Layout.{rowWords}
-use Rattle.sheets.specs.Sound.{SoundLibrary, LibraryHeld}
-use Rattle.sheets.specs.declared.library.LibraryRecord.{LibraryRecord}
-use Rattle.sheets.specs.declared.library.LibraryRead.{LibraryRead}
-use Rattle.sheets.specs.LibrarySheet.{library}
-use Rattle.sheets.specs.Public.{LibraryIs}
-use Rattle.sheets.specs.Report.{LibraryCounts, libraryNumber, countsOf, afterLibrary}
-use Rattle.sheets.proofs.Laws.{padded-at}
-use Rattle.sheets.proofs.Patterns.{noCell}
-use Rattle.sheets.proofs.Whole.{number-bounds}
-use Rattle.sheets.proofs.Held.{row-count, rows-filled}
+use Rattle.sheets_rules.specs.Model.{Cell, Library, patterns}
+use Rattle.sheets_rules.specs.Inside.Layout.{rowWords}
+use Rattle.sheets_rules.specs.Inside.Sound.{SoundLibrary, LibraryStored}
+use Rattle.sheets_rules.specs.declared.LibraryRecord.{LibraryRecord}
+use Rattle.sheets_rules.specs.declared.LibraryRead.{LibraryRead}
+use Rattle.sheets_rules.specs.LibrarySheet.{library}
+use Rattle.sheets_rules.specs.Inside.Readers.{LibraryIs}
+use Rattle.sheets_rules.specs.Report.{LibraryCounts, libraryNumber, countsOf, afterLibrary}
+use Rattle.sheets_rules.proofs.Laid.{padded-at}
+use Rattle.sheets_rules.proofs.Patterns.{noCell}
+use Rattle.sheets_rules.proofs.Report.{number-bounds}
+use Rattle.sheets_rules.proofs.Stored.{row-count, rows-filled}
 use Rattle.functions.specs.declared.FunctionsRead.{FunctionsRead}
-use Rattle.functions.specs.FunctionSheet.{pinCounts, function, functionSheet}
-use Rattle.functions.specs.Report.{drawingsJudged, functionsNumber, functionsJudged, sheetJudged, functionsReport}
-use Rattle.functions.specs.Inside.{RowsHold, PinsFew, FunctionsAre, Stated}
-use Rattle.functions.proofs.Reading.{field-small}
+use Rattle.functions_rules.specs.FunctionSheet.{pinCounts, function, functionSheet}
+use Rattle.functions_rules.specs.Report.{drawingsJudged, functionsNumber, functionsJudged, sheetJudged, functionsReport}
+use Rattle.functions.specs.Inside.Promises.{RowsHold, PinsFew, FunctionsAre, Stated}
+use Rattle.functions_rules.proofs.Reading.{field-small}
 use Rattle.functions.proofs.Judged.{judged-same, InLimits, refusal-limits, drawings-limits}
+use Rattle.functions_rules.proofs.Pins.{count-pins}
 
-pub rows-hold : {l : Library} {library : LibraryRecord} → LibraryHeld l library → RowsHold l (take (rowWords * library .total) (library .rows)) (library .total)
+pub rows-hold : {l : Library} {library : LibraryRecord} → LibraryStored l library → RowsHold l (take (rowWords * library .total) (library .rows)) (library .total)
 rows-hold g = record { sound = g .sound; rows-are = rows-filled g; total-is = row-count g }
 
 module _ {l : Library} (sound : SoundLibrary l) where
-  pub count-pins : length (pinCounts l) ≡ length (l .cells)
-  unfolding pinCounts
-  count-pins = length-map (l .cells) _
-
   -- The pin counts that were noted can be read with.
   pub pins-few : (counts : List ℕ) (cells : ℕ) → length counts ≡ 64 → cells ≡ length (l .cells) → take (length (l .cells)) counts ≡ pinCounts l → PinsFew counts cells
   unfolding pinCounts
@@ -67,11 +64,11 @@ module _ {l : Library} (sound : SoundLibrary l) where
     unfolding functionSheet
     stands k =
         ap (λ (xs : List ℕ). getD xs k 0) (h .functions-are)
-        ∙ padded-at 64 (functionSheet s (pinCounts l) start .0) k (omega (arith, length-times (length (pinCounts l)) (function s (pinCounts l)) start, count-pins, sound .few-cells))
+        ∙ padded-at 64 (functionSheet s (pinCounts l) start .0) k (omega (arith, length-times (length (pinCounts l)) (function s (pinCounts l)) start, count-pins l, sound .few-cells))
 
     pub stated : Stated l (r .functions)
     unfolding functionSheet
-    stated k g = rw (stands k) (field-small s (pinCounts l) start (length (pinCounts l)) k (omega (arith, count-pins)))
+    stated k g = rw (stands k) (field-small s (pinCounts l) start (length (pinCounts l)) k (omega (arith, count-pins l)))
 
     pub sheet-judged : (c : Cursor) → r .scan ≡ At c → drawingsJudged (r .functions) (countsOf l) 0 (patterns l) ≡ sheetJudged s l
     unfolding functionsJudged

@@ -6,14 +6,14 @@ use native.Mathlib.Numerals.{add-one}
 use native.Mathlib.Omega.{arith}
 use lib.ListN.{getD}
 use lib.Bits.{bitAnd, and-lt}
-use Rattle.fields.proofs.Lists.{Held, held-head, held-tail, held-left, held-right}
-use Rattle.shapes.specs.Shape.{leafSymbol, symbols}
-use Rattle.shapes.proofs.Drawn.{length-symbols}
-use Rattle.sheets.specs.Model.{Leaf, pinOf, Shape, leaf, inv, nand, size, leaves}
+use Rattle.fields.proofs.Lists.{Stored, stored-head, stored-tail, stored-left, stored-right}
+use Rattle.shapes_rules.specs.Shape.{leafSymbol, symbols}
+use Rattle.shapes_rules.proofs.Drawing.{length-symbols}
+use Rattle.sheets_rules.specs.Model.{Leaf, pinOf, Shape, leaf, inv, nand, size, leaves}
 use Rattle.functions.specs.declared.Evaluated.{Evaluated}
-use Rattle.functions.specs.Function.{pinIn, value}
-use Rattle.functions.specs.Inside.{wordSettings, Tabulates, Standing, EvaluatedIs}
-use Rattle.functions.proofs.Words.{bit-not, bit-and}
+use Rattle.functions_rules.specs.Function.{pinIn, value}
+use Rattle.functions.specs.Inside.Promises.{wordSettings, Tabulates, Standing, EvaluatedIs}
+use Rattle.functions_rules.proofs.Words.{bit-not, bit-and}
 
 -- ---- words
 
@@ -30,7 +30,7 @@ module _ {row : List ℕ} {at : ℕ} where
   unfolding symbols leaves
   leaf-symbol {x} s =
       let drive = s .pinned x (List·Memᴰ·head refl) .1 in
-      held-head row at (leafSymbol x) [] (s .symbols-are) ∙ ap (λ (k : ℕ). 2 + (k * 1048576 + x .number)) drive ∙ omega arith
+      stored-head row at (leafSymbol x) [] (s .symbols-are) ∙ ap (λ (k : ℕ). 2 + (k * 1048576 + x .number)) drive ∙ omega arith
 
   pin-small : {x : Leaf} → Standing row at (leaf x) → pinOf x < 6
   unfolding leaves
@@ -38,32 +38,32 @@ module _ {row : List ℕ} {at : ℕ} where
 
   inv-symbol : {a : Shape} → Standing row at (inv a) → getD row at 0 ≡ 0
   unfolding symbols
-  inv-symbol {a} s = held-head row at 0 (symbols a) (s .symbols-are)
+  inv-symbol {a} s = stored-head row at 0 (symbols a) (s .symbols-are)
 
   nand-symbol : {a b : Shape} → Standing row at (nand a b) → getD row at 0 ≡ 1
   unfolding symbols
-  nand-symbol {a} {b} s = held-head row at 1 (symbols a ++ symbols b) (s .symbols-are)
+  nand-symbol {a} {b} s = stored-head row at 1 (symbols a ++ symbols b) (s .symbols-are)
 
   inv-branch : {a : Shape} → Standing row at (inv a) → Standing row (at + 1) a
   unfolding symbols size leaves
   inv-branch {a} s = record {
     long = s .long;
     inside = omega (arith, s .inside);
-    symbols-are = rw add-one (held-tail row at 0 (symbols a) (s .symbols-are));
+    symbols-are = rw add-one (stored-tail row at 0 (symbols a) (s .symbols-are));
     pinned = s .pinned;
   }
 
   -- What follows a NAND's symbol.
-  branches : {a b : Shape} → Standing row at (nand a b) → Held row (at + 1) (symbols a ++ symbols b)
+  branches : {a b : Shape} → Standing row at (nand a b) → Stored row (at + 1) (symbols a ++ symbols b)
   unfolding symbols
-  branches {a} {b} s = rw add-one (held-tail row at 1 (symbols a ++ symbols b) (s .symbols-are))
+  branches {a} {b} s = rw add-one (stored-tail row at 1 (symbols a ++ symbols b) (s .symbols-are))
 
   nand-first : {a b : Shape} → Standing row at (nand a b) → Standing row (at + 1) a
   unfolding size leaves
   nand-first {a} {b} s = record {
     long = s .long;
     inside = omega (arith, s .inside);
-    symbols-are = held-left row (at + 1) (symbols a) (symbols b) (branches s);
+    symbols-are = stored-left row (at + 1) (symbols a) (symbols b) (branches s);
     pinned = λ x m. s .pinned x (Memᴰ·append-left (leaves b) m);
   }
 
@@ -72,7 +72,7 @@ module _ {row : List ℕ} {at : ℕ} where
   nand-second {a} {b} s = record {
     long = s .long;
     inside = omega (arith, s .inside);
-    symbols-are = subst (λ (k : ℕ). Held row (at + 1 + k) (symbols b)) (length-symbols a) (held-right row (at + 1) (symbols a) (symbols b) (branches s));
+    symbols-are = subst (λ (k : ℕ). Stored row (at + 1 + k) (symbols b)) (length-symbols a) (stored-right row (at + 1) (symbols a) (symbols b) (branches s));
     pinned = λ x m. s .pinned x (Memᴰ·append-right (leaves a) m);
   }
 

@@ -1,7 +1,2 @@
--- What the contracts of `functions` say, in reading order.
-pub mod Function
-pub mod FunctionSheet
-pub mod Report
-pub mod Demands
-pub mod Examples
+-- What the functions of `functions` promise.
 pub mod Inside

@@ -1,22 +1,22 @@
 // The judge of functions: whether each drawing of a library computes what the function sheet states of its cell. 64 settings are worked out at once, one in each bit of a word.
 use fields::Scan;
-use shapes::Packed;
-use sheets::Limits;
-use sheets::library::LibraryJudged;
-use sheets::library::LibraryRecord;
-use sheets::library::PatternRow;
+use shapes_rules::Packed;
+use sheets_rules::LibraryJudged;
+use sheets_rules::LibraryRecord;
+use sheets_rules::Limits;
+use sheets_rules::PatternRow;
 ghost use mathlib.Core.Path.{_≡_};
 ghost use Prim.Native.Nat.{_*_, _≤_, _<_};
 ghost use lib.ListN.{length, take};
 ghost use Rattle.fields.specs.Answer.{onSuccess, Bounded};
-ghost use Rattle.sheets.specs.Model.{Shape, Library, Pattern, patterns};
-ghost use Rattle.sheets.specs.Sound.{LibraryHeld};
-ghost use Rattle.sheets.specs.Report.{ofLibraryJudged, LibraryLimits, libraryWord, countsOf};
-ghost use Rattle.functions.specs.Function.{settings as settingsOf, pinIn};
-ghost use Rattle.functions.specs.FunctionSheet.{pinCounts};
-ghost use Rattle.functions.specs.Report.{isRight, drawingsJudged, sheetJudged, functionsReport};
-ghost use Rattle.functions.specs.Demands.{FunctionDemands};
-ghost use Rattle.functions.specs.Inside.{Tabulates, Standing, EvaluatedIs, RowHolds, Fits, RowsHold, PinsFew, FunctionsAre, Stated};
+ghost use Rattle.sheets_rules.specs.Model.{Shape, Library, Pattern, patterns};
+ghost use Rattle.sheets_rules.specs.Inside.Sound.{LibraryStored};
+ghost use Rattle.sheets_rules.specs.Report.{ofLibraryJudged, LibraryLimits, libraryWord, countsOf};
+ghost use Rattle.functions_rules.specs.Function.{settings as settingsOf, pinIn};
+ghost use Rattle.functions_rules.specs.FunctionSheet.{pinCounts};
+ghost use Rattle.functions_rules.specs.Report.{isRight, drawingsJudged, sheetJudged, functionsReport};
+ghost use Rattle.functions_rules.specs.Demands.{FunctionDemands};
+ghost use Rattle.functions.specs.Inside.Promises.{Tabulates, Standing, EvaluatedIs, RowHolds, FieldFits, RowsHold, PinsFew, FunctionsAre, Stated};
 
 // Document 02's numbers: what is added to the numbers of a library's faults for those of a function sheet, and a drawing that computes another function.
 struct Numbers {}
@@ -28,9 +28,9 @@ impl Numbers {
 }
 
 // The settings in a word: the first setting's bit is the highest. A cell of fewer pins than six has its settings in the first bits.
-struct Word {}
+struct Lanes {}
 
-impl Word {
+impl Lanes {
     const SETTINGS: usize = 64;
 }
 
@@ -90,7 +90,7 @@ fn evaluate(row: &[u32], at: usize) -> Evaluated
     }
 }
 
-// How many settings so many pins have.
+// How many settings `pins` pins have.
 fn settings(pins: u32) -> usize
     requires { ⌜ pins ≤ 6 ⌝ }
     ensures { λ r. ⌜ (r ≡ settingsOf pins) × (1 ≤ r) × (r ≤ 64) ⌝ }
@@ -101,12 +101,12 @@ fn settings(pins: u32) -> usize
 // Whether the drawing in a pattern's row computes the function that is stated of its cell: the first bits of its word are that field.
 fn computes(row: &[u32], functions: &[u64]) -> bool
     requires { ⌜ (length (now functions) ≡ 64) × ((p : Pattern) × RowHolds (now row) p) ⌝ }
-    ensures { λ r. ⌜ ((p : Pattern) → RowHolds (now (row .entry)) p → Fits p (now (functions .entry)) → r ≡ isRight (now (functions .entry)) p) ⌝ }
+    ensures { λ r. ⌜ ((p : Pattern) → RowHolds (now (row .entry)) p → FieldFits p (now (functions .entry)) → r ≡ isRight (now (functions .entry)) p) ⌝ }
 {
     let function = functions[row[PatternRow::CELL] as usize];
     let count = settings(row[PatternRow::PINS]);
     let drawn = evaluate(row, PatternRow::SYMBOLS);
-    drawn.word >> (Word::SETTINGS - count) == function
+    drawn.word >> (Lanes::SETTINGS - count) == function
 }
 
 // How many pins each cell has, by its number: every cell has a pattern, and each pattern's row says it.
@@ -124,7 +124,7 @@ fn pin_counts(rows: &[u32], total: usize) -> [u8; Limits::CELLS as usize]
     counts
 }
 
-// The function sheet of so many cells with these pins.
+// The function sheet of `cells` cells with these pin counts.
 fn read_functions(s: &[u8], counts: [u8; Limits::CELLS as usize], cells: usize) -> FunctionsRead
     requires { ⌜ PinsFew counts cells ⌝ }
     ensures { λ r. ⌜ FunctionsAre (now (s .entry)) (take cells counts) r ⌝ }
@@ -133,7 +133,7 @@ fn read_functions(s: &[u8], counts: [u8; Limits::CELLS as usize], cells: usize) 
     let mut at = fields::begin();
     let mut k: usize = 0;
     while k < cells {
-        let got = fields::wide(at, s, settings(counts[k] as u32));
+        let got = fields::raw_wide(at, s, settings(counts[k] as u32));
         at = got.scan;
         functions[k] = got.value;
         k += 1;
@@ -162,8 +162,8 @@ fn judge_drawings(rows: &[u32], total: usize, functions: &[u64], cells: usize) -
 
 // The function sheet of a sound library. All of it is read before a drawing is looked at.
 fn with_library(library: LibraryRecord, s: &[u8]) -> LibraryJudged
-    requires { ⌜ ((l : Library) × LibraryHeld l library) ⌝ }
-    ensures { λ r. ⌜ ((l : Library) → LibraryHeld l library → ofLibraryJudged r ≡ sheetJudged (now (s .entry)) l) ⌝ }
+    requires { ⌜ ((l : Library) × LibraryStored l library) ⌝ }
+    ensures { λ r. ⌜ ((l : Library) → LibraryStored l library → ofLibraryJudged r ≡ sheetJudged (now (s .entry)) l) ⌝ }
     ensures { λ r. ⌜ Bounded (onSuccess libraryWord (ofLibraryJudged r)) × LibraryLimits (ofLibraryJudged r) ⌝ }
 {
     let rows = library.rows;
@@ -177,10 +177,7 @@ fn with_library(library: LibraryRecord, s: &[u8]) -> LibraryJudged
     match scan {
         Scan::At(_) => judge_drawings(&rows[..words], total, &functions, cells),
         Scan::Refused(fault, place) => {
-            LibraryJudged::Refused(
-                Numbers::SHEET + sheets::library::library_number(fault),
-                place,
-            )
+            LibraryJudged::Refused(Numbers::SHEET + library::library_number(fault), place)
         }
     }
 }
@@ -191,12 +188,12 @@ pub fn judge_functions(library: &[u8], functions: &[u8]) -> LibraryJudged
     ensures { λ r. ⌜ FunctionDemands (now (library .entry)) (now (functions .entry)) (ofLibraryJudged r) ⌝ }
     ensures { λ r. ⌜ Bounded (onSuccess libraryWord (ofLibraryJudged r)) × LibraryLimits (ofLibraryJudged r) ⌝ }
 {
-    let read = sheets::library::read_library(library);
+    let read = library::read_library(library);
     let scan = read.scan;
     match scan {
         Scan::At(_) => with_library(read.library, functions),
         Scan::Refused(fault, place) => {
-            LibraryJudged::Refused(sheets::library::library_number(fault), place)
+            LibraryJudged::Refused(library::library_number(fault), place)
         }
     }
 }

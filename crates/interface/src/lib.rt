@@ -1,35 +1,35 @@
 // The C interface: see include/treecover.h. A refusal is number × 2^32 + place, and of a part tree × 2^40 above it.
-use assembly::PartReply;
-use judge::CoverJudged;
-use operations::Reply;
-use sheets::Limits;
-use sheets::library::LibraryJudged;
-use sheets::tree::TreeJudged;
+use judge_rules::CoverJudged;
+use map_rules::Reply;
+use part_rules::PartReply;
+use sheets_rules::LibraryJudged;
+use sheets_rules::Limits;
+use sheets_rules::TreeJudged;
 ghost use mathlib.Core.Path.{_≡_};
 ghost use Prim.Native.Nat.{_+_, _*_, _<_, _≤_};
 ghost use lib.ListN.{length};
 ghost use Rattle.fields.specs.Answer.{onSuccess, places, word, ofWord, Bounded};
-ghost use Rattle.sheets.specs.Report.{ofLibraryJudged, libraryWord, ofLibraryWord, libraryReport, treeReport};
-ghost use Rattle.functions.specs.Report.{functionsReport};
-ghost use Rattle.functions.specs.Demands.{FunctionDemands};
+ghost use Rattle.sheets_rules.specs.Report.{ofLibraryJudged, libraryWord, ofLibraryWord, libraryReport, treeReport};
+ghost use Rattle.functions_rules.specs.Report.{functionsReport};
+ghost use Rattle.functions_rules.specs.Demands.{FunctionDemands};
 ghost use Rattle.covers.specs.Outcome.{mapBytes, listBytes, told, observed, mapOutcome, listOutcome};
 ghost use Rattle.covers.specs.Demands.{MapDemands, ListDemands, WhereSound};
-ghost use Rattle.operations.specs.Public.{ofReply, Leaves};
-ghost use Rattle.judgement.specs.Judgement.{judgement, pointWord, ofPointWord, PointBounded};
-ghost use Rattle.judgement.specs.Demands.{JudgedWhereSound};
-ghost use Rattle.judge.specs.Public.{ofCoverJudged};
-ghost use Rattle.parts.specs.Answer.{partWord, ofPartWord, PartBounded};
-ghost use Rattle.parts.specs.Outcome.{partOutcome, partTold, partObserved};
-ghost use Rattle.parts.specs.Demands.{PartWhereSound};
-ghost use Rattle.assembly.specs.Public.{ofPartReply, PartLeaves};
+ghost use Rattle.map_rules.specs.Public.{ofReply, Leaves};
+ghost use Rattle.judge_rules.specs.Judgement.{judgement, pointWord, ofPointWord, PointBounded};
+ghost use Rattle.judge_rules.specs.Demands.{JudgedWhereSound};
+ghost use Rattle.judge_rules.specs.Public.{ofCoverJudged};
+ghost use Rattle.part_rules.specs.Answer.{partWord, ofPartWord, PartBounded};
+ghost use Rattle.part_rules.specs.Outcome.{partOutcome, partTold, partObserved};
+ghost use Rattle.part_rules.specs.Demands.{PartWhereSound};
+ghost use Rattle.part_rules.specs.Public.{ofPartReply, PartLeaves};
 
 // A word has the number above the places.
-struct Word {}
+struct AnswerWord {}
 
-impl Word {
+impl AnswerWord {
     const PLACES: u64 = 4294967296;
 
-    // A refusal of a part has its tree above so many numbers.
+    // How many numbers there are: a refusal of a part has its tree above them.
     const NUMBERS: u64 = 256;
 
     // The highest bit, which is set where a cover is accepted.
@@ -41,7 +41,7 @@ fn refusal(number: u32, place: usize) -> u64
     requires { ⌜ (number ≤ 255) × (place < places) ⌝ }
     ensures { λ r. ⌜ r ≡ number * places + place ⌝ }
 {
-    number as u64 * Word::PLACES + place as u64
+    number as u64 * AnswerWord::PLACES + place as u64
 }
 
 // What is said of a library in one word: cells × 256 + patterns, or the refusal.
@@ -60,7 +60,7 @@ fn counts_word(judged: LibraryJudged) -> u64
 pub extern "C" fn treecover_judge_library(library: &[u8]) -> u64
     ensures { λ r. ⌜ r ≡ word (onSuccess libraryWord (libraryReport (now (library .entry)))) ⌝ }
 {
-    let judged = sheets::library::judge_library(library);
+    let judged = library::judge_library(library);
     counts_word(judged)
 }
 
@@ -79,7 +79,7 @@ pub extern "C" fn treecover_judge_functions(library: &[u8], functions: &[u8]) ->
 pub extern "C" fn treecover_judge_tree(tree: &[u8]) -> u64
     ensures { λ r. ⌜ r ≡ word (treeReport (now (tree .entry))) ⌝ }
 {
-    let judged = sheets::tree::judge_tree(tree);
+    let judged = tree::judge_tree(tree);
     match judged {
         TreeJudged::Sound(nodes) => nodes as u64,
         TreeJudged::Refused(number, place) => refusal(number, place),
@@ -109,7 +109,7 @@ pub extern "C" fn treecover_map(
     ensures { λ r. ⌜ Leaves (mapOutcome (now (library .entry)) (now (tree .entry)) (length (now (output .entry))) (length (now (work .entry)))) (now (output .entry)) (now (output .exit)) (now (work .entry)) (now (work .exit)) ⌝ }
     ensures { λ r. ⌜ WhereSound MapDemands mapBytes (now (library .entry)) (now (tree .entry)) (length (now (output .entry))) (length (now (work .entry))) (observed (ofWord r) (now (output .exit))) ⌝ }
 {
-    let reply = operations::map(library, tree, output, work);
+    let reply = map::map(library, tree, output, work);
     reply_word(reply)
 }
 
@@ -125,7 +125,7 @@ pub extern "C" fn treecover_list(
     ensures { λ r. ⌜ Leaves (listOutcome (now (library .entry)) (now (tree .entry)) (length (now (output .entry))) (length (now (work .entry)))) (now (output .entry)) (now (output .exit)) (now (work .entry)) (now (work .exit)) ⌝ }
     ensures { λ r. ⌜ WhereSound ListDemands listBytes (now (library .entry)) (now (tree .entry)) (length (now (output .entry))) (length (now (work .entry))) (observed (ofWord r) (now (output .exit))) ⌝ }
 {
-    let reply = operations::list(library, tree, output, work);
+    let reply = map::list(library, tree, output, work);
     reply_word(reply)
 }
 
@@ -136,7 +136,7 @@ fn judged_word(judged: CoverJudged) -> u64
 {
     match judged {
         CoverJudged::Accepted(area, arrival) => {
-            Word::ACCEPTED + area as u64 * Limits::TIMES + arrival as u64
+            AnswerWord::ACCEPTED + area as u64 * Limits::TIMES + arrival as u64
         }
         CoverJudged::Refused(number, place) => refusal(number, place),
     }
@@ -159,7 +159,7 @@ fn part_word(reply: PartReply) -> u64
 {
     match reply {
         PartReply::Refused(tree, number, place) => {
-            (tree as u64 * Word::NUMBERS + number as u64) * Word::PLACES + place as u64
+            (tree as u64 * AnswerWord::NUMBERS + number as u64) * AnswerWord::PLACES + place as u64
         }
         PartReply::Sheets(bytes) => bytes as u64,
     }
@@ -177,6 +177,6 @@ pub extern "C" fn treecover_map_part(
     ensures { λ r. ⌜ PartLeaves (partOutcome (now (library .entry)) (now (part .entry)) (length (now (output .entry))) (length (now (work .entry)))) (now (output .entry)) (now (output .exit)) (now (work .entry)) (now (work .exit)) ⌝ }
     ensures { λ r. ⌜ PartWhereSound (now (library .entry)) (now (part .entry)) (length (now (output .entry))) (length (now (work .entry))) (partObserved (ofPartWord r) (now (output .exit))) ⌝ }
 {
-    let reply = assembly::map_part(library, part, output, work);
+    let reply = part::map_part(library, part, output, work);
     part_word(reply)
 }

@@ -1,4 +1,4 @@
--- A match's inputs, come to from the last to the first.
+-- A match's inputs, reached from the last to the first.
 use Prim.Native.Nat.{ℕ, _+_, _*_, _≤_, _<_}
 use mathlib.Core.Path.{_≡_, sym, ap, subst, _∙_}
 use mathlib.Core.List.{List, _∷_, List·Memᴰ}
@@ -8,30 +8,30 @@ use native.Mathlib.Omega.{arith}
 use lib.ListN.{length, getD, drop}
 use lib.Seq.{drop-cons, drop-length}
 use Rattle.fields.proofs.Lists.{at-mem}
-use Rattle.sheets.specs.Model.{Shape, Pin, Cell, Library}
-use Rattle.sheets.specs.Layout.{pinWords, figuresAt, rowWords}
+use Rattle.sheets_rules.specs.Model.{Shape, Pin, Cell, Library}
+use Rattle.sheets_rules.specs.Inside.Layout.{pinWords, figuresAt, rowWords}
 use Rattle.covers.specs.Match.{Input, Match, pinAt, pinLoad, delay}
 use Rattle.covers.specs.Cover.{feeds, inputDelay}
 use Rattle.covers.proofs.Basics.{at-all}
 use Rattle.overlay.specs.declared.Walked.{Walked}
-use Rattle.overlay.specs.Held.{symbolLimit, PinHeld}
+use Rattle.leaves.specs.Inside.Leaf.{symbolLimit, Heads}
+use Rattle.overlay.specs.Inside.Promises.{PinStored}
 use Rattle.overlay.proofs.Patterns.{noInput, noted}
-use Rattle.judgement.specs.Walk.{Walk, comeTo, comeToInputs}
+use Rattle.judge_rules.specs.Walk.{Walk, visited, inputsVisited}
 use Rattle.judge.specs.declared.WalkRecord.{WalkRecord}
-use Rattle.judge.specs.Inside.{Kept, Entering}
-use Rattle.overlay.specs.Standing.{Heads}
+use Rattle.judge.specs.Inside.Promises.{WalkStored, Entering}
 
 module _ {l : Library} {row ss : List ℕ} {walked : Walked} {load delay₀ : ℕ} {r : WalkRecord} {m : Match} {w : Walk} (h : Entering l row ss walked load delay₀ r m w) where
   abbrev cell : Cell
   cell = m .pattern .cell
 
-  -- The walk that has come to the inputs from k on.
+  -- The walk that has reached the inputs from k on.
   abbrev pub from : ℕ → Walk
-  from k = comeToInputs l cell load delay₀ (drop k (m .inputs)) w
+  from k = inputsVisited l cell load delay₀ (drop k (m .inputs)) w
 
   pub from-none : from (walked .count) ≡ w
-  unfolding comeToInputs
-  from-none = ap (λ (is : List Input). comeToInputs l cell load delay₀ is w) (ap (λ (i : ℕ). drop i (m .inputs)) (h .held .walks .count-is) ∙ drop-length (m .inputs))
+  unfolding inputsVisited
+  from-none = ap (λ (is : List Input). inputsVisited l cell load delay₀ is w) (ap (λ (i : ℕ). drop i (m .inputs)) (h .stored .walks .count-is) ∙ drop-length (m .inputs))
 
   -- What the loop reads of input k.
   abbrev figures : ℕ → ℕ
@@ -52,36 +52,36 @@ module _ {l : Library} {row ss : List ℕ} {walked : Walked} {load delay₀ : �
     pub symbol-small : getD ss (node k) 0 ≤ symbolLimit
     pub room : length (from (k + 1) .left) < 64
     -- One input more.
-    pub kept : {a b : WalkRecord} → Kept (from (k + 1)) a →
-        ((v : Walk) (s : Shape) → Kept v a → Heads (getD ss (node k) 0) s → Kept (comeTo (getD row (figures k + 1) 0) (getD row (figures k + 2) 0 + getD row (figures k + 3) 0 * load + delay₀) (node k) s v) b) → Kept (from k) b
+    pub kept : {a b : WalkRecord} → WalkStored (from (k + 1)) a →
+        ((v : Walk) (s : Shape) → WalkStored v a → Heads (getD ss (node k) 0) s → WalkStored (visited (getD row (figures k + 1) 0) (getD row (figures k + 2) 0 + getD row (figures k + 3) 0 * load + delay₀) (node k) s v) b) → WalkStored (from k) b
 
   pub input-read : (k : ℕ) → k < walked .count → InputRead k
-  unfolding comeToInputs inputDelay feeds delay pinLoad
+  unfolding inputsVisited inputDelay feeds delay pinLoad
   input-read k g =
       let is = m .inputs in
-      let here : k < length is = omega (arith, h .held .walks .count-is) in
+      let here : k < length is = omega (arith, h .stored .walks .count-is) in
       let i = getD is k noInput in
       let among : List·Memᴰ i is = at-mem is k noInput here in
-      let pin-is = noted (λ (j : Input). j .pin) (walked .pins) is k (h .held .walks .pins-are) (h .held .few) here in
-      let node-is = noted (λ (j : Input). j .node) (walked .nodes) is k (h .held .walks .nodes-are) (h .held .few) here in
+      let pin-is = noted (λ (j : Input). j .pin) (walked .pins) is k (h .stored .walks .pins-are) (h .stored .few) here in
+      let node-is = noted (λ (j : Input). j .node) (walked .nodes) is k (h .stored .walks .nodes-are) (h .stored .few) here in
       let pin = pinAt cell (i .pin) in
-      let held : PinHeld l row (figures k) pin = subst (λ (p : ℕ). PinHeld l row (figuresAt + pinWords * p) pin) (sym pin-is) (h .held .cell .pins-are (i .pin) (h .held .pinned i among)) in
-      let limits : (pin .intrinsic ≤ 65535) × (pin .drive ≤ 255) = at-all (λ (q : Pin). (q .intrinsic ≤ 65535) × (q .drive ≤ 255)) (cell .pins) (i .pin) (record { bin = 0; intrinsic = 0; drive = 0 }) (omega arith, omega arith) (λ q j. (h .held .sound .pins q j .1, h .held .sound .pins q j .2)) in
+      let stored : PinStored l row (figures k) pin = subst (λ (p : ℕ). PinStored l row (figuresAt + pinWords * p) pin) (sym pin-is) (h .stored .cell .pins-are (i .pin) (h .stored .pinned i among)) in
+      let limits : (pin .intrinsic ≤ 65535) × (pin .drive ≤ 255) = at-all (λ (q : Pin). (q .intrinsic ≤ 65535) × (q .drive ≤ 255)) (cell .pins) (i .pin) (record { bin = 0; intrinsic = 0; drive = 0 }) (omega arith, omega arith) (λ q j. (h .stored .sound .pins q j .1, h .stored .sound .pins q j .2)) in
       record {
-        long = h .held .cell .long;
+        long = h .stored .cell .long;
         symbols-long = h .symbols-long;
-        k-small = omega (arith, h .held .few);
-        pin-small = omega (arith, pin-is, h .held .pinned i among, h .held .sound .few-pins);
+        k-small = omega (arith, h .stored .few);
+        pin-small = omega (arith, pin-is, h .stored .pinned i among, h .stored .sound .few-pins);
         node-small = omega (arith, node-is, h .heads i among .1);
-        load-small = omega (arith, held .load-is, at-all (λ (x : ℕ). x ≤ 255) (l .bins) (pin .bin) 0 (omega arith) (h .loads-small));
-        intrinsic-small = omega (arith, held .intrinsic-is, limits .0);
-        delay-small = subst (λ (d : ℕ). d * load ≤ 65025) (sym (held .drive-is)) (mul-le-mul (limits .1) (h .light));
+        load-small = omega (arith, stored .load-is, at-all (λ (x : ℕ). x ≤ 255) (l .bins) (pin .bin) 0 (omega arith) (h .loads-small));
+        intrinsic-small = omega (arith, stored .intrinsic-is, limits .0);
+        delay-small = subst (λ (d : ℕ). d * load ≤ 65025) (sym (stored .drive-is)) (mul-le-mul (limits .1) (h .light));
         symbol-small = h .symbols-small (node k);
         room = h .room k here;
         kept = λ {a} {b} was came.
-            let step : from k ≡ comeTo (pinLoad l (feeds cell i)) (inputDelay cell load i + delay₀) (i .node) (i .shape) (from (k + 1)) =
-            ap (λ (js : List Input). comeToInputs l cell load delay₀ js w) (drop-cons is k noInput here ∙ ap (λ (j : ℕ). i ∷ drop j is) (sym (add-one k))) in
-            let same : comeTo (getD row (figures k + 1) 0) (getD row (figures k + 2) 0 + getD row (figures k + 3) 0 * load + delay₀) (node k) (i .shape) (from (k + 1)) ≡ from k =
-            (λ j. comeTo (held .load-is j) (held .intrinsic-is j + held .drive-is j * load + delay₀) (node-is j) (i .shape) (from (k + 1))) ∙ sym step in
-            subst (λ (v : Walk). Kept v b) same (came (from (k + 1)) (i .shape) was (subst (λ (n : ℕ). Heads (getD ss n 0) (i .shape)) (sym node-is) (h .heads i among .0)));
+            let step : from k ≡ visited (pinLoad l (feeds cell i)) (inputDelay cell load i + delay₀) (i .node) (i .shape) (from (k + 1)) =
+            ap (λ (js : List Input). inputsVisited l cell load delay₀ js w) (drop-cons is k noInput here ∙ ap (λ (j : ℕ). i ∷ drop j is) (sym (add-one k))) in
+            let same : visited (getD row (figures k + 1) 0) (getD row (figures k + 2) 0 + getD row (figures k + 3) 0 * load + delay₀) (node k) (i .shape) (from (k + 1)) ≡ from k =
+            (λ j. visited (stored .load-is j) (stored .intrinsic-is j + stored .drive-is j * load + delay₀) (node-is j) (i .shape) (from (k + 1))) ∙ sym step in
+            subst (λ (v : Walk). WalkStored v b) same (came (from (k + 1)) (i .shape) was (subst (λ (n : ℕ). Heads (getD ss n 0) (i .shape)) (sym node-is) (h .heads i among .0)));
       }

@@ -10,28 +10,28 @@ use Rattle.fields.specs.declared.Scan.{Scan}
 use Rattle.fields.specs.declared.Scan.the-variants.{At, Refused}
 use Rattle.fields.specs.Reading.{start, place}
 use Rattle.fields.specs.Answer.{Answer, refused, success}
-use Rattle.sheets.specs.declared.library.LibraryRead.{LibraryRead}
-use Rattle.sheets.specs.declared.tree.TreeRead.{TreeRead}
-use Rattle.sheets.specs.Model.{Library, Tree}
-use Rattle.sheets.specs.LibrarySheet.{library as libraryOf}
-use Rattle.sheets.specs.TreeSheet.{tree as treeOf}
-use Rattle.sheets.specs.Public.{LibraryIs, TreeIs}
-use Rattle.sheets.specs.Report.{libraryNumber, treeNumber}
+use Rattle.sheets_rules.specs.declared.LibraryRead.{LibraryRead}
+use Rattle.sheets_rules.specs.declared.TreeRead.{TreeRead}
+use Rattle.sheets_rules.specs.Model.{Library, Tree}
+use Rattle.sheets_rules.specs.LibrarySheet.{library as libraryOf}
+use Rattle.sheets_rules.specs.TreeSheet.{tree as treeOf}
+use Rattle.sheets_rules.specs.Inside.Readers.{LibraryIs, TreeIs}
+use Rattle.sheets_rules.specs.Report.{libraryNumber, treeNumber}
 use Rattle.covers.specs.Cover.{Point, Cover}
 use Rattle.covers.specs.Tradeoff.{same}
 use Rattle.covers.specs.CoverSheet.{coverRead}
 use Rattle.covers.specs.Outcome.{withTree, withLibrary}
 use Rattle.covers.proofs.Points.{same-true}
 use Rattle.covers.proofs.ReadBack.{CoverFits, cover-read-fits}
-use Rattle.results.specs.declared.CoverRead.{CoverRead}
-use Rattle.results.specs.Public.{coverOf, CoverIs}
-use Rattle.judgement.specs.Walk.{started, walk}
-use Rattle.judgement.specs.Judgement.{sheetNumber, figuresNumber, figures, coverJudged, judgement, PointBounded}
-use Rattle.judgement.proofs.Demands.{walk-refused, judge-demands}
-use Rattle.judgement.specs.Demands.{JudgedWhereSound}
-use Rattle.judge.specs.declared.CoverJudged.{CoverJudged}
-use Rattle.judge.specs.declared.CoverJudged.the-variants as Judged
-use Rattle.judge.specs.Public.{ofCoverJudged}
+use Rattle.result_sheets.specs.declared.CoverRead.{CoverRead}
+use Rattle.result_sheets.specs.Public.{coverOf, CoverIs}
+use Rattle.judge_rules.specs.Walk.{started, walk}
+use Rattle.judge_rules.specs.Judgement.{sheetNumber, figuresNumber, figures, coverJudged, judgement, PointBounded}
+use Rattle.judge_rules.proofs.Demands.{walk-refused, judge-demands}
+use Rattle.judge_rules.specs.Demands.{JudgedWhereSound}
+use Rattle.judge_rules.specs.declared.CoverJudged.{CoverJudged}
+use Rattle.judge_rules.specs.declared.CoverJudged.the-variants as Judged
+use Rattle.judge_rules.specs.Public.{ofCoverJudged}
 
 -- ---- a cover sheet
 

@@ -1,5 +1,5 @@
 -- The laws of `judge`, in reading order.
-pub mod Kept
+pub mod Stored
 pub mod Entering
 pub mod Taking
 pub mod Stepping

@@ -7,19 +7,19 @@ use mathlib.Core.List.{List, [], _∷_, List·Memᴰ, List·Memᴰ·head}
 use mathlib.Core.Option.{Option, none, some}
 use native.Mathlib.Omega.{arith}
 use lib.ListN.{length, getD, getElem?, take, drop}
-use Rattle.sheets.specs.Model.{Shape, size, Library, Pattern, Tree, patterns}
-use Rattle.sheets.specs.Layout.{rowWords}
+use Rattle.sheets_rules.specs.Model.{Shape, size, Library, Pattern, Tree, patterns}
+use Rattle.sheets_rules.specs.Inside.Layout.{rowWords}
 use Rattle.covers.specs.Cover.{Placed}
 use Rattle.overlay.proofs.Standing.{heads-everywhere}
-use Rattle.overlay.proofs.Symbols.{symbols-small}
-use Rattle.overlay.proofs.Patterns.{noPattern, patternAt, rows-long, at-hand, row-held, walkable}
-use Rattle.judgement.specs.Walk.{Uncovered, Walk, lowestAt, matchAt, taken, placedAt, step}
-use Rattle.judgement.specs.Order.{Apart}
-use Rattle.judgement.proofs.Order.{lowest-first, lowest-other, apart-few, step-past}
+use Rattle.leaves.proofs.Symbols.{symbols-small}
+use Rattle.overlay.proofs.Patterns.{noPattern, patternAt, rows-long, at-hand, row-stored, walkable}
+use Rattle.judge_rules.specs.Walk.{Uncovered, Walk, lowestAt, matchAt, matchTaken, placedAt, step}
+use Rattle.judge_rules.specs.Inside.Order.{Apart}
+use Rattle.judge_rules.proofs.Order.{lowest-first, lowest-other, apart-few, step-past}
 use Rattle.judge.specs.declared.WalkRecord.{WalkRecord}
 use Rattle.judge.specs.declared.Stepped.{Stepped}
-use Rattle.judge.specs.Inside.{lastOf, Kept, Taking, SteppedIs, Stepping}
-use Rattle.judge.proofs.Kept.{last-is}
+use Rattle.judge.specs.Inside.Promises.{lastOf, WalkStored, Taking, SteppedIs, Stepping}
+use Rattle.judge.proofs.Stored.{last-is}
 
 module _ {A : Type 0} where
   at-there : (xs : List A) (k : ℕ) (d : A) → k < length xs → getElem? xs k ≡ some (getD xs k d)
@@ -44,7 +44,7 @@ module _ {l : Library} {t : Tree} {rows ss zs : List ℕ} {k : ℕ} {w : Walk} {
     where
       go : (us : List Uncovered) → w .left ≡ us → First
       go [] e = absurd (omega (arith, h .kept .count-is, ap length e))
-      go (o ∷ os) e = record { shape = o .shape; others = os; first = e ∙ ap (λ (u : Uncovered). u ∷ os) (last-is (subst (λ (us : List Uncovered). Kept (record { left = us; point = w .point }) r) e (h .kept))) }
+      go (o ∷ os) e = record { shape = o .shape; others = os; first = e ∙ ap (λ (u : Uncovered). u ∷ os) (last-is (subst (λ (us : List Uncovered). WalkStored (record { left = us; point = w .point }) r) e (h .kept))) }
 
   pub count-few : r .count ≤ 64
   count-few = omega (arith, h .kept .count-is, apart-few (h .walking .apart), h .decoded .tree .size)
@@ -85,7 +85,7 @@ module _ {l : Library} {t : Tree} {rows ss zs : List ℕ} {k : ℕ} {w : Walk} {
           away e = unfold step placedAt in rw e
 
       module _ (here : o .node ≡ node) where
-        step-here : step l w x ≡ taken l w o (matchAt pattern crossing o (getElem? (patterns l) pattern))
+        step-here : step l w x ≡ matchTaken l w o (matchAt pattern crossing o (getElem? (patterns l) pattern))
         unfolding step placedAt
         step-here = ap (placedAt l w x) (ap (lowestAt node) (f .first) ∙ ap (λ (n : ℕ). lowestAt n (o ∷ f .others)) (sym here) ∙ lowest-first apart)
 
@@ -93,8 +93,8 @@ module _ {l : Library} {t : Tree} {rows ss zs : List ℕ} {k : ℕ} {w : Walk} {
         pub wrong-pattern : length rows ≤ rowWords * pattern → Makes (record { right = false; walk = r })
         wrong-pattern g = wrong (step-here ∙ away (at-past (patterns l) pattern (omega (arith, rows-long (h .decoded)))))
           where
-            away : getElem? (patterns l) pattern ≡ none → taken l w o (matchAt pattern crossing o (getElem? (patterns l) pattern)) ≡ none
-            away e = unfold taken matchAt in rw e
+            away : getElem? (patterns l) pattern ≡ none → matchTaken l w o (matchAt pattern crossing o (getElem? (patterns l) pattern)) ≡ none
+            away e = unfold matchTaken matchAt in rw e
 
         module _ (known : rowWords * pattern < length rows) where
           in-library : pattern < length (patterns l)
@@ -106,7 +106,7 @@ module _ {l : Library} {t : Tree} {rows ss zs : List ℕ} {k : ℕ} {w : Walk} {
           module _ (m : ℕ) (e : m ≡ rowWords) where
             pub taking : Taking l t (take m (drop (rowWords * pattern) rows)) ss zs k (patternAt l pattern) (f .shape) w r
             taking =
-                let held = row-held (h .decoded) pattern in-library m e in
+                let stored = row-stored (h .decoded) pattern in-library m e in
                 let sound = at-hand (h .decoded) pattern in-library in
                 record {
                   others = f .others;
@@ -114,9 +114,9 @@ module _ {l : Library} {t : Tree} {rows ss zs : List ℕ} {k : ℕ} {w : Walk} {
                   walking = h .walking;
                   kept = h .kept;
                   few = h .few;
-                  drawn = held .drawing;
+                  drawn = stored .drawing;
                   walkable = λ a. walkable (h .decoded) pattern in-library m e a (h .walking .within o (subst (List·Memᴰ o) (sym (f .first)) (List·Memᴰ·head refl)) .node-in);
-                  cell = held .cell;
+                  cell = stored .cell;
                   sound = sound .cell;
                   drawing = sound .drawing;
                   heads = heads-everywhere (h .decoded);
@@ -125,5 +125,5 @@ module _ {l : Library} {t : Tree} {rows ss zs : List ℕ} {k : ℕ} {w : Walk} {
                   loads-small = h .decoded .library .loads;
                 }
 
-          pub made : (q : Stepped) → SteppedIs (taken l w o (matchAt pattern crossing o (some (patternAt l pattern)))) q → Makes q
-          made q = subst (λ (v : Option Walk). SteppedIs v q) (ap (λ (p : Option Pattern). taken l w o (matchAt pattern crossing o p)) (sym (at-there (patterns l) pattern noPattern in-library)) ∙ sym step-here)
+          pub made : (q : Stepped) → SteppedIs (matchTaken l w o (matchAt pattern crossing o (some (patternAt l pattern)))) q → Makes q
+          made q = subst (λ (v : Option Walk). SteppedIs v q) (ap (λ (p : Option Pattern). matchTaken l w o (matchAt pattern crossing o p)) (sym (at-there (patterns l) pattern noPattern in-library)) ∙ sym step-here)

@@ -7,27 +7,27 @@ use mathlib.Core.Option.{Option, none, some, Option·map}
 use native.Mathlib.Numerals.{add-one}
 use native.Mathlib.Omega.{arith}
 use lib.ListN.{length, getD, drop}
-use Rattle.sheets.specs.Model.{Shape, size, nands, Cell, Library, Pattern, Tree}
+use Rattle.sheets_rules.specs.Model.{Shape, size, nands, Cell, Library, Pattern, Tree}
 use Rattle.covers.specs.Crossing.{crossingLimit, redrawn, isCrossing}
 use Rattle.covers.specs.Match.{Input, Match, matched, legal}
 use Rattle.covers.specs.Cover.{raised}
-use Rattle.covers.specs.Curve.{base}
+use Rattle.covers.specs.Inside.Curve.{base}
 use Rattle.covers.specs.Tradeoff.{nodes}
 use Rattle.covers.proofs.Matching.{Spread, crossing-small, fits-inside, size-pos}
 use Rattle.covers.proofs.Matching as matching
 use Rattle.covers.proofs.Nodes.{nodeOf, root-in, fits-in, nodes-within, node-ends}
 use Rattle.overlay.specs.declared.Walked.{Walked}
-use Rattle.overlay.specs.Standing.{DrawingHeld, extent, Measured}
-use Rattle.sheets.specs.Layout.{heldAt, areaAt, highestAt}
-use Rattle.overlay.specs.Held.{Walkable, Walks, WalkIs}
+use Rattle.overlay.specs.Inside.Standing.{DrawingStored, extent, Measured}
+use Rattle.sheets_rules.specs.Inside.Layout.{heldAt, areaAt, highestAt}
+use Rattle.overlay.specs.Inside.Promises.{Walkable, Walks, WalkIs}
 use Rattle.overlay.proofs.Patterns.{redrawn-sound, missed, hit}
-use Rattle.judgement.specs.Walk.{Uncovered, Walk, comeToInputs, others, matchAt, taken}
-use Rattle.judgement.specs.Order.{Apart, last, next}
-use Rattle.judgement.proofs.Order.{inputs-apart, apart-few, others-first}
+use Rattle.judge_rules.specs.Walk.{Uncovered, Walk, inputsVisited, others, matchAt, matchTaken}
+use Rattle.judge_rules.specs.Inside.Order.{Apart, last, next}
+use Rattle.judge_rules.proofs.Order.{inputs-apart, apart-few, others-first}
 use Rattle.judge.specs.declared.WalkRecord.{WalkRecord}
 use Rattle.judge.specs.declared.Stepped.{Stepped}
-use Rattle.judge.specs.Inside.{popped, lastOf, Kept, Entering, Within, Taking, SteppedIs}
-use Rattle.judge.proofs.Kept.{kept-popped}
+use Rattle.judge.specs.Inside.Promises.{popped, lastOf, WalkStored, Entering, Within, Taking, SteppedIs}
+use Rattle.judge.proofs.Stored.{kept-popped}
 
 -- The inputs after one of them, from where its subtree ends.
 pub record SpreadAfter (low high : ℕ) (is : List Input) (k : ℕ) : Type 0 where
@@ -47,8 +47,8 @@ module _ {l : Library} {t : Tree} {row ss zs : List ℕ} {k : ℕ} {p : Pattern}
   abbrev o : Uncovered
   o = lastOf r s
 
-  kept : Kept (record { left = o ∷ h .others; point = w .point }) r
-  kept = subst (λ (us : List Uncovered). Kept (record { left = us; point = w .point }) r) (h .first) (h .kept)
+  kept : WalkStored (record { left = o ∷ h .others; point = w .point }) r
+  kept = subst (λ (us : List Uncovered). WalkStored (record { left = us; point = w .point }) r) (h .first) (h .kept)
 
   apart : Apart (h .walking .low) (size (t .shape)) (o ∷ h .others)
   apart = subst (Apart (h .walking .low) (size (t .shape))) (h .first) (h .walking .apart)
@@ -71,7 +71,7 @@ module _ {l : Library} {t : Tree} {row ss zs : List ℕ} {k : ℕ} {p : Pattern}
 
   -- What measure answers.
   abbrev Measures : List ℕ → Type 0
-  Measures words = (d : Shape) → DrawingHeld row d → size d ≤ 16 → Measured d words
+  Measures words = (d : Shape) → DrawingStored row d → size d ≤ 16 → Measured d words
 
   pub measured : {words : List ℕ} → Measures words → Measured (p .drawing) words
   measured e = e (p .drawing) (h .drawn) (h .drawing .size)
@@ -93,7 +93,7 @@ module _ {l : Library} {t : Tree} {row ss zs : List ℕ} {k : ℕ} {p : Pattern}
     d = redrawn x (p .drawing)
 
     abbrev step : Option Walk
-    step = taken l w o (matchAt number x o (some p))
+    step = matchTaken l w o (matchAt number x o (some p))
 
     abbrev refusal : Stepped
     refusal = record { right = false; walk = r }
@@ -113,7 +113,7 @@ module _ {l : Library} {t : Tree} {row ss zs : List ℕ} {k : ℕ} {p : Pattern}
     wrong-load e f = wrong (none-legal (sym (legal-read e) ∙ f))
       where
         none-legal : legal (p .cell) (o .load) ≡ false → step ≡ none
-        none-legal g = unfold taken matchAt in rw g
+        none-legal g = unfold matchTaken matchAt in rw g
 
     module _ (words : List ℕ) (measures : Measures words) where
       -- What is_crossing and the walk over the pattern answer.
@@ -131,7 +131,7 @@ module _ {l : Library} {t : Tree} {row ss zs : List ℕ} {k : ℕ} {p : Pattern}
       wrong-crossing e f = wrong (none-crossed (sym (crossing-read e) ∙ f))
         where
           none-crossed : isCrossing (p .drawing) x ≡ false → step ≡ none
-          none-crossed g = unfold taken matchAt in rw (g, and-false (legal (p .cell) (o .load)))
+          none-crossed g = unfold matchTaken matchAt in rw (g, and-false (legal (p .cell) (o .load)))
 
       pub crossing-below : {b : Bool} → CrossingIs b → b ≡ true → x < crossingLimit
       crossing-below e f = crossing-small (p .drawing) x (sym (crossing-read e) ∙ f)
@@ -140,13 +140,13 @@ module _ {l : Library} {t : Tree} {row ss zs : List ℕ} {k : ℕ} {p : Pattern}
       wrong-shape walked e f = wrong (none-matched (missed (o .node) s walked (redrawn-sound x (h .drawing)) (e (p .drawing) s (h .walkable (measured measures)) .found-is) f))
         where
           none-matched : matched d (o .node) s ≡ none → step ≡ none
-          none-matched g = unfold taken matchAt in go (legal (p .cell) (o .load) && isCrossing (p .drawing) x)
+          none-matched g = unfold matchTaken matchAt in go (legal (p .cell) (o .load) && isCrossing (p .drawing) x)
             where
-              go : (b : Bool) → taken l w o (cond b (Option·map (λ (is : List Input). record { number = number; crossing = x; pattern = p; inputs = is }) (matched d (o .node) s)) none) ≡ none
-              go true = unfold taken in rw g
-              go false = unfold taken in refl
+              go : (b : Bool) → matchTaken l w o (cond b (Option·map (λ (is : List Input). record { number = number; crossing = x; pattern = p; inputs = is }) (matched d (o .node) s)) none) ≡ none
+              go true = unfold matchTaken in rw g
+              go false = unfold matchTaken in refl
 
-      -- A legal match: the walk comes to its inputs.
+      -- A legal match: the walk reaches its inputs.
       module _ (is : List Input) (fits : matched d (o .node) s ≡ some is) where
         abbrev pub match : Match
         match = record { number = number; crossing = x; pattern = p; inputs = is }
@@ -154,22 +154,22 @@ module _ {l : Library} {t : Tree} {row ss zs : List ℕ} {k : ℕ} {p : Pattern}
         abbrev pub below : Walk
         below = record { left = h .others; point = raised (p .cell .area) (w .point) }
 
-        stepped : legal (p .cell) (o .load) ≡ true → isCrossing (p .drawing) x ≡ true → step ≡ some (comeToInputs l (p .cell) (o .load) (o .delay) is below)
-        unfolding taken matchAt
+        stepped : legal (p .cell) (o .load) ≡ true → isCrossing (p .drawing) x ≡ true → step ≡ some (inputsVisited l (p .cell) (o .load) (o .delay) is below)
+        unfolding matchTaken matchAt
         stepped e f =
             let there : matchAt number x o (some p) ≡ some match = rw (e, f, fits) in
-            ap (taken l w o) there
-            ∙ ap (λ (us : List Uncovered). some (comeToInputs l (p .cell) (o .load) (o .delay) is (record { left = us; point = raised (p .cell .area) (w .point) }))) (ap (others (o .node)) (h .first) ∙ others-first apart)
+            ap (matchTaken l w o) there
+            ∙ ap (λ (us : List Uncovered). some (inputsVisited l (p .cell) (o .load) (o .delay) is (record { left = us; point = raised (p .cell .area) (w .point) }))) (ap (others (o .node)) (h .first) ∙ others-first apart)
 
         -- The inputs are nodes of the tree.
         in-tree : (i : Input) → List·Memᴰ i is → List·Memᴰ (nodeOf i) (nodes 0 (t .shape))
         in-tree i a = nodes-within 0 (t .shape) (within .node-in) (fits-in d (o .node) s is fits i a)
 
-        room : (j : ℕ) → j < length is → length (comeToInputs l (p .cell) (o .load) (o .delay) (drop (j + 1) is) below .left) < 64
+        room : (j : ℕ) → j < length is → length (inputsVisited l (p .cell) (o .load) (o .delay) (drop (j + 1) is) below .left) < 64
         room j g =
             let rest = spread-after (fits-inside d (o .node) s fits .spread) j g in
             let few = apart-few (inputs-apart l (p .cell) (o .load) (o .delay) (drop (suc j) is) below (rest .spread) (beyond apart)) in
-            subst (λ (q : ℕ). length (comeToInputs l (p .cell) (o .load) (o .delay) (drop q is) below .left) < 64) (sym (add-one j)) (omega (arith, few, rest .above, h .tree .size))
+            subst (λ (q : ℕ). length (inputsVisited l (p .cell) (o .load) (o .delay) (drop q is) below .left) < 64) (sym (add-one j)) (omega (arith, few, rest .above, h .tree .size))
           where
             beyond : {low : ℕ} → Apart low (size (t .shape)) (o ∷ h .others) → Apart (o .node + size s) (size (t .shape)) (h .others)
             beyond (next a g r) = r
@@ -177,7 +177,7 @@ module _ {l : Library} {t : Tree} {row ss zs : List ℕ} {k : ℕ} {p : Pattern}
         entering : {walked : Walked} → Walks is walked → length is ≤ length (p .cell .pins) → ((i : Input) → List·Memᴰ i is → i .pin < length (p .cell .pins)) → Entering l row ss walked (o .load) (o .delay) (popped r (p .cell .area)) match below
         entering walks few pinned = record {
           kept = kept-popped kept (p .cell .area);
-          held = record { walks = walks; cell = h .cell; sound = h .sound; few = omega (arith, few, h .sound .few-pins); pinned = pinned };
+          stored = record { walks = walks; cell = h .cell; sound = h .sound; few = omega (arith, few, h .sound .few-pins); pinned = pinned };
           heads = λ i a. (h .heads (nodeOf i) (in-tree i a), omega (arith, node-ends 0 (t .shape) (in-tree i a), size-pos (i .shape), h .tree .size));
           symbols-long = h .walkable (measured measures) .subject .symbols-long;
           symbols-small = h .symbols-small;
@@ -191,7 +191,7 @@ module _ {l : Library} {t : Tree} {row ss zs : List ℕ} {k : ℕ} {p : Pattern}
         pub m : Match
         pub below : Walk
         pub enters : Entering l row ss walked (o .load) (o .delay) after m below
-        pub makes : (q : WalkRecord) → Kept (comeToInputs l (m .pattern .cell) (o .load) (o .delay) (m .inputs) below) q → SteppedIs step (record { right = true; walk = q })
+        pub makes : (q : WalkRecord) → WalkStored (inputsVisited l (m .pattern .cell) (o .load) (o .delay) (m .inputs) below) q → SteppedIs step (record { right = true; walk = q })
 
       pub found : (walked : Walked) {after : WalkRecord} {a b : Bool} → LegalIs a → a ≡ true → CrossingIs b → b ≡ true → WalkedAs walked → walked .matched ≡ true → after ≡ popped r (getD row areaAt 0) → Found walked after
       found walked {after} a e b c f g q =

@@ -9,69 +9,69 @@ use native.Mathlib.Numerals.{add-one}
 use native.Mathlib.Omega.{arith}
 use lib.ListN.{length, getD, take, drop}
 use Rattle.fields.specs.Answer.{refused, success}
-use Rattle.sheets.specs.Model.{Shape, leaf, inv, nand, size, Pin, Cell, Library, Tree}
-use Rattle.sheets.specs.Sound.{SoundLibrary, SoundTree}
+use Rattle.sheets_rules.specs.Model.{Shape, leaf, inv, nand, size, Pin, Cell, Library, Tree}
+use Rattle.sheets_rules.specs.Inside.Sound.{SoundLibrary, SoundTree}
 use Rattle.covers.specs.Match.{Input, Match, IsMatch, pinAt, pinLoad, delay}
 use Rattle.covers.specs.Cover.{Point, Placed, raised, beside, late, leafPoint, feeds, inputDelay}
 use Rattle.covers.specs.Tradeoff.{nodes}
 use Rattle.covers.proofs.Basics.{at-all, each}
 use Rattle.covers.proofs.Points.{point-path}
-use Rattle.results.specs.Public.{placedOf}
+use Rattle.result_sheets.specs.Public.{placedOf}
 use Rattle.covers.proofs.Nodes.{nodeOf, root-in, input-in, nodes-within}
 use Rattle.covers.proofs.Bounds.{match-cell}
-use Rattle.sheets.specs.declared.tree.TreeRecord.{TreeRecord}
-use Rattle.sheets.specs.Layout.{treeLaid}
-use Rattle.overlay.specs.Held.{symbolLimit}
-use Rattle.overlay.specs.Standing.{Heads, Subject}
+use Rattle.sheets_rules.specs.declared.TreeRecord.{TreeRecord}
+use Rattle.sheets_rules.specs.Inside.Layout.{treeLaid}
+use Rattle.leaves.specs.Inside.Leaf.{symbolLimit, Heads}
+use Rattle.overlay.specs.Inside.Standing.{Subject}
 use Rattle.overlay.proofs.Standing.{heads-everywhere, subject-everywhere}
-use Rattle.overlay.proofs.Symbols.{symbols-small}
-use Rattle.judgement.specs.Walk.{Uncovered, Walk, comeTo, comeToInputs, started, step, matchNumber, ended, onward, walk}
-use Rattle.judgement.specs.Order.{Apart}
-use Rattle.judgement.proofs.Order.{after, StepIs, wrong, right, step-is, step-past}
-use Rattle.judgement.proofs.Walking.{after-apart, started-apart}
+use Rattle.leaves.proofs.Symbols.{symbols-small}
+use Rattle.judge_rules.specs.Walk.{Uncovered, Walk, visited, inputsVisited, started, step, matchNumber, listEnded, onward, walk}
+use Rattle.judge_rules.specs.Inside.Order.{Apart}
+use Rattle.judge_rules.proofs.Order.{after, StepIs, wrong, right, step-is, step-past}
+use Rattle.judge_rules.proofs.Walking.{after-apart, started-apart}
 use Rattle.judge.specs.declared.WalkRecord.{WalkRecord}
 use Rattle.judge.specs.declared.Stepped.{Stepped}
-use Rattle.judge.specs.Inside.{slowest, nothingYet, Kept, SteppedIs, Within, Walking, Judging}
-use Rattle.judge.proofs.Kept.{kept-nothing}
+use Rattle.judge.specs.Inside.Promises.{slowest, nothingYet, WalkStored, SteppedIs, Within, Walking, Judging}
+use Rattle.judge.proofs.Stored.{kept-nothing}
 
 -- ---- what is to be covered stays within bounds
 
-come-area : (load far n : ℕ) (s : Shape) (w : Walk) → comeTo load far n s w .point .area ≡ w .point .area
-unfolding comeTo beside late leafPoint
-come-area load far n (leaf x) w = omega arith
-come-area load far n (inv s) w = refl
-come-area load far n (nand s u) w = refl
+visit-area : (load far n : ℕ) (s : Shape) (w : Walk) → visited load far n s w .point .area ≡ w .point .area
+unfolding visited beside late leafPoint
+visit-area load far n (leaf x) w = omega arith
+visit-area load far n (inv s) w = refl
+visit-area load far n (nand s u) w = refl
 
-inputs-area : (l : Library) (c : Cell) (load far : ℕ) (is : List Input) (w : Walk) → comeToInputs l c load far is w .point .area ≡ w .point .area
-unfolding comeToInputs
+inputs-area : (l : Library) (c : Cell) (load far : ℕ) (is : List Input) (w : Walk) → inputsVisited l c load far is w .point .area ≡ w .point .area
+unfolding inputsVisited
 inputs-area l c load far [] w = refl
-inputs-area l c load far (i ∷ is) w = come-area (pinLoad l (feeds c i)) (inputDelay c load i + far) (i .node) (i .shape) (comeToInputs l c load far is w) ∙ inputs-area l c load far is w
+inputs-area l c load far (i ∷ is) w = visit-area (pinLoad l (feeds c i)) (inputDelay c load i + far) (i .node) (i .shape) (inputsVisited l c load far is w) ∙ inputs-area l c load far is w
 
 module _ (t : Tree) (k : ℕ) where
   abbrev AllWithin : Walk → Type 0
   AllWithin w = (o : Uncovered) → List·Memᴰ o (w .left) → Within t k o
 
-  come-within : (load far n : ℕ) (s : Shape) (w : Walk) → List·Memᴰ (record { number = n; shape = s }) (nodes 0 (t .shape)) → load ≤ 255 → far ≤ slowest * k → AllWithin w → AllWithin (comeTo load far n s w)
-  unfolding comeTo
-  come-within load far n (leaf x) w a b d h = h
-  come-within load far n (inv s) w a b d h = each {P = Within t k} record { node-in = a; light = b; near = d } h
-  come-within load far n (nand s u) w a b d h = each {P = Within t k} record { node-in = a; light = b; near = d } h
+  visit-within : (load far n : ℕ) (s : Shape) (w : Walk) → List·Memᴰ (record { number = n; shape = s }) (nodes 0 (t .shape)) → load ≤ 255 → far ≤ slowest * k → AllWithin w → AllWithin (visited load far n s w)
+  unfolding visited
+  visit-within load far n (leaf x) w a b d h = h
+  visit-within load far n (inv s) w a b d h = each {P = Within t k} record { node-in = a; light = b; near = d } h
+  visit-within load far n (nand s u) w a b d h = each {P = Within t k} record { node-in = a; light = b; near = d } h
 
   inputs-within : (l : Library) (c : Cell) (load far : ℕ) (is : List Input) (w : Walk) →
-      ((i : Input) → List·Memᴰ i is → List·Memᴰ (nodeOf i) (nodes 0 (t .shape)) × (pinLoad l (feeds c i) ≤ 255) × (inputDelay c load i + far ≤ slowest * k)) → AllWithin w → AllWithin (comeToInputs l c load far is w)
-  unfolding comeToInputs
+      ((i : Input) → List·Memᴰ i is → List·Memᴰ (nodeOf i) (nodes 0 (t .shape)) × (pinLoad l (feeds c i) ≤ 255) × (inputDelay c load i + far ≤ slowest * k)) → AllWithin w → AllWithin (inputsVisited l c load far is w)
+  unfolding inputsVisited
   inputs-within l c load far [] w a h = h
   inputs-within l c load far (i ∷ is) w a h =
       let b = a i (List·Memᴰ·head refl) in
-      come-within (pinLoad l (feeds c i)) (inputDelay c load i + far) (i .node) (i .shape) (comeToInputs l c load far is w) (b .0) (b .1) (b .2) (inputs-within l c load far is w (λ j m. a j (List·Memᴰ·tail m)) h)
+      visit-within (pinLoad l (feeds c i)) (inputDelay c load i + far) (i .node) (i .shape) (inputsVisited l c load far is w) (b .0) (b .1) (b .2) (inputs-within l c load far is w (λ j m. a j (List·Memᴰ·tail m)) h)
 
 pub started-walking : {t : Tree} → SoundTree t → Walking t 0 (started t)
 unfolding started
 started-walking {t} h = record {
   low = 0;
   apart = started-apart t;
-  within = come-within t 0 (t .load) 0 0 (t .shape) (record { left = []; point = record { area = 0; arrival = 0 } }) (root-in 0 (t .shape)) (h .load) (omega arith) (λ o m. absurd (List·Memᴰ·not-nil m));
-  area = omega (arith, come-area (t .load) 0 0 (t .shape) (record { left = []; point = record { area = 0; arrival = 0 } }));
+  within = visit-within t 0 (t .load) 0 0 (t .shape) (record { left = []; point = record { area = 0; arrival = 0 } }) (root-in 0 (t .shape)) (h .load) (omega arith) (λ o m. absurd (List·Memᴰ·not-nil m));
+  area = omega (arith, visit-area (t .load) 0 0 (t .shape) (record { left = []; point = record { area = 0; arrival = 0 } }));
 }
 
 module _ {l : Library} (sound : SoundLibrary l) where
@@ -118,7 +118,7 @@ module _ {l : Library} (sound : SoundLibrary l) where
 
 -- ---- the list
 
--- What the first of so many nodes, patterns and crossings list.
+-- What the first nodes, patterns and crossings list.
 abbrev pub listing : ℕ → (ns ps xs : List ℕ) → List Placed
 listing count ns ps xs = placedOf (take count ns) (take count ps) (take count xs)
 
@@ -150,10 +150,10 @@ module _ (l : Library) (t : Tree) (xs : List Placed) where
   pub record Gone (k : ℕ) (r : WalkRecord) : Type 0 where
     pub w : Walk
     pub walking : Walking t k w
-    pub kept : Kept w r
+    pub kept : WalkStored w r
     pub rest : walk l k (drop k xs) w ≡ walk l 0 xs (started t)
 
-  pub gone-start : {r : WalkRecord} → SoundTree t → Kept (started t) r → Gone 0 r
+  pub gone-start : {r : WalkRecord} → SoundTree t → WalkStored (started t) r → Gone 0 r
   gone-start h k = record { w = started t; walking = started-walking h; kept = k; rest = refl }
 
   module _ {k : ℕ} {r : WalkRecord} (g : Gone k r) where
@@ -162,16 +162,16 @@ module _ (l : Library) (t : Tree) (xs : List Placed) where
     unfolding walk
     gone-early e h = go (g .w .left) refl ∙ sym (ap (λ (ys : List Placed). walk l k ys (g .w)) e) ∙ g .rest
       where
-        go : (us : List Uncovered) → g .w .left ≡ us → refused matchNumber k ≡ ended k (g .w .left) (g .w .point)
+        go : (us : List Uncovered) → g .w .left ≡ us → refused matchNumber k ≡ listEnded k (g .w .left) (g .w .point)
         go [] f = absurd (omega (arith, g .kept .count-is, ap length f))
-        go (o ∷ os) f = unfold ended in rw f
+        go (o ∷ os) f = unfold listEnded in rw f
 
     pub gone-end : drop k xs ≡ [] → r .count ≡ 0 → success (record { area = r .area; arrival = r .arrival }) ≡ walk l 0 xs (started t)
     unfolding walk
     gone-end e h = ap success (point-path (g .kept .area-is) (g .kept .arrival-is)) ∙ go (g .w .left) refl ∙ sym (ap (λ (ys : List Placed). walk l k ys (g .w)) e) ∙ g .rest
       where
-        go : (us : List Uncovered) → g .w .left ≡ us → success (g .w .point) ≡ ended k (g .w .left) (g .w .point)
-        go [] f = unfold ended in rw f
+        go : (us : List Uncovered) → g .w .left ≡ us → success (g .w .point) ≡ listEnded k (g .w .left) (g .w .point)
+        go [] f = unfold listEnded in rw f
         go (o ∷ os) f = absurd (omega (arith, g .kept .count-is, ap length f))
 
     -- At a match.
@@ -204,14 +204,14 @@ module _ {l : Library} {t : Tree} {rows : List ℕ} {tree : TreeRecord} (h : Jud
   pub symbol-small : getD (tree .symbols) 0 0 ≤ symbolLimit
   symbol-small = symbols-small (tree .symbols) (t .shape) (h .decoded .symbols-are) (h .decoded .tree .leaves) 0
 
-  root-held : Subject (tree .symbols) (tree .sizes) 0 (t .shape)
-  root-held = subject-everywhere (h .decoded) (record { number = 0; shape = t .shape }) (root-in 0 (t .shape))
+  root-stored : Subject (tree .symbols) (tree .sizes) 0 (t .shape)
+  root-stored = subject-everywhere (h .decoded) (record { number = 0; shape = t .shape }) (root-in 0 (t .shape))
 
   pub symbols-long : length (tree .symbols) ≡ 64
-  symbols-long = root-held .symbols-long
+  symbols-long = root-stored .symbols-long
 
   pub sizes-long : length (tree .sizes) ≡ 64
-  sizes-long = root-held .sizes-long
+  sizes-long = root-stored .sizes-long
 
   load-is : tree .load ≡ t .load
   unfolding treeLaid
@@ -220,9 +220,9 @@ module _ {l : Library} {t : Tree} {rows : List ℕ} {tree : TreeRecord} (h : Jud
   pub load-small : tree .load ≤ 255
   load-small = omega (arith, load-is, h .decoded .tree .load)
 
-  pub started-kept : (b r : WalkRecord) → b ≡ nothingYet → ((w : Walk) (s : Shape) → Kept w b → Heads (getD (tree .symbols) 0 0) s → Kept (comeTo (tree .load) 0 0 s w) r) → Kept (started t) r
+  pub started-kept : (b r : WalkRecord) → b ≡ nothingYet → ((w : Walk) (s : Shape) → WalkStored w b → Heads (getD (tree .symbols) 0 0) s → WalkStored (visited (tree .load) 0 0 s w) r) → WalkStored (started t) r
   unfolding started
   started-kept b r e f =
       let none : Walk = record { left = []; point = record { area = 0; arrival = 0 } } in
-      subst (λ (load : ℕ). Kept (comeTo load 0 0 (t .shape) none) r) load-is
-      (f none (t .shape) (subst (Kept none) (sym e) kept-nothing) (heads-everywhere (h .decoded) (record { number = 0; shape = t .shape }) (root-in 0 (t .shape))))
+      subst (λ (load : ℕ). WalkStored (visited load 0 0 (t .shape) none) r) load-is
+      (f none (t .shape) (subst (WalkStored none) (sym e) kept-nothing) (heads-everywhere (h .decoded) (record { number = 0; shape = t .shape }) (root-in 0 (t .shape))))

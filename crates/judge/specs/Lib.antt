@@ -1,3 +1,2 @@
--- What the contracts of `judge` say: what callers rely on, and what its functions promise each other.
-pub mod Public
+-- What the functions of `judge` promise.
 pub mod Inside

@@ -1,38 +1,33 @@
 // The judge of covers that others hand in: the three sheets are read, the listed matches walked from the front, and the stated figures compared.
 use fields::Scan;
+use judge_rules::CoverJudged;
 use overlay::Crossing;
 use overlay::Extents;
 use overlay::Walked;
-use results::CoverRecord;
-use sheets::library::LibraryRecord;
-use sheets::library::PatternRow;
-use sheets::tree::TreeRecord;
+use result_sheets::CoverRecord;
+use sheets_rules::LibraryRecord;
+use sheets_rules::PatternRow;
+use sheets_rules::TreeRecord;
 ghost use mathlib.Core.Path.{_≡_};
 ghost use mathlib.Core.Bool.{cond};
 ghost use mathlib.Core.Option.{some};
 ghost use Prim.Native.Nat.{ℕ, _+_, _<_, _≤_};
 ghost use Rattle.fields.specs.Reading.{start};
-ghost use Rattle.sheets.specs.Model.{Shape, nands as nandsOf, Cell, Library, Pattern, Tree};
-ghost use Rattle.sheets.specs.TreeSheet.{tree as treeOf};
+ghost use Rattle.sheets_rules.specs.Model.{Shape, nands as nandsOf, Cell, Library, Pattern, Tree};
+ghost use Rattle.sheets_rules.specs.TreeSheet.{tree as treeOf};
 ghost use Rattle.covers.specs.Crossing.{isCrossing};
 ghost use Rattle.covers.specs.Match.{Match, legal};
-ghost use Rattle.covers.specs.Curve.{base};
+ghost use Rattle.covers.specs.Inside.Curve.{base};
 ghost use Rattle.covers.specs.CoverSheet.{coverRead};
 ghost use Rattle.covers.specs.Outcome.{withTree};
-ghost use Rattle.results.specs.Public.{coverOf};
-ghost use Rattle.overlay.specs.Standing.{Heads};
-ghost use Rattle.overlay.specs.Held.{symbolLimit, LibraryHeld, SheetsHeld};
-ghost use Rattle.judgement.specs.Walk.{Walk, comeTo, comeToInputs, matchAt, taken, step as stepOf, started, walk as walkOf};
-ghost use Rattle.judgement.specs.Judgement.{figures, coverJudged, judgement, PointBounded};
-ghost use Rattle.judgement.specs.Demands.{JudgedWhereSound};
-ghost use Rattle.judge.specs.Public.{ofCoverJudged};
-ghost use Rattle.judge.specs.Inside.{nothingYet, arrived, pushed, popped, lastOf, Kept, Entering, Taking, SteppedIs, Stepping, Judging};
-
-// What the judge of covers answers: area and arrival, or document 02's number and the place.
-pub enum CoverJudged {
-    Accepted(u32, u32),
-    Refused(u32, usize),
-}
+ghost use Rattle.result_sheets.specs.Public.{coverOf};
+ghost use Rattle.leaves.specs.Inside.Leaf.{Heads, symbolLimit};
+ghost use Rattle.overlay.specs.Inside.Promises.{LibraryStored, SheetsStored};
+ghost use Rattle.judge_rules.specs.Walk.{Walk, visited, inputsVisited, matchAt, matchTaken, step as stepOf, started, walk as walkOf};
+ghost use Rattle.judge_rules.specs.Judgement.{figures, coverJudged, judgement, PointBounded};
+ghost use Rattle.judge_rules.specs.Demands.{JudgedWhereSound};
+ghost use Rattle.judge_rules.specs.Public.{ofCoverJudged};
+ghost use Rattle.judge.specs.Inside.Promises.{nothingYet, arrived, pushed, popped, lastOf, WalkStored, Entering, Taking, SteppedIs, Stepping, Judging};
 
 // Document 02's numbers: the cover sheet is torn or has a bad tail, a match stands wrongly or the list ends early, a stated figure is not true.
 pub struct Numbers {}
@@ -62,7 +57,7 @@ pub struct Stepped {
     pub walk: WalkRecord,
 }
 
-// Nothing is come to yet.
+// Nothing is reached yet.
 fn begin() -> WalkRecord
     ensures { λ r. ⌜ r ≡ nothingYet ⌝ }
 {
@@ -113,19 +108,19 @@ fn pop(walk: WalkRecord, area: u32) -> WalkRecord
     next
 }
 
-// The walk comes to a node with a symbol, under a load and with a delay from there to the root.
-fn come_to(walk: WalkRecord, symbol: u32, node: usize, load: u32, delay: u32) -> WalkRecord
+// The walk reaches a node with a symbol, under a load and with a delay from there to the root.
+fn visit(walk: WalkRecord, symbol: u32, node: usize, load: u32, delay: u32) -> WalkRecord
     requires { ⌜ (symbol ≤ symbolLimit) × (walk .count < 64) × (node < 64) × (load ≤ 255) × (delay < base) ⌝ }
-    ensures { λ r. ⌜ ((w : Walk) (s : Shape) → Kept w walk → Heads symbol s → Kept (comeTo load delay node s w) r) ⌝ }
+    ensures { λ r. ⌜ ((w : Walk) (s : Shape) → WalkStored w walk → Heads symbol s → WalkStored (visited load delay node s w) r) ⌝ }
 {
     if 2 <= symbol {
-        return arrive(walk, overlay::leaf_arrival(symbol, load) as u32 + delay);
+        return arrive(walk, leaves::leaf_arrival(symbol, load) as u32 + delay);
     }
     push(walk, node, load, delay)
 }
 
 // The inputs of a match that drives a load: each under the load of its pin, and later by the pin's delay.
-fn come_to_inputs<'a>(
+fn visit_inputs<'a>(
     walk: WalkRecord,
     walked: Walked,
     row: &'a [u32],
@@ -135,7 +130,7 @@ fn come_to_inputs<'a>(
 ) -> WalkRecord
     requires { ⌜ ((l : Library) × ((m : Match) × ((w : Walk) × Entering l (now row) (now symbols) walked load delay walk m w))) ⌝ }
     ensures { λ r. ⌜ ((l : Library) (m : Match) (w : Walk) → Entering l (now (row .entry)) (now (symbols .entry)) walked load delay walk m w →
-        Kept (comeToInputs l (m .pattern .cell) load delay (m .inputs) w) r) ⌝ }
+        WalkStored (inputsVisited l (m .pattern .cell) load delay (m .inputs) w) r) ⌝ }
 {
     let mut next = walk;
     let mut k = walked.count;
@@ -145,7 +140,7 @@ fn come_to_inputs<'a>(
         let figures = PatternRow::FIGURES + PatternRow::PIN * walked.pins[k] as usize;
         let own = row[figures + PatternRow::LOAD];
         let added = row[figures + PatternRow::INTRINSIC] + row[figures + PatternRow::DRIVE] * load;
-        next = come_to(next, symbols[node], node, own, added + delay);
+        next = visit(next, symbols[node], node, own, added + delay);
     }
     next
 }
@@ -160,7 +155,7 @@ fn is_legal(held: u32, highest: u32, load: u32) -> bool
     load <= highest
 }
 
-// Whether a number is a crossing of a drawing with so many NANDs: no bit of its five is set after theirs.
+// Whether a number is a crossing of a drawing with `nands` NANDs: no bit of its five is set after theirs.
 fn is_crossing(nands: usize, crossing: u32) -> bool
     requires { ⌜ nands ≤ 5 ⌝ }
     ensures { λ r. ⌜ ((d : Shape) → nands ≡ nandsOf d → r ≡ isCrossing d crossing) ⌝ }
@@ -181,7 +176,7 @@ fn take_match<'a>(
 ) -> Stepped
     requires { ⌜ ((l : Library) × ((t : Tree) × ((k : ℕ) × ((p : Pattern) × ((s : Shape) × ((w : Walk) × Taking l t (now row) (now symbols) (now sizes) k p s w walk)))))) ⌝ }
     ensures { λ r. ⌜ ((l : Library) (t : Tree) (k : ℕ) (p : Pattern) (s : Shape) (w : Walk) (number : ℕ) → Taking l t (now (row .entry)) (now (symbols .entry)) (now (sizes .entry)) k p s w walk →
-        SteppedIs (taken l w (lastOf walk s) (matchAt number crossing (lastOf walk s) (some p))) r) ⌝ }
+        SteppedIs (matchTaken l w (lastOf walk s) (matchAt number crossing (lastOf walk s) (some p))) r) ⌝ }
 {
     let top = walk.count - 1;
     let node = walk.nodes[top] as usize;
@@ -202,7 +197,7 @@ fn take_match<'a>(
     let next = pop(walk, row[PatternRow::AREA]);
     Stepped {
         right: true,
-        walk: come_to_inputs(next, walked, row, symbols, load, delay),
+        walk: visit_inputs(next, walked, row, symbols, load, delay),
     }
 }
 
@@ -251,7 +246,7 @@ fn walk_cover(rows: &[u32], tree: TreeRecord, cover: CoverRecord) -> CoverJudged
     let patterns = cover.patterns;
     let crossings = cover.crossings;
     let count = cover.count;
-    let mut walk = come_to(begin(), symbols[0], 0, tree.load as u32, 0);
+    let mut walk = visit(begin(), symbols[0], 0, tree.load as u32, 0);
     let mut k: usize = 0;
     while k < count {
         let stepped = step(
@@ -293,8 +288,8 @@ fn compare(judged: CoverJudged, area: u32, arrival: u32) -> CoverJudged
 
 // A cover as it was read, with a sound library and a sound tree.
 fn with_records(library: LibraryRecord, tree: TreeRecord, cover: CoverRecord) -> CoverJudged
-    requires { ⌜ (cover .count < 64) × ((l : Library) × ((t : Tree) × SheetsHeld l t library tree)) ⌝ }
-    ensures { λ r. ⌜ ((l : Library) (t : Tree) → SheetsHeld l t library tree → ofCoverJudged r ≡ figures (coverOf cover .point) (walkOf l 0 (coverOf cover .placed) (started t))) ⌝ }
+    requires { ⌜ (cover .count < 64) × ((l : Library) × ((t : Tree) × SheetsStored l t library tree)) ⌝ }
+    ensures { λ r. ⌜ ((l : Library) (t : Tree) → SheetsStored l t library tree → ofCoverJudged r ≡ figures (coverOf cover .point) (walkOf l 0 (coverOf cover .placed) (started t))) ⌝ }
 {
     let rows = library.rows;
     let words = PatternRow::WORDS * library.total;
@@ -305,11 +300,11 @@ fn with_records(library: LibraryRecord, tree: TreeRecord, cover: CoverRecord) ->
 
 // A cover sheet, with a sound library and a sound tree.
 fn with_tree(library: LibraryRecord, tree: TreeRecord, cover: &[u8]) -> CoverJudged
-    requires { ⌜ ((l : Library) × ((t : Tree) × SheetsHeld l t library tree)) ⌝ }
-    ensures { λ r. ⌜ ((l : Library) (t : Tree) → SheetsHeld l t library tree → ofCoverJudged r ≡ coverJudged (coverRead (now (cover .entry)) start) l t) ⌝ }
+    requires { ⌜ ((l : Library) × ((t : Tree) × SheetsStored l t library tree)) ⌝ }
+    ensures { λ r. ⌜ ((l : Library) (t : Tree) → SheetsStored l t library tree → ofCoverJudged r ≡ coverJudged (coverRead (now (cover .entry)) start) l t) ⌝ }
     ensures { λ r. ⌜ PointBounded (ofCoverJudged r) ⌝ }
 {
-    let read = results::read_cover(cover);
+    let read = result_sheets::read_cover(cover);
     let scan = read.scan;
     match scan {
         Scan::At(_) => with_records(library, tree, read.cover),
@@ -319,17 +314,15 @@ fn with_tree(library: LibraryRecord, tree: TreeRecord, cover: &[u8]) -> CoverJud
 
 // Any tree and any cover sheet, with a sound library.
 fn with_library(library: LibraryRecord, tree: &[u8], cover: &[u8]) -> CoverJudged
-    requires { ⌜ ((l : Library) × LibraryHeld l library) ⌝ }
-    ensures { λ r. ⌜ ((l : Library) → LibraryHeld l library → ofCoverJudged r ≡ withTree (coverJudged (coverRead (now (cover .entry)) start) l) (treeOf (now (tree .entry)) start)) ⌝ }
+    requires { ⌜ ((l : Library) × LibraryStored l library) ⌝ }
+    ensures { λ r. ⌜ ((l : Library) → LibraryStored l library → ofCoverJudged r ≡ withTree (coverJudged (coverRead (now (cover .entry)) start) l) (treeOf (now (tree .entry)) start)) ⌝ }
     ensures { λ r. ⌜ PointBounded (ofCoverJudged r) ⌝ }
 {
-    let read = sheets::tree::read_tree(tree);
+    let read = tree::read_tree(tree);
     let scan = read.scan;
     match scan {
         Scan::At(_) => with_tree(library, read.tree, cover),
-        Scan::Refused(fault, place) => {
-            CoverJudged::Refused(sheets::tree::tree_number(fault), place)
-        }
+        Scan::Refused(fault, place) => { CoverJudged::Refused(tree::tree_number(fault), place) }
     }
 }
 
@@ -339,12 +332,12 @@ pub fn judge_cover(library: &[u8], tree: &[u8], cover: &[u8]) -> CoverJudged
     ensures { λ r. ⌜ JudgedWhereSound (now (library .entry)) (now (tree .entry)) (now (cover .entry)) (ofCoverJudged r) ⌝ }
     ensures { λ r. ⌜ PointBounded (ofCoverJudged r) ⌝ }
 {
-    let read = sheets::library::read_library(library);
+    let read = library::read_library(library);
     let scan = read.scan;
     match scan {
         Scan::At(_) => with_library(read.library, tree, cover),
         Scan::Refused(fault, place) => {
-            CoverJudged::Refused(sheets::library::library_number(fault), place)
+            CoverJudged::Refused(library::library_number(fault), place)
         }
     }
 }

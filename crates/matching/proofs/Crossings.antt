@@ -12,14 +12,14 @@ use lib.Dec.{eqb, ltb}
 use lib.ListN.{length}
 use lib.Pow.{pow-add, pow-pos, shr-lt, shr-mono, split}
 use borrow.Author.Tests.{eq-eqb, lt-ltb}
-use Rattle.sheets.specs.Model.{Shape, Pattern, nands}
-use Rattle.sheets.specs.Sound.{SoundDrawing}
+use Rattle.sheets_rules.specs.Model.{Shape, Pattern, nands}
+use Rattle.sheets_rules.specs.Inside.Sound.{SoundDrawing}
 use Rattle.covers.specs.Lists.{keepIf, select}
 use Rattle.covers.specs.Crossing.{crossingLimit, redrawn, isCrossing, counted, crossings}
 use Rattle.covers.specs.Match.{Input, Match, matched, putFirst, fittingUnder}
 use Rattle.covers.proofs.Basics.{tests, select-append}
 use Rattle.overlay.specs.declared.Walked.{Walked}
-use Rattle.overlay.specs.Held.{SameBits, WalkIs}
+use Rattle.overlay.specs.Inside.Promises.{SameBits, WalkIs}
 use Rattle.overlay.proofs.Patterns.{matched-laid, redrawn-sound}
 
 -- ---- the next block of numbers
@@ -89,7 +89,7 @@ module _ (n : ℕ) (s : Shape) (k : ℕ) (p : Pattern) where
   under-append [] ys = refl
   under-append (x ∷ xs) ys = ap (putFirst k p x (matched (redrawn x (p .drawing)) n s)) (under-append xs ys) ∙ put-append k p x (matched (redrawn x (p .drawing)) n s) (fittingUnder n s k p xs) (fittingUnder n s k p ys)
 
-  -- Those under crossings from a on, so many numbers; those below x; and that under x, if there is one.
+  -- Those under `count` crossings from a on; those below x; and that under x, if there is one.
   abbrev matchesFrom : ℕ → ℕ → List Match
   matchesFrom a m = fittingUnder n s k p (select (isCrossing (p .drawing)) (counted a m))
 

@@ -11,12 +11,12 @@ use lib.ListN.{length, getD, set, take, drop, length-append, length-map}
 use lib.Seq.{sets, take-suc, length-take-le}
 use borrow.Rule.Slice.PartMut.{putMid}
 use Rattle.fields.proofs.Lists.{mid-sets, at-map}
-use Rattle.sheets.specs.Model.{Shape, Library, Pattern, Tree, patterns, nands}
-use Rattle.sheets.specs.Layout.{tableFrom, rowWords}
-use Rattle.sheets.specs.Sound.{SoundDrawing, SoundCell, SoundLibrary}
-use Rattle.sheets.proofs.Laws.{table-append}
-use Rattle.sheets.proofs.Tables.{row-at}
-use Rattle.sheets.proofs.Patterns.{sound-pattern}
+use Rattle.sheets_rules.specs.Model.{Shape, Library, Pattern, Tree, patterns, nands}
+use Rattle.sheets_rules.specs.Inside.Layout.{tableFrom, rowWords}
+use Rattle.sheets_rules.specs.Inside.Sound.{SoundDrawing, SoundCell, SoundLibrary}
+use Rattle.sheets_rules.proofs.Laid.{table-append}
+use Rattle.sheets_rules.proofs.Tables.{row-at}
+use Rattle.sheets_rules.proofs.Patterns.{sound-pattern}
 use Rattle.covers.specs.Lists.{keepIf, select}
 use Rattle.covers.specs.Crossing.{crossingLimit, redrawn, isCrossing, counted, crossings}
 use Rattle.covers.specs.Match.{Input, Match, laid, matched, putFirst, fittingUnder, fittingFrom, fitting}
@@ -24,12 +24,12 @@ use Rattle.covers.proofs.Basics.{at-in}
 use Rattle.covers.proofs.Matching.{whenever, IsFitting, fitting-are}
 use Rattle.covers.proofs.Nodes.{root-in}
 use Rattle.overlay.specs.declared.Walked.{Walked}
-use Rattle.overlay.specs.Standing.{extent, Measured}
-use Rattle.overlay.specs.Held.{WalkedIs, WalkIs}
-use Rattle.overlay.proofs.Patterns.{pinned, redrawn-sound, FromDrawing, laid-from, matched-laid, noPattern, patternAt, at-hand, row-held, walkable}
-use Rattle.matching.specs.Found.{matchBytes, matchTable, inputsAt, inputsBytes, matchRow}
-use Rattle.matching.specs.Promises.{Few, Writable, Trying, Ready}
-use Rattle.matching.proofs.Written.{length-row}
+use Rattle.overlay.specs.Inside.Standing.{extent, Measured}
+use Rattle.overlay.specs.Inside.Promises.{WalkedIs, WalkIs}
+use Rattle.overlay.proofs.Patterns.{pinned, redrawn-sound, FromDrawing, laid-from, matched-laid, noPattern, patternAt, at-hand, row-stored, walkable}
+use Rattle.matching.specs.Inside.Found.{matchBytes, matchTable, inputsAt, inputsBytes, hitOf}
+use Rattle.matching.specs.Inside.Promises.{Few, Writable, Trying, Ready}
+use Rattle.matching.proofs.Written.{length-hit}
 use Rattle.matching.proofs.Crossings.{next, next-above, matchesBelow, matchesAt, below-more, bits, bits-few, passed-over, crossing-after}
 
 -- ---- one pattern under one crossing
@@ -77,13 +77,13 @@ there {o} {walked} w e = go o refl w
     go (some is) f h = record { inputs = is; is-there = f; writable = h }
 
 module _ (k x : ℕ) (p : Pattern) (t : List ℕ) where
-  pub wrote-none : {o : Option (List Input)} → o ≡ none → (0 ≡ length (putFirst k p x o [])) × (t ≡ tableFrom matchBytes t 0 (map matchRow (putFirst k p x o [])))
+  pub wrote-none : {o : Option (List Input)} → o ≡ none → (0 ≡ length (putFirst k p x o [])) × (t ≡ tableFrom matchBytes t 0 (map hitOf (putFirst k p x o [])))
   unfolding putFirst tableFrom
   wrote-none e = rw e (refl, refl)
 
   pub wrote-one : {o : Option (List Input)} {t′ : List ℕ} {count : ℕ} (is : List Input) → o ≡ some is → count ≡ length is → t′ ≡ sets (set (set (set t 0 k) 1 x) 2 count) inputsAt (inputsBytes is) →
-      (1 ≡ length (putFirst k p x o [])) × (t′ ≡ tableFrom matchBytes t 0 (map matchRow (putFirst k p x o [])))
-  unfolding putFirst tableFrom matchRow
+      (1 ≡ length (putFirst k p x o [])) × (t′ ≡ tableFrom matchBytes t 0 (map hitOf (putFirst k p x o [])))
+  unfolding putFirst tableFrom hitOf
   wrote-one is e c h = rw e (refl, h ∙ ap (λ n. sets (set (set (set t 0 k) 1 x) 2 n) inputsAt (inputsBytes is)) c)
 
 -- ---- one turn of the loop over the crossings
@@ -104,29 +104,29 @@ put-more k p x (some is) ms = omega arith
 pub put-few : (k : ℕ) (p : Pattern) (x : ℕ) (o : Option (List Input)) → length (putFirst k p x o []) ≤ 1
 put-few k p x o = put-more k p x o []
 
-put-small : (k : ℕ) (p : Pattern) (x : ℕ) (o : Option (List Input)) → Few o → (r : List ℕ) → List·Memᴰ r (map matchRow (putFirst k p x o [])) → length r ≤ matchBytes
+put-small : (k : ℕ) (p : Pattern) (x : ℕ) (o : Option (List Input)) → Few o → (r : List ℕ) → List·Memᴰ r (map hitOf (putFirst k p x o [])) → length r ≤ matchBytes
 unfolding putFirst
 put-small k p x none f r m = absurd (List·Memᴰ·not-nil m)
-put-small k p x (some is) f r (List·Memᴰ·head e) = omega (arith, ap length e, length-row (record { number = k; crossing = x; pattern = p; inputs = is }))
+put-small k p x (some is) f r (List·Memᴰ·head e) = omega (arith, ap length e, length-hit (record { number = k; crossing = x; pattern = p; inputs = is }))
 put-small k p x (some is) f r (List·Memᴰ·tail m) = absurd (List·Memᴰ·not-nil m)
 
 module _ (n : ℕ) (s : Shape) (k : ℕ) (p : Pattern) (x : ℕ) {walked : Walked} (w : Writable (matched (redrawn x (p .drawing)) n s) walked) where
   -- The matches under the crossings so far, and one crossing more.
   pub crossing-turn : (t₀ t part : List ℕ) (count found r m x′ : ℕ) → m ≡ matchBytes → matchBytes * found + m ≤ length t →
       matchesBelow n s k p x′ ≡ matchesBelow n s k p x ++ matchesAt n s k p x →
-      found ≡ count + length (matchesBelow n s k p x) → t ≡ tableFrom matchBytes t₀ count (map matchRow (matchesBelow n s k p x)) →
-      (r ≡ length (matchesAt n s k p x)) × (part ≡ tableFrom matchBytes (take m (drop (matchBytes * found) t)) 0 (map matchRow (matchesAt n s k p x))) →
-      (found + r ≡ count + length (matchesBelow n s k p x′)) × (putMid (matchBytes * found) m t part ≡ tableFrom matchBytes t₀ count (map matchRow (matchesBelow n s k p x′)))
+      found ≡ count + length (matchesBelow n s k p x) → t ≡ tableFrom matchBytes t₀ count (map hitOf (matchesBelow n s k p x)) →
+      (r ≡ length (matchesAt n s k p x)) × (part ≡ tableFrom matchBytes (take m (drop (matchBytes * found) t)) 0 (map hitOf (matchesAt n s k p x))) →
+      (found + r ≡ count + length (matchesBelow n s k p x′)) × (putMid (matchBytes * found) m t part ≡ tableFrom matchBytes t₀ count (map hitOf (matchesBelow n s k p x′)))
   crossing-turn t₀ t part count found r m x′ e g more ec et h =
       let fs = matchesBelow n s k p x in
       let ms = matchesAt n s k p x in
       let o = matched (redrawn x (p .drawing)) n s in (
         omega (arith, ap length more, length-append fs ms, h .0),
         ap (putMid (matchBytes * found) m t) (h .1)
-            ∙ lent-back t found m (map matchRow ms) e g (omega (arith, length-map ms matchRow, put-few k p x o)) (put-small k p x o (w .few))
-            ∙ ap₂ (λ t′ i. tableFrom matchBytes t′ i (map matchRow ms)) et (ec ∙ ap (λ i. count + i) (sym (length-map fs matchRow)))
-            ∙ sym (table-append matchBytes t₀ count (map matchRow fs) (map matchRow ms))
-            ∙ ap (tableFrom matchBytes t₀ count) (sym (ap (map matchRow) more ∙ map-append matchRow fs ms)),
+            ∙ lent-back t found m (map hitOf ms) e g (omega (arith, length-map ms hitOf, put-few k p x o)) (put-small k p x o (w .few))
+            ∙ ap₂ (λ t′ i. tableFrom matchBytes t′ i (map hitOf ms)) et (ec ∙ ap (λ i. count + i) (sym (length-map fs hitOf)))
+            ∙ sym (table-append matchBytes t₀ count (map hitOf fs) (map hitOf ms))
+            ∙ ap (tableFrom matchBytes t₀ count) (sym (ap (map hitOf) more ∙ map-append hitOf fs ms)),
       )
 
 -- Those below the last are all.
@@ -191,18 +191,18 @@ before-more l n s j h =
     ∙ ap (λ i. fittingFrom n s 0 (take j ps) ++ fittingUnder n s i p (crossings (p .drawing))) (zero-add (length (take j ps)) ∙ length-take-le j ps (omega arith))
 
 pub pattern-turn : (l : Library) (n : ℕ) (s : Shape) (j : ℕ) → j < length (patterns l) → (t₀ t t′ : List ℕ) (count r : ℕ) →
-    count ≡ length (matchesBefore l n s j) → t ≡ tableFrom matchBytes t₀ 0 (map matchRow (matchesBefore l n s j)) →
-    (r ≡ count + length (matchesOf l n s j)) × (t′ ≡ tableFrom matchBytes t count (map matchRow (matchesOf l n s j))) →
-    (r ≡ length (matchesBefore l n s (j + 1))) × (t′ ≡ tableFrom matchBytes t₀ 0 (map matchRow (matchesBefore l n s (j + 1))))
+    count ≡ length (matchesBefore l n s j) → t ≡ tableFrom matchBytes t₀ 0 (map hitOf (matchesBefore l n s j)) →
+    (r ≡ count + length (matchesOf l n s j)) × (t′ ≡ tableFrom matchBytes t count (map hitOf (matchesOf l n s j))) →
+    (r ≡ length (matchesBefore l n s (j + 1))) × (t′ ≡ tableFrom matchBytes t₀ 0 (map hitOf (matchesBefore l n s (j + 1))))
 pattern-turn l n s j h t₀ t t′ count r ec et w =
     let fs = matchesBefore l n s j in
     let ms = matchesOf l n s j in
     let more = before-more l n s j h in (
       omega (arith, ap length more, length-append fs ms, w .0),
       w .1
-          ∙ ap₂ (λ a i. tableFrom matchBytes a i (map matchRow ms)) et (ec ∙ sym (zero-add (length (map matchRow fs)) ∙ length-map fs matchRow))
-          ∙ sym (table-append matchBytes t₀ 0 (map matchRow fs) (map matchRow ms))
-          ∙ ap (tableFrom matchBytes t₀ 0) (sym (ap (map matchRow) more ∙ map-append matchRow fs ms)),
+          ∙ ap₂ (λ a i. tableFrom matchBytes a i (map hitOf ms)) et (ec ∙ sym (zero-add (length (map hitOf fs)) ∙ length-map fs hitOf))
+          ∙ sym (table-append matchBytes t₀ 0 (map hitOf fs) (map hitOf ms))
+          ∙ ap (tableFrom matchBytes t₀ 0) (sym (ap (map hitOf) more ∙ map-append hitOf fs ms)),
     )
 
 -- How many matches there may be.
@@ -246,7 +246,7 @@ trying {l} ready j h m e {count} few =
     let d = ready .decoded in
     let p = at-hand d j h in
     record {
-      drawing = row-held d j h m e .drawing;
+      drawing = row-stored d j h m e .drawing;
       pins = length (patternAt l j .cell .pins);
       few-pins = p .cell .few-pins;
       sound = p .drawing;
@@ -265,22 +265,22 @@ module _ (l : Library) (n : ℕ) (s : Shape) where
     pub pinned : (i : Input) → List·Memᴰ i (m .inputs) → i .pin < length (m .pattern .cell .pins)
     pub cell : SoundCell (length (l .bins)) (m .pattern .cell)
     pub fitting-is : IsFitting l n s m
-    pub row-few : length (matchRow m) ≤ matchBytes
+    pub hit-few : length (hitOf m) ≤ matchBytes
 
   pub fitting-sound : SoundLibrary l → {m : Match} → List·Memᴰ m (fitting l n s) → SoundMatch m
   fitting-sound h {m} i =
       let f = fitting-are l n s i in
       let p = sound-pattern l h (at-in (patterns l) (m .number) (f .numbered)) in
       let g = inputs-sound (p .drawing) (p .cell .few-pins) n s (m .crossing) (f .fits) in
-      record { few = g .few; pinned = g .pinned; cell = p .cell; fitting-is = f; row-few = omega (arith, length-row m, g .few) }
+      record { few = g .few; pinned = g .pinned; cell = p .cell; fitting-is = f; hit-few = omega (arith, length-hit m, g .few) }
 
-  -- The rows of all matches fit, and each is read back.
-  pub match-row-at : SoundLibrary l → (t : List ℕ) → length t ≡ matchTable → (d : Match) (j c : ℕ) → j < length (fitting l n s) → c < length (matchRow (getD (fitting l n s) j d)) →
-      getD (tableFrom matchBytes t 0 (map matchRow (fitting l n s))) (matchBytes * j + c) 0 ≡ getD (matchRow (getD (fitting l n s) j d)) c 0
-  match-row-at h t e d j c g k =
+  -- The hits of all matches fit, and each is read back.
+  pub hit-read : SoundLibrary l → (t : List ℕ) → length t ≡ matchTable → (d : Match) (j c : ℕ) → j < length (fitting l n s) → c < length (hitOf (getD (fitting l n s) j d)) →
+      getD (tableFrom matchBytes t 0 (map hitOf (fitting l n s))) (matchBytes * j + c) 0 ≡ getD (hitOf (getD (fitting l n s) j d)) c 0
+  hit-read h t e d j c g k =
       let ms = fitting l n s in
-      let here : getD (map matchRow ms) j [] ≡ matchRow (getD ms j d) = at-map matchRow ms j d [] g in
-      row-at matchBytes t (map matchRow ms) j c
-      (λ r i. let m = Memᴰ·of-map matchRow ms i in omega (arith, fitting-sound h (m .1) .row-few, ap length (m .2)))
-      (omega (arith, length-map ms matchRow, fitting-few l n s, h .few-patterns)) (omega (arith, length-map ms matchRow)) (omega (arith, ap length here))
+      let here : getD (map hitOf ms) j [] ≡ hitOf (getD ms j d) = at-map hitOf ms j d [] g in
+      row-at matchBytes t (map hitOf ms) j c
+      (λ r i. let m = Memᴰ·of-map hitOf ms i in omega (arith, fitting-sound h (m .1) .hit-few, ap length (m .2)))
+      (omega (arith, length-map ms hitOf, fitting-few l n s, h .few-patterns)) (omega (arith, length-map ms hitOf)) (omega (arith, ap length here))
       ∙ ap (λ r. getD r c 0) here

@@ -1,4 +1,4 @@
--- A match's row, written byte by byte, and read back.
+-- A hit, written byte by byte, and read back.
 use Prim.Native.Nat.{ℕ, zero, suc, _+_, _*_, _<_, _≤_}
 use mathlib.Core.Path.{_≡_, refl, sym, ap, ap₂, _∙_}
 use mathlib.Core.List.{List, [], _∷_, _++_}
@@ -9,19 +9,19 @@ use lib.Seq.{sets, take-suc, length-take-le}
 use Rattle.fields.proofs.Lists.{sets-append}
 use Rattle.covers.specs.Match.{Input, Match}
 use Rattle.overlay.specs.declared.Walked.{Walked}
-use Rattle.overlay.specs.Held.{Walks}
+use Rattle.overlay.specs.Inside.Promises.{Walks}
 use Rattle.overlay.proofs.Patterns.{noInput, noted}
-use Rattle.matching.specs.Found.{inputsAt, inputPlace, inputsBytes, matchRow}
+use Rattle.matching.specs.Inside.Found.{inputsAt, inputPlace, inputsBytes, hitOf}
 
 pub length-inputs : (is : List Input) → length (inputsBytes is) ≡ 2 * length is
 unfolding inputsBytes
 length-inputs [] = refl
 length-inputs (i ∷ is) = omega (arith, length-inputs is)
 
--- A match's row is as long as its inputs ask.
-pub length-row : (m : Match) → length (matchRow m) ≡ inputPlace (length (m .inputs))
-unfolding matchRow
-length-row m = omega (arith, length-inputs (m .inputs))
+-- A hit is as long as its inputs ask.
+pub length-hit : (m : Match) → length (hitOf m) ≡ inputPlace (length (m .inputs))
+unfolding hitOf
+length-hit m = omega (arith, length-inputs (m .inputs))
 
 inputs-append : (is js : List Input) → inputsBytes (is ++ js) ≡ inputsBytes is ++ inputsBytes js
 unfolding inputsBytes
@@ -42,13 +42,13 @@ node-in (i ∷ is) zero h = refl
 node-in (i ∷ is) (suc k) h = let e : 2 * suc k + 1 ≡ suc (suc (2 * k + 1)) = omega arith in rw e (node-in is k (omega arith))
 
 module _ (m : Match) (k : ℕ) (h : k < length (m .inputs)) where
-  pub row-pin : getD (matchRow m) (inputPlace k) 0 ≡ getD (m .inputs) k noInput .pin
-  unfolding matchRow
-  row-pin = let e : inputPlace k ≡ suc (suc (suc (2 * k))) = omega arith in rw e (pin-at (m .inputs) k h)
+  pub hit-pin : getD (hitOf m) (inputPlace k) 0 ≡ getD (m .inputs) k noInput .pin
+  unfolding hitOf
+  hit-pin = let e : inputPlace k ≡ suc (suc (suc (2 * k))) = omega arith in rw e (pin-at (m .inputs) k h)
 
-  pub row-node : getD (matchRow m) (inputPlace k + 1) 0 ≡ getD (m .inputs) k noInput .node
-  unfolding matchRow
-  row-node = let e : inputPlace k + 1 ≡ suc (suc (suc (2 * k + 1))) = omega arith in rw e (node-in (m .inputs) k h)
+  pub hit-node : getD (hitOf m) (inputPlace k + 1) 0 ≡ getD (m .inputs) k noInput .node
+  unfolding hitOf
+  hit-node = let e : inputPlace k + 1 ≡ suc (suc (suc (2 * k + 1))) = omega arith in rw e (node-in (m .inputs) k h)
 
 -- One input more.
 pub inputs-turn : {is : List Input} {walked : Walked} → Walks is walked → length is ≤ 6 → (k : ℕ) (t t₁ : List ℕ) → k < walked .count →

@@ -1,3 +1,2 @@
--- What the contracts of `matching` say, in reading order.
-pub mod Found
-pub mod Promises
+-- What the functions of `matching` promise.
+pub mod Inside

@@ -3,7 +3,7 @@
 use overlay::Crossing;
 use overlay::Extents;
 use overlay::Walked;
-use sheets::library::PatternRow;
+use sheets_rules::PatternRow;
 ghost use mathlib.Core.Path.{_≡_};
 ghost use mathlib.Core.Bool.{cond};
 ghost use mathlib.Core.List.{List, [], map};
@@ -11,18 +11,18 @@ ghost use mathlib.Core.Option.{Option};
 ghost use Prim.Native.Nat.{ℕ, _+_, _-_, _*_, _/_, _^_, _<_, _≤_};
 ghost use lib.ListN.{length};
 ghost use lib.Seq.{sets};
-ghost use Rattle.sheets.specs.Model.{Shape, Library, Pattern, Tree};
-ghost use Rattle.sheets.specs.Layout.{tableFrom};
+ghost use Rattle.sheets_rules.specs.Model.{Shape, Library, Pattern, Tree};
+ghost use Rattle.sheets_rules.specs.Inside.Layout.{tableFrom};
 ghost use Rattle.covers.specs.Crossing.{crossingLimit, crossings};
 ghost use Rattle.covers.specs.Match.{Input, putFirst, fittingUnder, fitting};
-ghost use Rattle.overlay.specs.Held.{Walks, WalkedIs};
-ghost use Rattle.matching.specs.Found.{matchBytes, inputsAt, inputsBytes, matchRow};
-ghost use Rattle.matching.specs.Promises.{Writable, Trying, Ready};
+ghost use Rattle.overlay.specs.Inside.Promises.{Walks, WalkedIs};
+ghost use Rattle.matching.specs.Inside.Found.{matchBytes, inputsAt, inputsBytes, hitOf};
+ghost use Rattle.matching.specs.Inside.Promises.{Writable, Trying, Ready};
 
-// A match's row: its pattern, its crossing and how many inputs it has, then two bytes for each input: the pin that it feeds, and its node.
-pub struct Row {}
+// A hit, which is a match as it is found: its pattern, its crossing and how many inputs it has, then two bytes for each input: the pin that it feeds, and its node.
+pub struct Hit {}
 
-impl Row {
+impl Hit {
     pub const PATTERN: usize = 0;
 
     pub const CROSSING: usize = 1;
@@ -51,31 +51,31 @@ fn write_inputs(table: &mut [u8], walked: Walked)
     let count = walked.count;
     let mut k: usize = 0;
     while k < count {
-        let at = Row::INPUTS + Row::INPUT * k;
+        let at = Hit::INPUTS + Hit::INPUT * k;
         table[at] = walked.pins[k];
-        table[at + Row::NODE] = walked.nodes[k];
+        table[at + Hit::NODE] = walked.nodes[k];
         k += 1;
     }
 }
 
-// The row of a pattern that was walked, if it matched. Answers how many rows were written.
+// The hit of a pattern that was walked, if it matched. Answers how many hits were written.
 fn write_match(table: &mut [u8], walked: Walked, pattern: usize, crossing: u32) -> usize
     requires { ⌜ (length (now table) ≡ matchBytes) × (pattern < 128) × (crossing < crossingLimit) × ((o : Option (List Input)) × Writable o walked) ⌝ }
     ensures { λ r. ⌜ ((o : Option (List Input)) → Writable o walked → (p : Pattern) →
         (r ≡ length (putFirst pattern p crossing o []))
-        × (now (table .exit) ≡ tableFrom matchBytes (now (table .entry)) 0 (map matchRow (putFirst pattern p crossing o [])))) ⌝ }
+        × (now (table .exit) ≡ tableFrom matchBytes (now (table .entry)) 0 (map hitOf (putFirst pattern p crossing o [])))) ⌝ }
 {
     if !walked.matched {
         return 0;
     }
-    table[Row::PATTERN] = pattern as u8;
-    table[Row::CROSSING] = crossing as u8;
-    table[Row::COUNT] = walked.count as u8;
+    table[Hit::PATTERN] = pattern as u8;
+    table[Hit::CROSSING] = crossing as u8;
+    table[Hit::COUNT] = walked.count as u8;
     write_inputs(table, walked);
     1
 }
 
-// The next crossing that differs from this one in its first bits, so many.
+// The next crossing that differs from this one in its first `bits` bits.
 fn next_crossing(crossing: u32, bits: usize) -> u32
     requires { ⌜ (crossing < crossingLimit) × (bits ≤ 5) ⌝ }
     ensures { λ r. ⌜ (r ≡ (crossing / 2 ^ (5 - bits) + 1) * 2 ^ (5 - bits)) × (crossing < r) × (r ≤ crossingLimit) ⌝ }
@@ -94,8 +94,8 @@ fn deciding(walked: Walked, nands: usize) -> usize
     walked.used
 }
 
-// The matches of one pattern: a row for each after `count` rows, in the order of crossing numbers. Crossings that begin with the bits which ruled
-// out one are not tried. Answers how many rows there are then.
+// The matches of one pattern: a hit for each after `count` hits, in the order of crossing numbers. Crossings that begin with the bits which ruled
+// out one are not tried. Answers how many hits there are then.
 fn find_crossings<'a>(
     row: &'a [u32],
     symbols: &'a [u32],
@@ -108,7 +108,7 @@ fn find_crossings<'a>(
     requires { ⌜ ((p : Pattern) × ((s : Shape) × Trying (now row) (now symbols) (now sizes) n pattern (length (now table)) count p s)) ⌝ }
     ensures { λ r. ⌜ ((p : Pattern) (s : Shape) → Trying (now (row .entry)) (now (symbols .entry)) (now (sizes .entry)) n pattern (length (now (table .entry))) count p s →
         (r ≡ count + length (fittingUnder n s pattern p (crossings (p .drawing))))
-        × (now (table .exit) ≡ tableFrom matchBytes (now (table .entry)) count (map matchRow (fittingUnder n s pattern p (crossings (p .drawing)))))) ⌝ }
+        × (now (table .exit) ≡ tableFrom matchBytes (now (table .entry)) count (map hitOf (fittingUnder n s pattern p (crossings (p .drawing)))))) ⌝ }
 {
     let extents = overlay::measure(row);
     let words = extents.words;
@@ -117,14 +117,14 @@ fn find_crossings<'a>(
     let mut crossing: u32 = 0;
     while crossing < Crossing::NUMBERS {
         let walked = overlay::walk(row, extents, crossing, symbols, sizes, n);
-        let at = Row::BYTES * found;
-        found += write_match(&mut table[at..at + Row::BYTES], walked, pattern, crossing);
+        let at = Hit::BYTES * found;
+        found += write_match(&mut table[at..at + Hit::BYTES], walked, pattern, crossing);
         crossing = next_crossing(crossing, deciding(walked, nands));
     }
     found
 }
 
-// The matches of a node: a row for each in the table, in the order of pattern numbers and then of crossing numbers. Answers how many there are.
+// The matches of a node: a hit for each in the table, in the order of pattern numbers and then of crossing numbers. Answers how many there are.
 pub fn find_matches<'a>(
     rows: &'a [u32],
     symbols: &'a [u32],
@@ -135,7 +135,7 @@ pub fn find_matches<'a>(
     requires { ⌜ ((l : Library) × ((t : Tree) × ((s : Shape) × Ready l t (now rows) (now symbols) (now sizes) n (length (now table)) s))) ⌝ }
     ensures { λ r. ⌜ ((l : Library) (t : Tree) (s : Shape) → Ready l t (now (rows .entry)) (now (symbols .entry)) (now (sizes .entry)) n (length (now (table .entry))) s →
         (r ≡ length (fitting l n s))
-        × (now (table .exit) ≡ tableFrom matchBytes (now (table .entry)) 0 (map matchRow (fitting l n s)))) ⌝ }
+        × (now (table .exit) ≡ tableFrom matchBytes (now (table .entry)) 0 (map hitOf (fitting l n s)))) ⌝ }
 {
     let total = rows.len() / PatternRow::WORDS;
     let mut count: usize = 0;

@@ -4,4 +4,3 @@ pub mod Standing
 pub mod Measuring
 pub mod Patterns
 pub mod Sheets
-pub mod Symbols

@@ -7,15 +7,15 @@ use native.Mathlib.Decide.{ℕ-discrete}
 use native.Mathlib.Omega.{arith}
 use lib.ListN.{getD, length, set}
 use lib.Seq.{getD-set-same, getD-set-other}
-use Rattle.shapes.specs.Shape.{symbols, sizes}
-use Rattle.sheets.specs.Layout.{symbolsAt}
-use Rattle.sheets.specs.Model.{Shape, leaf, inv, nand, size, nands}
+use Rattle.shapes_rules.specs.Shape.{symbols, sizes}
+use Rattle.sheets_rules.specs.Inside.Layout.{symbolsAt}
+use Rattle.sheets_rules.specs.Model.{Shape, leaf, inv, nand, size, nands}
 use Rattle.covers.specs.Tradeoff.{Node, nodes}
 use Rattle.covers.proofs.Ascending.{ascending-unique}
 use Rattle.covers.proofs.Matching.{size-pos}
 use Rattle.covers.proofs.Nodes.{root-in, node-at, nodes-within, node-ends}
 use Rattle.covers.proofs.Overfull.{nodes-ascend}
-use Rattle.overlay.specs.Standing.{Stands, DrawingHeld, extent, Measured, Extending, Drawn}
+use Rattle.overlay.specs.Inside.Standing.{Stands, DrawingStored, extent, Measured, Extending, Drawn}
 use Rattle.overlay.proofs.Standing.{stands-at, stands-nodes}
 
 nands-few : (s : Shape) → suc (2 * nands s) ≤ size s
@@ -91,7 +91,7 @@ MeasuredFrom d words k = (x : Node) → List·Memᴰ x (nodes 0 d) → k ≤ x .
 pub measured-none : (d : Shape) (words : List ℕ) {k : ℕ} → size d ≤ k → MeasuredFrom d words k
 measured-none d words h x m g = absurd (omega (arith, node-ends 0 d m, size-pos (x .shape)))
 
-module _ {row : List ℕ} {d : Shape} (held : DrawingHeld row d) where
+module _ {row : List ℕ} {d : Shape} (stored : DrawingStored row d) where
   -- The symbols in preorder hold each node.
   stands : (x : Node) → List·Memᴰ x (nodes 0 d) → Stands (symbols d) (sizes d) (x .number) (x .shape)
   stands = stands-nodes (symbols d) (sizes d) 0 d (stands-at (symbols d) (sizes d) 0 d (λ k h. ap (λ i. getD (symbols d) i 0) (omega arith)) (λ k h. ap (λ i. getD (sizes d) i 0) (omega arith)))
@@ -100,7 +100,7 @@ module _ {row : List ℕ} {d : Shape} (held : DrawingHeld row d) where
   within k s m = nodes-within 0 d m
 
   symbol-read : (x : Node) → List·Memᴰ x (nodes 0 d) → {v : ℕ} → getD (symbols d) (x .number) 0 ≡ v → getD row (symbolsAt + x .number) 0 ≡ v
-  symbol-read x m e = held .symbols-are (x .number) (omega (arith, node-ends 0 d m, size-pos (x .shape))) ∙ e
+  symbol-read x m e = stored .symbols-are (x .number) (omega (arith, node-ends 0 d m, size-pos (x .shape))) ∙ e
 
   module _ (small : size d ≤ 16) (words : List ℕ) (long : length words ≡ 16) (k : ℕ) (after : MeasuredFrom d words (k + 1)) (below : k < size d) where
     -- The node numbered k.

@@ -9,19 +9,19 @@ use native.Mathlib.Nat.{add-zero}
 use native.Mathlib.Omega.{arith}
 use lib.ListN.{length, getD, take, drop, length-append, length-map}
 use Rattle.fields.proofs.Lists.{at-mem, at-map}
-use Rattle.sheets.specs.Model.{Leaf, pinOf, plainLeaf, Shape, leaf, inv, nand, size, leaves, nands, Library, Pattern, Tree, patterns}
-use Rattle.sheets.specs.Layout.{padded, pinsMost, pinWords, figuresAt, rowWords}
-use Rattle.sheets.specs.Sound.{IsGate, SoundDrawing}
-use Rattle.sheets.proofs.Laws.{in-padded}
-use Rattle.sheets.proofs.Patterns.{SoundPattern, sound-pattern, Told, row-told, table-long, pin-laid}
-pub use Rattle.sheets.proofs.Patterns.{noPattern}
+use Rattle.sheets_rules.specs.Model.{Leaf, pinOf, plainLeaf, Shape, leaf, inv, nand, size, leaves, nands, Library, Pattern, Tree, patterns, pinsMost}
+use Rattle.sheets_rules.specs.Inside.Layout.{padded, pinWords, figuresAt, rowWords}
+use Rattle.sheets_rules.specs.Inside.Sound.{IsGate, SoundDrawing}
+use Rattle.sheets_rules.proofs.Laid.{in-padded}
+use Rattle.sheets_rules.proofs.Patterns.{SoundPattern, sound-pattern, Told, row-told, table-long, pin-laid}
+pub use Rattle.sheets_rules.proofs.Patterns.{noPattern}
 use Rattle.covers.specs.Crossing.{exchanged, ordered, redrawnFrom, redrawn}
 use Rattle.covers.specs.Match.{Input, joined, laid, matched, pinAt, pinLoad}
 use Rattle.covers.specs.Tradeoff.{nodes}
 use Rattle.covers.proofs.Matching.{Whenever, never, holds, whenever}
-use Rattle.overlay.specs.Held.{PatternHeld, Walkable, Walks, WalkedIs, Decoded}
+use Rattle.overlay.specs.Inside.Promises.{PatternStored, Walkable, Walks, WalkedIs, Decoded}
 use Rattle.overlay.specs.declared.Walked.{Walked}
-use Rattle.overlay.specs.Standing.{Measured}
+use Rattle.overlay.specs.Inside.Standing.{Measured}
 use Rattle.overlay.proofs.Standing.{subject-everywhere}
 use Rattle.overlay.proofs.Measuring.{drawn}
 
@@ -168,7 +168,7 @@ abbrev pub patternAt : Library → ℕ → Pattern
 patternAt l j = getD (patterns l) j noPattern
 
 -- A row that tells of a pattern holds it.
-holds-pattern : (l : Library) (p : Pattern) {r : List ℕ} → length (p .cell .pins) ≤ pinsMost → Told (l .bins) p r → PatternHeld l r p
+holds-pattern : (l : Library) (p : Pattern) {r : List ℕ} → length (p .cell .pins) ≤ pinsMost → Told (l .bins) p r → PatternStored l r p
 unfolding pinAt pinLoad
 holds-pattern l p {r} few t = record {
   drawing = record { long = t .long; size-is = t .nodes; symbols-are = t .symbol };
@@ -204,17 +204,17 @@ module _ {l : Library} {t : Tree} {rows ss zs : List ℕ} (decoded : Decoded l t
 
     module _ (m : ℕ) (e : m ≡ rowWords) where
       -- The row of pattern j.
-      pub row-held : PatternHeld l (take m (drop (rowWords * j) rows)) (patternAt l j)
-      row-held =
-          subst (λ (rs : List ℕ). PatternHeld l (take m (drop (rowWords * j) rs)) (patternAt l j)) (sym (decoded .rows-are))
+      pub row-stored : PatternStored l (take m (drop (rowWords * j) rows)) (patternAt l j)
+      row-stored =
+          subst (λ (rs : List ℕ). PatternStored l (take m (drop (rowWords * j) rs)) (patternAt l j)) (sym (decoded .rows-are))
           (holds-pattern l (patternAt l j) (at-hand .cell .few-pins) (row-told l (decoded .library) noPattern j m h e))
 
       pub walkable : {words : List ℕ} {n : ℕ} {s : Shape} → Measured (patternAt l j .drawing) words → List·Memᴰ (record { number = n; shape = s }) (nodes 0 (t .shape)) →
           Walkable (take m (drop (rowWords * j) rows)) words ss zs n (patternAt l j .drawing) s
       walkable {n = n} {s = s} measured here = record {
-        long = row-held .drawing .long;
+        long = row-stored .drawing .long;
         words-long = measured .long;
-        drawn = drawn (row-held .drawing) measured;
+        drawn = drawn (row-stored .drawing) measured;
         small = at-hand .drawing .size;
         few = omega (arith, at-hand .drawing .nands, at-hand .cell .few-pins);
         pinned = λ x i. let p = at-hand .drawing .leaves x i in (omega (arith, p .0, at-hand .cell .few-pins), p .1);

@@ -6,32 +6,33 @@ use mathlib.Core.List.{List, [], _++_, List·Memᴰ, List·Memᴰ·head, List·M
 use native.Mathlib.Omega.{arith}
 use lib.ListN.{length, getD, replicate, length-replicate}
 use lib.Seq.{length-sets}
-use Rattle.shapes.specs.Shape.{symbols, sizes}
-use Rattle.shapes.proofs.Drawn.{length-symbols, length-sizes}
-use Rattle.sheets.specs.Model.{leaves, Shape, leaf, inv, nand, size, Library, Tree}
-use Rattle.sheets.specs.Layout.{padded}
+use Rattle.shapes_rules.specs.Shape.{symbols, sizes}
+use Rattle.shapes_rules.proofs.Drawing.{length-symbols, length-sizes}
+use Rattle.sheets_rules.specs.Model.{leaves, Shape, leaf, inv, nand, size, Library, Tree}
+use Rattle.sheets_rules.specs.Inside.Layout.{padded}
 use Rattle.covers.specs.Tradeoff.{Node, nodes}
 use Rattle.covers.proofs.Nodes.{node-ends, leaves-within}
-use Rattle.overlay.specs.Standing.{Heads, Stands, Subject}
-use Rattle.overlay.specs.Held.{Decoded}
-use Rattle.overlay.proofs.Symbols.{SoundLeaves}
-use Rattle.fields.proofs.Lists.{in-sets, Held, held-head, held-tail, held-left, held-right}
+use Rattle.leaves.specs.Inside.Leaf.{Heads}
+use Rattle.overlay.specs.Inside.Standing.{Stands, Subject}
+use Rattle.overlay.specs.Inside.Promises.{Decoded}
+use Rattle.leaves.proofs.Symbols.{SoundLeaves}
+use Rattle.fields.proofs.Lists.{in-sets, Stored, stored-head, stored-tail, stored-left, stored-right}
 
 module _ (ss zs : List ℕ) where
-  pub stands-at : (i : ℕ) (s : Shape) → Held ss i (symbols s) → Held zs i (sizes s) → Stands ss zs i s
+  pub stands-at : (i : ℕ) (s : Shape) → Stored ss i (symbols s) → Stored zs i (sizes s) → Stands ss zs i s
   unfolding symbols sizes size
-  stands-at i (leaf x) h g = (held-head ss i _ [] h, held-head zs i _ [] g)
+  stands-at i (leaf x) h g = (stored-head ss i _ [] h, stored-head zs i _ [] g)
   stands-at i (inv s) h g =
-      (held-head ss i _ (symbols s) h, held-head zs i _ (sizes s) g, stands-at (suc i) s (held-tail ss i _ (symbols s) h) (held-tail zs i _ (sizes s) g))
+      (stored-head ss i _ (symbols s) h, stored-head zs i _ (sizes s) g, stands-at (suc i) s (stored-tail ss i _ (symbols s) h) (stored-tail zs i _ (sizes s) g))
   stands-at i (nand s t) h g =
-      let h′ = held-tail ss i _ (symbols s ++ symbols t) h in
-      let g′ = held-tail zs i _ (sizes s ++ sizes t) g in (
-        held-head ss i _ (symbols s ++ symbols t) h,
-        held-head zs i _ (sizes s ++ sizes t) g,
-        stands-at (suc i) s (held-left ss (suc i) (symbols s) (symbols t) h′) (held-left zs (suc i) (sizes s) (sizes t) g′),
+      let h′ = stored-tail ss i _ (symbols s ++ symbols t) h in
+      let g′ = stored-tail zs i _ (sizes s ++ sizes t) g in (
+        stored-head ss i _ (symbols s ++ symbols t) h,
+        stored-head zs i _ (sizes s ++ sizes t) g,
+        stands-at (suc i) s (stored-left ss (suc i) (symbols s) (symbols t) h′) (stored-left zs (suc i) (sizes s) (sizes t) g′),
         stands-at (suc i + size s) t
-            (subst (λ (k : ℕ). Held ss (suc i + k) (symbols t)) (length-symbols s) (held-right ss (suc i) (symbols s) (symbols t) h′))
-            (subst (λ (k : ℕ). Held zs (suc i + k) (sizes t)) (length-sizes s) (held-right zs (suc i) (sizes s) (sizes t) g′)),
+            (subst (λ (k : ℕ). Stored ss (suc i + k) (symbols t)) (length-symbols s) (stored-right ss (suc i) (symbols s) (symbols t) h′))
+            (subst (λ (k : ℕ). Stored zs (suc i + k) (sizes t)) (length-sizes s) (stored-right zs (suc i) (sizes s) (sizes t) g′)),
       )
 
   -- Each node of a subtree that stands there stands there too.
@@ -48,16 +49,16 @@ module _ (ss zs : List ℕ) where
 -- A decoded tree's arrays.
 module _ {l : Library} {t : Tree} {rows ss zs : List ℕ} (d : Decoded l t rows ss zs) where
   -- What a padded array holds.
-  laid : {ws : List ℕ} (xs : List ℕ) → ws ≡ padded 64 0 xs → length xs ≡ size (t .shape) → (length ws ≡ 64) × Held ws 0 xs
+  laid : {ws : List ℕ} (xs : List ℕ) → ws ≡ padded 64 0 xs → length xs ≡ size (t .shape) → (length ws ≡ 64) × Stored ws 0 xs
   laid {ws} xs e f = (
     ap length e ∙ length-sets (replicate 64 0) 0 xs ∙ length-replicate {A = ℕ} 64 0,
     λ k h. ap (λ (l : List ℕ). getD l (0 + k) 0) e ∙ in-sets (replicate 64 0) 0 xs k 0 (omega (arith, d .tree .size, length-replicate {A = ℕ} 64 0)) h,
   )
 
-  symbols-laid : (length ss ≡ 64) × Held ss 0 (symbols (t .shape))
+  symbols-laid : (length ss ≡ 64) × Stored ss 0 (symbols (t .shape))
   symbols-laid = laid (symbols (t .shape)) (d .symbols-are) (length-symbols (t .shape))
 
-  sizes-laid : (length zs ≡ 64) × Held zs 0 (sizes (t .shape))
+  sizes-laid : (length zs ≡ 64) × Stored zs 0 (sizes (t .shape))
   sizes-laid = laid (sizes (t .shape)) (d .sizes-are) (length-sizes (t .shape))
 
   pub stands-everywhere : (x : Node) → List·Memᴰ x (nodes 0 (t .shape)) → Stands ss zs (x .number) (x .shape)

@@ -11,17 +11,17 @@ use lib.Dec.{eqb}
 use lib.ListN.{getD, length, set, replicate, length-append, length-map, length-set, length-replicate}
 use lib.Pow.{shr-shr}
 use lib.Seq.{getD-set-same, getD-set-other}
-use Rattle.sheets.specs.Layout.{padded, symbolsAt}
-use Rattle.sheets.proofs.Laws.{padded-more}
-use Rattle.sheets.specs.Model.{Leaf, pinOf, Shape, leaf, inv, nand, size, leaves, nands}
+use Rattle.sheets_rules.specs.Inside.Layout.{padded, symbolsAt}
+use Rattle.sheets_rules.proofs.Laid.{padded-more}
+use Rattle.sheets_rules.specs.Model.{Leaf, pinOf, Shape, leaf, inv, nand, size, leaves, nands}
 use Rattle.covers.specs.Crossing.{exchanged, ordered, redrawnFrom, redrawn}
 use Rattle.covers.specs.Match.{Input, joined, laid}
 use Rattle.covers.proofs.Basics.{each}
 use Rattle.covers.proofs.Matching.{size-pos}
 use Rattle.overlay.specs.declared.Left.{Left}
 use Rattle.overlay.specs.declared.Walked.{Walked}
-use Rattle.overlay.specs.Standing.{Stands, extent, Drawn}
-use Rattle.overlay.specs.Held.{Passable, branched, passed, resumed, WalkedIs, SameBits, WalkIs, Walkable}
+use Rattle.overlay.specs.Inside.Standing.{Stands, extent, Drawn}
+use Rattle.overlay.specs.Inside.Promises.{Passable, branched, passed, resumed, WalkedIs, SameBits, WalkIs, Walkable}
 
 -- ---- drawings laid in a row
 
@@ -82,22 +82,22 @@ redrawn-nand y j p q {b} e = let f : suc j ≡ j + 1 = omega arith in rw (e, f)
 
 -- A part still to be laid: where it stands in the drawing, how many NANDs come before it, and its shape.
 record Part : Type 0 where
-  place : ℕ
+  spot : ℕ
   before : ℕ
   shape : Shape
 
 abbrev partWord : Part → ℕ
-partWord p = p .place + 32 * p .before
+partWord p = p .spot + 32 * p .before
 
 abbrev redrawnPart : ℕ → Part → Shape
 redrawnPart y p = redrawnFrom y (p .before) (p .shape)
 
 -- A NAND's branches.
 abbrev firstOf : ℕ → ℕ → Shape → Part
-firstOf place before p = record { place = place + 1; before = before + 1; shape = p }
+firstOf spot before p = record { spot = spot + 1; before = before + 1; shape = p }
 
 abbrev secondOf : ℕ → ℕ → Shape → Shape → Part
-secondOf place before p q = record { place = place + 1 + size p; before = before + 1 + nands p; shape = q }
+secondOf spot before p q = record { spot = spot + 1 + size p; before = before + 1 + nands p; shape = q }
 
 abbrev inputAt : ℕ → Leaf → Shape → Input
 inputAt at x t = record { pin = pinOf x; node = at; shape = t }
@@ -123,22 +123,22 @@ stacked-set ws i x (p ∷ ps) h k = (getD-set-other ws i (length ps) x 0 (λ e. 
 
 -- What passing a gate makes of where the walk stands.
 module _ (left : Left) (words : List ℕ) (crossing : ℕ) {symbol : ℕ} where
-  pub passed-inv : symbol ≡ 0 → record { place = left .place + 1; depth = left .depth; waiting = left .waiting; used = left .used } ≡ passed left symbol words crossing
+  pub passed-inv : symbol ≡ 0 → record { spot = left .spot + 1; depth = left .depth; waiting = left .waiting; used = left .used } ≡ passed left symbol words crossing
   unfolding passed
   passed-inv e = rw e
 
-  pub passed-nand : {b : Bool} {used : ℕ} → symbol ≢ 0 → exchanged crossing (left .place / 32) ≡ b → used ≡ max (left .used) (left .place / 32 + 1) →
-      let first = left .place + 33 in
+  pub passed-nand : {b : Bool} {used : ℕ} → symbol ≢ 0 → exchanged crossing (left .spot / 32) ≡ b → used ≡ max (left .used) (left .spot / 32 + 1) →
+      let first = left .spot + 33 in
       let second = first + getD words (first % 32) 0 in
-      record { place = cond b second first; depth = left .depth + 1; waiting = set (left .waiting) (left .depth) (cond b first second); used = used } ≡ passed left symbol words crossing
+      record { spot = cond b second first; depth = left .depth + 1; waiting = set (left .waiting) (left .depth) (cond b first second); used = used } ≡ passed left symbol words crossing
   unfolding passed branched
   passed-nand e f g = rw (ne-eqb symbol 0 e, f, g)
 
 module _ (row words ss zs : List ℕ) (d s : Shape) (n crossing : ℕ) where
-  -- The part of the drawing d at a place.
+  -- The part of the drawing d at a spot.
   record PartIn (p : Part) : Type 0 where
-    drawn : Drawn row words (p .place) (p .shape)
-    ends : p .place + size (p .shape) ≤ size d
+    drawn : Drawn row words (p .spot) (p .shape)
+    ends : p .spot + size (p .shape) ≤ size d
     numbers : p .before + nands (p .shape) ≤ nands d
     pinned : (x : Leaf) → List·Memᴰ x (leaves (p .shape)) → (pinOf x < 6) × (x .drive ≡ 0)
 
@@ -147,9 +147,9 @@ module _ (row words ss zs : List ℕ) (d s : Shape) (n crossing : ℕ) where
   whole y = laid (redrawn y d) n s
 
   -- A walk that has noted these inputs: before the node `at`, with a part and those that wait, and as many subtrees. All of it holds for every crossing with the bits used.
-  record Abreast (used : ℕ) (noted : List Input) (place before : ℕ) (shape : Shape) (ps : List Part) (at : ℕ) (t : Shape) (ts : List Shape) : Type 0 where
+  record Abreast (used : ℕ) (noted : List Input) (spot before : ℕ) (shape : Shape) (ps : List Part) (at : ℕ) (t : Shape) (ts : List Shape) : Type 0 where
     paired : length ps ≡ length ts
-    first : PartIn (record { place = place; before = before; shape = shape })
+    first : PartIn (record { spot = spot; before = before; shape = shape })
     inside : (p : Part) → List·Memᴰ p ps → PartIn p
     stands : Stands ss zs at t
     stand : StandInRow ss zs (at + size t) ts
@@ -159,15 +159,15 @@ module _ (row words ss zs : List ℕ) (d s : Shape) (n crossing : ℕ) where
     used-few : used ≤ nands d
 
   -- Past the last leaf all inputs are noted.
-  abreast-end : {used : ℕ} {noted : List Input} {place before at : ℕ} {x : Leaf} {t : Shape} {ts : List Shape} → Abreast used noted place before (leaf x) [] at t ts →
+  abreast-end : {used : ℕ} {noted : List Input} {spot before at : ℕ} {x : Leaf} {t : Shape} {ts : List Shape} → Abreast used noted spot before (leaf x) [] at t ts →
       (y : ℕ) → SameBits used crossing y → whole y ≡ some (noted ++ (inputAt at x t ∷ []))
   unfolding redrawnFrom laid laidInRow
   abreast-end {noted} {at} {x} {t} a y e = a .finds y e ∙ noting noted (inputAt at x t) (some []) ∙ (unfold joined in ap {B = Option (List Input)} some (append-nil (noted ++ (inputAt at x t ∷ []))))
 
-  module _ (few : nands d ≤ 5) {used : ℕ} {noted : List Input} {place before : ℕ} {ps : List Part} {at : ℕ} where
+  module _ (few : nands d ≤ 5) {used : ℕ} {noted : List Input} {spot before : ℕ} {ps : List Part} {at : ℕ} where
     -- Past another leaf the part that waits is next.
-    abreast-skip : {x : Leaf} {t t′ : Shape} {ts : List Shape} {p : Part} → Abreast used noted place before (leaf x) (p ∷ ps) at t (t′ ∷ ts) →
-        Abreast used (noted ++ (inputAt at x t ∷ [])) (p .place) (p .before) (p .shape) ps (at + size t) t′ ts
+    abreast-skip : {x : Leaf} {t t′ : Shape} {ts : List Shape} {p : Part} → Abreast used noted spot before (leaf x) (p ∷ ps) at t (t′ ∷ ts) →
+        Abreast used (noted ++ (inputAt at x t ∷ [])) (p .spot) (p .before) (p .shape) ps (at + size t) t′ ts
     unfolding redrawnFrom laid laidInRow partsLeaves rowSize nands
     abreast-skip {x} {t} {t′} {ts} {p} a = record {
       paired = omega (arith, a .paired);
@@ -182,10 +182,10 @@ module _ (row words ss zs : List ℕ) (d s : Shape) (n crossing : ℕ) where
     }
 
     -- Past an inverter its branch is next.
-    abreast-inv : {q t : Shape} {ts : List Shape} → Abreast used noted place before (inv q) ps at (inv t) ts → Abreast used noted (place + 1) before q ps (at + 1) t ts
+    abreast-inv : {q t : Shape} {ts : List Shape} → Abreast used noted spot before (inv q) ps at (inv t) ts → Abreast used noted (spot + 1) before q ps (at + 1) t ts
     unfolding redrawnFrom laid size nands leaves
     abreast-inv {q} {t} {ts} a =
-        let e : suc place ≡ place + 1 = omega arith in
+        let e : suc spot ≡ spot + 1 = omega arith in
         let f : at + suc (size t) ≡ at + 1 + size t = omega arith in
         let g : suc at ≡ at + 1 = omega arith in
         record {
@@ -201,25 +201,25 @@ module _ (row words ss zs : List ℕ) (d s : Shape) (n crossing : ℕ) where
         }
 
     -- Past a NAND the branch that stands first under the crossing is next, and the other waits.
-    module _ {p q t t′ : Shape} {ts : List Shape} (a : Abreast used noted place before (nand p q) ps at (nand t t′) ts) where
+    module _ {p q t t′ : Shape} {ts : List Shape} (a : Abreast used noted spot before (nand p q) ps at (nand t t′) ts) where
       abbrev used′ : ℕ
       used′ = max used (before + 1)
 
       used-five : used′ ≤ 5
       used-five = unfold nands in omega (arith, a .used-few, a .first .numbers)
 
-      first-in : PartIn (firstOf place before p)
+      first-in : PartIn (firstOf spot before p)
       unfolding size nands leaves
-      first-in = let e : suc place ≡ place + 1 = omega arith in record {
+      first-in = let e : suc spot ≡ spot + 1 = omega arith in record {
         drawn = subst (λ k. Drawn row words k p) e (a .first .drawn .2);
         ends = omega (arith, a .first .ends);
         numbers = omega (arith, a .first .numbers);
         pinned = λ x m. a .first .pinned x (Memᴰ·append-left (leaves q) m);
       }
 
-      second-in : PartIn (secondOf place before p q)
+      second-in : PartIn (secondOf spot before p q)
       unfolding size nands leaves
-      second-in = let e : suc place + size p ≡ place + 1 + size p = omega arith in record {
+      second-in = let e : suc spot + size p ≡ spot + 1 + size p = omega arith in record {
         drawn = subst (λ k. Drawn row words k q) e (a .first .drawn .3);
         ends = omega (arith, a .first .ends);
         numbers = omega (arith, a .first .numbers);
@@ -229,7 +229,7 @@ module _ (row words ss zs : List ℕ) (d s : Shape) (n crossing : ℕ) where
       -- What is to be found, with the branches in the order of the crossing.
       abreast-nand : (u v : Part) → PartIn u → PartIn v → nands (u .shape) + nands (v .shape) ≡ nands p + nands q →
           ((y : ℕ) → exchanged y before ≡ exchanged crossing before → redrawnFrom y before (nand p q) ≡ nand (redrawnPart y u) (redrawnPart y v)) →
-          Abreast used′ noted (u .place) (u .before) (u .shape) (v ∷ ps) (at + 1) t (t′ ∷ ts)
+          Abreast used′ noted (u .spot) (u .before) (u .shape) (v ∷ ps) (at + 1) t (t′ ∷ ts)
       unfolding laid laidInRow partsLeaves rowSize size nands
       abreast-nand u v g h k e =
           let f : suc at ≡ at + 1 = omega arith in
@@ -258,14 +258,14 @@ module _ (row words ss zs : List ℕ) (d s : Shape) (n crossing : ℕ) where
   -- What the walk noted stands in two arrays, and where it stands in `left`.
   pub record Going (pins nodes : List ℕ) (count : ℕ) (left : Left) (at : ℕ) : Type 0 where
     noted : List Input
-    place : ℕ
+    spot : ℕ
     before : ℕ
     shape : Shape
     ps : List Part
     t : Shape
     ts : List Shape
-    abreast : Abreast (left .used) noted place before shape ps at t ts
-    place-is : left .place ≡ place + 32 * before
+    abreast : Abreast (left .used) noted spot before shape ps at t ts
+    spot-is : left .spot ≡ spot + 32 * before
     depth-is : left .depth ≡ length ps
     stacked : Stacked (left .waiting) ps
     waiting-long : length (left .waiting) ≡ 6
@@ -273,16 +273,16 @@ module _ (row words ss zs : List ℕ) (d s : Shape) (n crossing : ℕ) where
     pins-are : pins ≡ padded 6 0 (map (λ (i : Input). i .pin) noted)
     nodes-are : nodes ≡ padded 6 0 (map (λ (i : Input). i .node) noted)
 
-  -- The word at the place where it stands.
+  -- The word at the spot where it stands.
   abbrev symbolAt : Left → ℕ
-  symbolAt left = getD row (symbolsAt + left .place % 32) 0
+  symbolAt left = getD row (symbolsAt + left .spot % 32) 0
 
   module _ (w : Walkable row words ss zs n d s) where
-    pub going-start : Going (replicate 6 0) (replicate 6 0) 0 (record { place = 0; depth = 0; waiting = replicate 6 0; used = 0 }) n
+    pub going-start : Going (replicate 6 0) (replicate 6 0) 0 (record { spot = 0; depth = 0; waiting = replicate 6 0; used = 0 }) n
     unfolding laidInRow rowSize partsLeaves joined redrawn
     going-start = record {
       noted = [];
-      place = 0;
+      spot = 0;
       before = 0;
       shape = d;
       ps = [];
@@ -299,7 +299,7 @@ module _ (row words ss zs : List ℕ) (d s : Shape) (n crossing : ℕ) where
         counted = omega arith;
         used-few = omega arith;
       };
-      place-is = refl;
+      spot-is = refl;
       depth-is = refl;
       stacked = tt;
       waiting-long = length-replicate {A = ℕ} 6 0;
@@ -313,12 +313,12 @@ module _ (row words ss zs : List ℕ) (d s : Shape) (n crossing : ℕ) where
         go (some is) = ap {B = Option (List Input)} some (sym (append-nil is))
 
     module _ {pins nodes : List ℕ} {count : ℕ} {left : Left} {at : ℕ} (g : Going pins nodes count left at) where
-      -- The place in the row, the NANDs before it, and how much is noted and waits.
+      -- The spot in the row, the NANDs before it, and how much is noted and waits.
       pub record Within : Type 0 where
-        placed : left .place % 32 ≡ g .place
-        numbered : left .place / 32 ≡ g .before
-        inside : g .place + size (g .shape) ≤ 16
-        pub place-small : left .place % 32 < 16
+        placed : left .spot % 32 ≡ g .spot
+        numbered : left .spot / 32 ≡ g .before
+        inside : g .spot + size (g .shape) ≤ 16
+        pub spot-small : left .spot % 32 < 16
         pub noted-few : count + left .depth < 6
         pub at-some : 0 < getD zs at 0
         pub at-ends : at + getD zs at 0 ≤ 64
@@ -327,29 +327,29 @@ module _ (row words ss zs : List ℕ) (d s : Shape) (n crossing : ℕ) where
       within =
           let a = g .abreast in
           let z = size-pos (g .shape) in
-          let inside : g .place + size (g .shape) ≤ 16 = omega (arith, a .first .ends, w .small) in
+          let inside : g .spot + size (g .shape) ≤ 16 = omega (arith, a .first .ends, w .small) in
           let ended = stands-size ss zs at (g .t) (a .stands) in
           record {
-            placed = omega (arith, g .place-is);
-            numbered = omega (arith, g .place-is);
+            placed = omega (arith, g .spot-is);
+            numbered = omega (arith, g .spot-is);
             inside = inside;
-            place-small = omega (arith, g .place-is);
+            spot-small = omega (arith, g .spot-is);
             noted-few = omega (arith, a .counted, w .few, parts-few (g .ps), g .count-is, g .depth-is);
             at-some = omega (arith, ended, size-pos (g .t));
             at-ends = omega (arith, ended, a .ends, w .subject .ends);
           }
 
       abbrev Here : Shape → Shape → Type 0
-      Here x t = Abreast (left .used) (g .noted) (g .place) (g .before) x (g .ps) at t (g .ts)
+      Here x t = Abreast (left .used) (g .noted) (g .spot) (g .before) x (g .ps) at t (g .ts)
 
       -- The symbol there, by the part's shape.
-      symbol-is : {v : ℕ} → getD row (symbolsAt + g .place) 0 ≡ v → symbolAt left ≡ v
+      symbol-is : {v : ℕ} → getD row (symbolsAt + g .spot) 0 ≡ v → symbolAt left ≡ v
       symbol-is e = ap (λ k. getD row (symbolsAt + k) 0) (within .placed) ∙ e
 
       pub symbol-small : symbolAt left < 8
       symbol-small = go (g .shape) (g .abreast .first)
         where
-          go : (x : Shape) → PartIn (record { place = g .place; before = g .before; shape = x }) → symbolAt left < 8
+          go : (x : Shape) → PartIn (record { spot = g .spot; before = g .before; shape = x }) → symbolAt left < 8
           go (leaf x) p = unfold leaves in omega (arith, symbol-is (p .drawn), p .pinned x (List·Memᴰ·head refl))
           go (inv p) h = omega (arith, symbol-is (h .drawn .0))
           go (nand p q) h = omega (arith, symbol-is (h .drawn .0))
@@ -374,26 +374,26 @@ module _ (row words ss zs : List ℕ) (d s : Shape) (n crossing : ℕ) where
       -- Past two equal symbols of gates.
       -- At a NAND: its number, and where its second branch stands.
       record AtNand : Type 0 where
-        number : left .place / 32 ≤ 4
-        first : (left .place + 33) % 32 < 16
-        second : left .place + 33 + getD words ((left .place + 33) % 32) 0 ≤ 255
+        number : left .spot / 32 ≤ 4
+        first : (left .spot + 33) % 32 < 16
+        second : left .spot + 33 + getD words ((left .spot + 33) % 32) 0 ≤ 255
 
       at-nand : symbolAt left < 2 → symbolAt left ≢ 0 → AtNand
       at-nand h z = go (g .shape) (g .abreast .first) within
         where
-          go : (x : Shape) → PartIn (record { place = g .place; before = g .before; shape = x }) → Within → AtNand
+          go : (x : Shape) → PartIn (record { spot = g .spot; before = g .before; shape = x }) → Within → AtNand
           go (leaf x) p b = absurd (omega (arith, symbol-is (p .drawn)))
           go (inv p) q b = absurd (z (symbol-is (q .drawn .0)))
           go (nand p q) r b = unfold size nands extent in
-              let e : (left .place + 33) % 32 ≡ suc (g .place) = omega (arith, b .placed, b .inside) in
-              let f : getD words ((left .place + 33) % 32) 0 ≡ size p + 32 * nands p = ap (λ k. getD words k 0) e ∙ r .drawn .1 in
-              record { number = omega (arith, b .numbered, r .numbers, w .few); first = omega (arith, r .ends, w .small, size-pos p, size-pos q); second = omega (arith, f, r .ends, r .numbers, w .few, w .small, g .place-is) }
+              let e : (left .spot + 33) % 32 ≡ suc (g .spot) = omega (arith, b .placed, b .inside) in
+              let f : getD words ((left .spot + 33) % 32) 0 ≡ size p + 32 * nands p = ap (λ k. getD words k 0) e ∙ r .drawn .1 in
+              record { number = omega (arith, b .numbered, r .numbers, w .few); first = omega (arith, r .ends, w .small, size-pos p, size-pos q); second = omega (arith, f, r .ends, r .numbers, w .few, w .small, g .spot-is) }
 
       pub passable : symbolAt left < 2 → Passable left (symbolAt left) words
       passable h =
           let b = within in
           record {
-            near = omega (arith, g .place-is, b .inside, g .abreast .first .numbers, w .few);
+            near = omega (arith, g .spot-is, b .inside, g .abreast .first .numbers, w .few);
             few = omega (arith, b .noted-few);
             waiting-long = g .waiting-long;
             words-long = w .words-long;
@@ -405,33 +405,33 @@ module _ (row words ss zs : List ℕ) (d s : Shape) (n crossing : ℕ) where
 
       -- Past two NANDs.
       module _ (p q t u : Shape) (a : Here (nand p q) (nand t u)) where
-        extent-is : getD words ((left .place + 33) % 32) 0 ≡ size p + 32 * nands p
+        extent-is : getD words ((left .spot + 33) % 32) 0 ≡ size p + 32 * nands p
         unfolding size extent
         extent-is =
             let b = within in
-            let e : (left .place + 33) % 32 ≡ suc (g .place) = omega (arith, b .placed, a .first .ends, w .small) in
+            let e : (left .spot + 33) % 32 ≡ suc (g .spot) = omega (arith, b .placed, a .first .ends, w .small) in
             ap (λ k. getD words k 0) e ∙ a .first .drawn .1
 
         nand-symbol : symbolAt left ≢ 0
         nand-symbol e = absurd (omega (arith, symbol-is (a .first .drawn .0)))
 
-        used-is : max (left .used) (g .before + 1) ≡ max (left .used) (left .place / 32 + 1)
+        used-is : max (left .used) (g .before + 1) ≡ max (left .used) (left .spot / 32 + 1)
         used-is = ap (λ k. max (left .used) (k + 1)) (sym (within .numbered))
 
         -- With the branch that is next, and the one that waits.
-        branch-going : (x y : Part) → Abreast (max (left .used) (g .before + 1)) (g .noted) (x .place) (x .before) (x .shape) (y ∷ g .ps) (at + 1) t (u ∷ g .ts) →
+        branch-going : (x y : Part) → Abreast (max (left .used) (g .before + 1)) (g .noted) (x .spot) (x .before) (x .shape) (y ∷ g .ps) (at + 1) t (u ∷ g .ts) →
             {next waits : ℕ} → next ≡ partWord x → waits ≡ partWord y →
-            Going pins nodes count (record { place = next; depth = left .depth + 1; waiting = set (left .waiting) (left .depth) waits; used = max (left .used) (g .before + 1) }) (at + 1)
+            Going pins nodes count (record { spot = next; depth = left .depth + 1; waiting = set (left .waiting) (left .depth) waits; used = max (left .used) (g .before + 1) }) (at + 1)
         branch-going x y b {next} {waits} e f = record {
           noted = g .noted;
-          place = x .place;
+          spot = x .spot;
           before = x .before;
           shape = x .shape;
           ps = y ∷ g .ps;
           t = t;
           ts = u ∷ g .ts;
           abreast = b;
-          place-is = e;
+          spot-is = e;
           depth-is = omega (arith, g .depth-is);
           stacked = (
             ap (λ k. getD (set (left .waiting) (left .depth) waits) k 0) (sym (g .depth-is)) ∙ getD-set-same (left .waiting) (left .depth) waits 0 (omega (arith, g .waiting-long, within .noted-few)) ∙ f,
@@ -446,12 +446,12 @@ module _ (row words ss zs : List ℕ) (d s : Shape) (n crossing : ℕ) where
         branches : (b : Bool) → exchanged crossing (g .before) ≡ b → Going pins nodes count (passed left (symbolAt left) words crossing) (at + 1)
         branches false e =
             rw (← passed-nand left words crossing nand-symbol (ap (exchanged crossing) (within .numbered) ∙ e) used-is, extent-is)
-            (branch-going (firstOf (g .place) (g .before) p) (secondOf (g .place) (g .before) p q)
-            (abreast-nand (w .few) a _ _ (first-in (w .few) a) (second-in (w .few) a) refl (λ y f. unfold ordered in redrawn-nand y (g .before) p q (f ∙ e))) (omega (arith, g .place-is)) (omega (arith, g .place-is)))
+            (branch-going (firstOf (g .spot) (g .before) p) (secondOf (g .spot) (g .before) p q)
+            (abreast-nand (w .few) a _ _ (first-in (w .few) a) (second-in (w .few) a) refl (λ y f. unfold ordered in redrawn-nand y (g .before) p q (f ∙ e))) (omega (arith, g .spot-is)) (omega (arith, g .spot-is)))
         branches true e =
             rw (← passed-nand left words crossing nand-symbol (ap (exchanged crossing) (within .numbered) ∙ e) used-is, extent-is)
-            (branch-going (secondOf (g .place) (g .before) p q) (firstOf (g .place) (g .before) p)
-            (abreast-nand (w .few) a _ _ (second-in (w .few) a) (first-in (w .few) a) (omega arith) (λ y f. unfold ordered in redrawn-nand y (g .before) p q (f ∙ e))) (omega (arith, g .place-is)) (omega (arith, g .place-is)))
+            (branch-going (secondOf (g .spot) (g .before) p q) (firstOf (g .spot) (g .before) p)
+            (abreast-nand (w .few) a _ _ (second-in (w .few) a) (first-in (w .few) a) (omega arith) (λ y f. unfold ordered in redrawn-nand y (g .before) p q (f ∙ e))) (omega (arith, g .spot-is)) (omega (arith, g .spot-is)))
 
       -- Past two equal symbols.
       pub going-pass : symbolAt left < 2 → getD ss at 0 ≡ symbolAt left → Going pins nodes count (passed left (symbolAt left) words crossing) (at + 1)
@@ -464,14 +464,14 @@ module _ (row words ss zs : List ℕ) (d s : Shape) (n crossing : ℕ) where
               let e : symbolAt left ≡ 0 = symbol-is (a .first .drawn .0) in
               rw (← passed-inv left words crossing e) record {
                 noted = g .noted;
-                place = g .place + 1;
+                spot = g .spot + 1;
                 before = g .before;
                 shape = p;
                 ps = g .ps;
                 t = t;
                 ts = g .ts;
                 abreast = abreast-inv (w .few) a;
-                place-is = omega (arith, g .place-is);
+                spot-is = omega (arith, g .spot-is);
                 depth-is = g .depth-is;
                 stacked = g .stacked;
                 waiting-long = g .waiting-long;
@@ -503,7 +503,7 @@ module _ (row words ss zs : List ℕ) (d s : Shape) (n crossing : ℕ) where
       unfolding resumed
       going-skip h z = go (g .shape) (g .ps) (g .ts) (g .abreast) (g .depth-is) (g .stacked)
         where
-          go : (x : Shape) (ps : List Part) (ts : List Shape) → Abreast (left .used) (g .noted) (g .place) (g .before) x ps at (g .t) ts → left .depth ≡ length ps → Stacked (left .waiting) ps →
+          go : (x : Shape) (ps : List Part) (ts : List Shape) → Abreast (left .used) (g .noted) (g .spot) (g .before) x ps at (g .t) ts → left .depth ≡ length ps → Stacked (left .waiting) ps →
               Going (set pins count (symbolAt left - 2)) (set nodes count at) (count + 1) (resumed left) (at + getD zs at 0)
           go (inv p) ps ts a k m = absurd (omega (arith, symbol-is (a .first .drawn .0)))
           go (nand p q) ps ts a k m = absurd (omega (arith, symbol-is (a .first .drawn .0)))
@@ -513,14 +513,14 @@ module _ (row words ss zs : List ℕ) (d s : Shape) (n crossing : ℕ) where
               let e : left .depth - 1 ≡ length ps = omega (arith, k) in
               rw (stands-size ss zs at (g .t) (a .stands)) record {
                 noted = noted′ x;
-                place = p .place;
+                spot = p .spot;
                 before = p .before;
                 shape = p .shape;
                 ps = ps;
                 t = t;
                 ts = ts;
                 abreast = abreast-skip (w .few) a;
-                place-is = ap (λ i. getD (left .waiting) i 0) e ∙ m .0;
+                spot-is = ap (λ i. getD (left .waiting) i 0) e ∙ m .0;
                 depth-is = e;
                 stacked = m .1;
                 waiting-long = g .waiting-long;
@@ -533,7 +533,7 @@ module _ (row words ss zs : List ℕ) (d s : Shape) (n crossing : ℕ) where
       pub going-end : 2 ≤ symbolAt left → left .depth ≡ 0 → WalkIs d s n crossing (record { matched = true; used = left .used; count = count + 1; pins = set pins count (symbolAt left - 2); nodes = set nodes count at })
       going-end h z = go (g .shape) (g .ps) (g .abreast) (g .depth-is)
         where
-          go : (x : Shape) (ps : List Part) → Abreast (left .used) (g .noted) (g .place) (g .before) x ps at (g .t) (g .ts) → left .depth ≡ length ps →
+          go : (x : Shape) (ps : List Part) → Abreast (left .used) (g .noted) (g .spot) (g .before) x ps at (g .t) (g .ts) → left .depth ≡ length ps →
               WalkIs d s n crossing (record { matched = true; used = left .used; count = count + 1; pins = set pins count (symbolAt left - 2); nodes = set nodes count at })
           go (inv p) ps a k = absurd (omega (arith, symbol-is (a .first .drawn .0)))
           go (nand p q) ps a k = absurd (omega (arith, symbol-is (a .first .drawn .0)))

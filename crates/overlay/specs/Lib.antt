@@ -1,3 +1,2 @@
--- What the contracts of `overlay` say, in reading order.
-pub mod Standing
-pub mod Held
+-- What the functions of `overlay` promise.
+pub mod Inside

@@ -1,16 +1,11 @@
-// A pattern laid over a node of the subject tree under a crossing: the inputs that it finds there. And when a leaf arrives, and a leaf with another arrival.
-use shapes::Packed;
-use sheets::library::PatternRow;
+// A pattern laid over a node of the subject tree under a crossing: the inputs that it finds there.
+use sheets_rules::PatternRow;
 ghost use mathlib.Core.Path.{_≡_};
 ghost use Prim.Native.Nat.{_+_, _-_, _<_, _≤_, max};
-ghost use lib.ListN.{length, getD};
-ghost use Rattle.shapes.specs.Shape.{leafSymbol};
-ghost use Rattle.sheets.specs.Model.{Shape, size};
+ghost use Rattle.sheets_rules.specs.Model.{Shape, size};
 ghost use Rattle.covers.specs.Crossing.{exchanged, crossingLimit};
-ghost use Rattle.covers.specs.Cover.{leafArrival};
-ghost use Rattle.covers.specs.Curve.{base};
-ghost use Rattle.overlay.specs.Standing.{extent, Extending, DrawingHeld, Measured};
-ghost use Rattle.overlay.specs.Held.{leafOf, symbolLimit, Passable, passed, resumed, Walkable, WalkIs};
+ghost use Rattle.overlay.specs.Inside.Standing.{extent, Extending, DrawingStored, Measured};
+ghost use Rattle.overlay.specs.Inside.Promises.{Passable, passed, resumed, Walkable, WalkIs};
 
 // How many crossing numbers there are: five bits, the first the highest.
 pub struct Crossing {}
@@ -31,10 +26,10 @@ impl Extents {
     pub const FIRST: usize = 33;
 }
 
-// Where a walk stands in a drawing: at a place, with the branches that wait to be laid, the first `depth` of an array, the next one last;
-// and how many bits of the crossing it has used. A place is a node's number in the drawing and 32 times how many NANDs come before it.
+// Where a walk stands in a drawing: at a spot, with the branches that wait to be laid, the first `depth` of an array, the next one last;
+// and how many bits of the crossing it has used. A spot is a node's number in the drawing and 32 times how many NANDs come before it.
 pub struct Left {
-    pub place: usize,
+    pub spot: usize,
     pub depth: usize,
     pub waiting: [u8; 6],
     pub used: usize,
@@ -67,8 +62,8 @@ fn extent_from(symbol: u32, words: [u8; 16], k: usize) -> usize
 
 // The extents of the drawing in a pattern's row, from the last node to the first.
 pub fn measure(row: &[u32]) -> Extents
-    requires { ⌜ ((d : Shape) × (DrawingHeld (now row) d × (size d ≤ 16))) ⌝ }
-    ensures { λ r. ⌜ ((d : Shape) → DrawingHeld (now (row .entry)) d → size d ≤ 16 → Measured d (r .words)) ⌝ }
+    requires { ⌜ ((d : Shape) × (DrawingStored (now row) d × (size d ≤ 16))) ⌝ }
+    ensures { λ r. ⌜ ((d : Shape) → DrawingStored (now (row .entry)) d → size d ≤ 16 → Measured d (r .words)) ⌝ }
 {
     let mut words = [0u8; 16];
     let mut k = row[PatternRow::SIZE] as usize;
@@ -102,24 +97,24 @@ fn pass_gate(left: Left, symbol: u32, extents: Extents, crossing: u32) -> Left
     requires { ⌜ Passable left symbol (extents .words) × (crossing < crossingLimit) ⌝ }
     ensures { λ r. ⌜ r ≡ passed left symbol (extents .words) crossing ⌝ }
 {
-    let place = left.place;
+    let spot = left.spot;
     let depth = left.depth;
     let words = extents.words;
     let mut next = left;
     if symbol == 0 {
-        next.place = place + 1;
+        next.spot = spot + 1;
         return next;
     }
-    let number = place / Extents::NAND;
-    let first = place + Extents::FIRST;
+    let number = spot / Extents::NAND;
+    let first = spot + Extents::FIRST;
     let second = first + words[first % Extents::NAND] as usize;
     next.used = greater(left.used, number + 1);
     next.depth = depth + 1;
     if is_exchanged(crossing, number) {
-        next.place = second;
+        next.spot = second;
         next.waiting[depth] = first as u8;
     } else {
-        next.place = first;
+        next.spot = first;
         next.waiting[depth] = second as u8;
     }
     next
@@ -133,7 +128,7 @@ fn resume(left: Left) -> Left
     let last = left.depth - 1;
     let waiting = left.waiting;
     let mut next = left;
-    next.place = waiting[last] as usize;
+    next.spot = waiting[last] as usize;
     next.depth = last;
     next
 }
@@ -155,14 +150,14 @@ pub fn walk<'a>(
     let mut nodes = [0u8; 6];
     let mut count: usize = 0;
     let mut left = Left {
-        place: 0,
+        spot: 0,
         depth: 0,
         waiting: [0u8; 6],
         used: 0,
     };
     let mut at = n;
     loop {
-        let symbol = row[PatternRow::SYMBOLS + left.place % Extents::NAND];
+        let symbol = row[PatternRow::SYMBOLS + left.spot % Extents::NAND];
         if symbol < 2 {
             if symbols[at] != symbol {
                 return Walked {
@@ -192,34 +187,4 @@ pub fn walk<'a>(
             left = resume(left);
         }
     }
-}
-
-// When a leaf arrives under the load that it drives. A leaf's two numbers are taken apart here and nowhere else: by this function and the two after it.
-pub fn leaf_arrival(symbol: u32, load: u32) -> u64
-    requires { ⌜ (2 ≤ symbol) × (symbol ≤ symbolLimit) × (load ≤ 255) ⌝ }
-    ensures { λ r. ⌜ (r ≡ leafArrival (leafOf symbol) load) × (r < base) ⌝ }
-{
-    let packed = symbol - Packed::LEAF;
-    (packed % Packed::DRIVE + packed / Packed::DRIVE * load) as u64
-}
-
-// The same where the load stands among figures: a leaf with no drive does not look at it.
-pub fn leaf_arrival_at(symbol: u32, figures: &[u32], load: usize) -> u64
-    requires { ⌜ (2 ≤ symbol) × (symbol ≤ symbolLimit) × (load < length (now figures)) × (getD (now figures) load 0 ≤ 255) ⌝ }
-    ensures { λ r. ⌜ (r ≡ leafArrival (leafOf symbol) (getD (now (figures .entry)) load 0)) × (r < base) ⌝ }
-{
-    let whole = symbol - Packed::LEAF;
-    if whole < Packed::DRIVE {
-        return whole as u64;
-    }
-    leaf_arrival(symbol, figures[load])
-}
-
-// The symbol of a leaf with another arrival and the same drive.
-pub fn with_arrival(symbol: u32, arrival: u32) -> u32
-    requires { ⌜ (2 ≤ symbol) × (symbol ≤ symbolLimit) × (arrival ≤ 1000000) ⌝ }
-    ensures { λ r. ⌜ r ≡ leafSymbol (record { number = arrival; drive = leafOf symbol .drive }) ⌝ }
-{
-    let drive = (symbol - Packed::LEAF) / Packed::DRIVE;
-    Packed::LEAF + (drive * Packed::DRIVE + arrival)
 }

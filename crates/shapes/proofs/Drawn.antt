@@ -1,44 +1,24 @@
 -- Laws about the reader of shapes: one for each way out of it.
 use mathlib.Core.Path.{_≡_, refl, sym, ap, ap₂, subst, subst₂, _∙_}
 use mathlib.Core.List.{List, [], _∷_, _++_}
-use mathlib.Core.Bool.{Bool, true, false, cond, _&&_}
 use Prim.Native.Nat.{ℕ, zero, suc, _+_, _-_, _≤_, _<_}
 use native.Mathlib.Omega.{arith}
 use native.Mathlib.Numerals.{add-one}
 use lib.ListN.{length, take, set, length-append}
 use lib.Seq.{sets, length-take-le, take-suc-set}
-use lib.Dec.{leb}
-use borrow.Author.Tests.{leb-true}
 use Rattle.fields.specs.declared.Got.{Got}
-use Rattle.shapes.specs.declared.Rules.{Rules}
+use Rattle.shapes_rules.specs.declared.Rules.{Rules}
 use Rattle.fields.specs.declared.Scan.{Scan}
 use Rattle.fields.specs.declared.Scan.the-variants.{At, Refused}
-use Rattle.fields.specs.declared.Fault.the-variants.{Range, Drawing}
-use Rattle.fields.specs.declared.Verdict.the-variants.{Sound, Faulty}
-use Rattle.fields.specs.Reading.{Reader, place, field}
-use Rattle.shapes.specs.Shape.{Shape, leaf, inv, nand, size, leaves, nands, symbols, sizes, leafSymbol, pinSymbol, plain}
-use Rattle.shapes.specs.Drawing.{elem, leafVerdict, leafNode, drivenNode, pair, branch, node}
+use Rattle.fields.specs.Reading.{Reader, place, field, Live}
+use Rattle.shapes_rules.specs.Shape.{Shape, inv, nand, symbols, leafSymbol, plain}
+use Rattle.shapes_rules.specs.Drawing.{leafVerdict, leafNode, drivenNode, pair, branch, node}
 use Rattle.fields.proofs.Lists.{sets-append, take-sets}
-use Rattle.fields.specs.Promises.{Live}
-use Rattle.shapes.specs.Promises.{Reached, Coded, Laid, Went, LeafRead, NodeRead, PairRead}
+use Rattle.shapes.specs.Inside.Promises.{Reached, Coded, Laid, Went, LeafRead, NodeRead, PairRead}
+use Rattle.shapes_rules.proofs.Drawing.{plain-symbol, node-dead}
+use Rattle.fields.proofs.Laws.{live?}
 
 -- ---- a leaf
-
--- A leaf that passes has a number in range, and a pattern's pin stands at no leaf before.
-pub leaf-passes : (rules : Rules) (seen : List ℕ) (x : ℕ) → leafVerdict rules seen x ≡ Sound →
-    (x ≤ rules .most) × (rules .pattern ≡ true → elem (pinSymbol x) seen ≡ false)
-unfolding leafVerdict
-leaf-passes rules seen x e = go (leb x (rules .most)) (rules .pattern) (elem (pinSymbol x) seen) refl e
-  where
-    go : (a b k : Bool) → leb x (rules .most) ≡ a → cond a (cond (b && k) (Faulty Drawing) Sound) (Faulty Range) ≡ Sound → (x ≤ rules .most) × (b ≡ true → k ≡ false)
-    go true true true ea e = let z : _≡_ {A = ℕ} 0 1 = cc in absurd (omega arith)
-    go true true false ea e = (leb-true x (rules .most) ea, λ p. refl)
-    go true false k ea e = (leb-true x (rules .most) ea, λ p. cc)
-    go false b k ea e = let z : _≡_ {A = ℕ} 0 1 = cc in absurd (omega arith)
-
--- A leaf with no drive is its number.
-pub plain-symbol : (x : ℕ) → leafSymbol (plain x) ≡ pinSymbol x
-plain-symbol x = omega arith
 
 -- A leaf whose number was read as the value v.
 pub leaf-laid : (s : List ℕ) (rules : Rules) (scan : Scan) (n v : ℕ) (l : List ℕ) (r : Reached) → r .next ≡ suc n →
@@ -59,29 +39,6 @@ unfolding leafNode symbols
 leaf-refused s rules scan n l r h e = record { scan = ap (λ (x : ℕ × Scan). x .1) e; symbols = λ x. absurd (h x); next = λ x. absurd (h x) }
 
 -- ---- a node, by its code
-
-pub live? : (c : Scan) → Dec (Live c)
-live? (At c) = yes tt
-live? (Refused f p) = no (λ x. x)
-
-pub length-symbols : (x : Shape) → length (symbols x) ≡ size x
-unfolding symbols size
-length-symbols (leaf x) = refl
-length-symbols (inv a) = ap suc (length-symbols a)
-length-symbols (nand a b) = ap suc (length-append (symbols a) (symbols b) ∙ ap₂ _+_ (length-symbols a) (length-symbols b))
-
-pub length-sizes : (x : Shape) → length (sizes x) ≡ size x
-unfolding sizes size
-length-sizes (leaf x) = refl
-length-sizes (inv a) = ap suc (length-sizes a)
-length-sizes (nand a b) = ap suc (length-append (sizes a) (sizes b) ∙ ap₂ _+_ (length-sizes a) (length-sizes b))
-
--- A shape has one leaf more than NANDs.
-pub leaves-nands : (d : Shape) → length (leaves d) ≡ suc (nands d)
-unfolding leaves nands
-leaves-nands (leaf x) = refl
-leaves-nands (inv a) = leaves-nands a
-leaves-nands (nand a b) = omega (arith, length-append (leaves a) (leaves b), leaves-nands a, leaves-nands b)
 
 -- A gate before what is below it.
 gate-laid : (n : ℕ) (l l′ : List ℕ) (v : ℕ) (r : Reached) (after : Scan) (ss : List ℕ) → Laid (n + 1) (set l n v) l′ r after ss → Laid n l l′ r after (v ∷ ss)
@@ -216,17 +173,6 @@ module _ (s : List ℕ) (rules : Rules) (scan : Scan) (n : ℕ) (l : List ℕ) (
             (gate-seen 1 (omega arith)) (h .laid d (omega (arith, code .room (code .gate (omega arith))))))
 
 -- ---- a NAND's two branches
-
--- A refused scan stays as it is.
-pub node-dead : (s : List ℕ) (rules : Rules) (d : ℕ) (seen : List ℕ) (c : Scan) → (Live c → ⊥) → node s rules d seen c .1 ≡ c
-unfolding node branch leafNode
-node-dead s rules zero seen c h = refl
-node-dead s rules (suc d) seen (At c) h = absurd (h tt)
-node-dead s rules (suc d) seen (Refused f p) h = refl
-
-pub node-live : (s : List ℕ) (rules : Rules) (d : ℕ) (seen : List ℕ) (c : Scan) → Live (node s rules d seen c .1) → Live c
-node-live s rules d seen (At c) h = tt
-node-live s rules d seen (Refused f p) h = subst Live (node-dead s rules d seen (Refused f p) (λ q. q)) h
 
 -- Nothing is read after a refusal.
 pub dead-read : (s : List ℕ) (rules : Rules) (r : Reached) (l : List ℕ) → (Live (r .scan) → ⊥) → r .next ≤ rules .nodes → NodeRead s rules (r .scan) (r .next) l l r

@@ -12,23 +12,22 @@ use Rattle.bits.specs.declared.FieldRead.the-variants.{Value, Truncated}
 use Rattle.bits.specs.Bits.{placeOf, fieldAt}
 use Rattle.fields.specs.declared.Scan.{Scan}
 use Rattle.fields.specs.declared.Scan.the-variants.{At}
-use Rattle.fields.specs.Reading.{place, field, free}
-use Rattle.fields.specs.Promises.{Live}
+use Rattle.fields.specs.Reading.{place, field, free, Live}
 use Rattle.fields.proofs.Laws.{field-near, free-small, live-sound}
-use Rattle.shapes.specs.declared.Rules.{Rules}
-use Rattle.shapes.specs.Shape.{plain, leafSymbol, Shape, leaf, symbols}
-use Rattle.shapes.specs.Drawing.{leafVerdict, leafNode, drivenNode}
-use Rattle.shapes.specs.Promises.{plainBits, leafBits, openReach, outcome, cursorOf, stoodAt, nextOf, reached, LeafRoom, Laid, LeafRead, Kept}
+use Rattle.shapes_rules.specs.declared.Rules.{Rules}
+use Rattle.shapes_rules.specs.Shape.{plain, leafSymbol, Shape, leaf, symbols}
+use Rattle.shapes_rules.specs.Drawing.{leafVerdict, leafNode, drivenNode, plainBits, leafBits}
+use Rattle.shapes.specs.Inside.Promises.{openReach, outcome, cursorOf, stoodAt, nextOf, reached, LeafRoom, Laid, LeafRead, WordsAfter}
 use Rattle.shapes.proofs.Laws.{outcome-dead, outcome-place, field-truncated, field-sound, found-used, moved-cursor, moved-next}
-use Rattle.shapes.proofs.Drawn.{leaf-passes}
+use Rattle.shapes_rules.proofs.Drawing.{leaf-passes}
 
 -- There is a place in the array for the leaf.
 pub leaf-in : {e : List ℕ} {bytes : ℕ} {rules : Rules} {words l : List ℕ} → LeafRoom e bytes rules words l → nextOf words < length l
-leaf-in r = omega (arith, r .wide, r .room, r .rules-are .nodes)
+leaf-in r = omega (arith, r .symbols-long, r .room, r .rules-are .nodes)
 
 -- A number was read, and with it the reader ended in the words `words₁`.
 module _ {s : List ℕ} {rules : Rules} (words : List ℕ) {l words₁ l₁ : List ℕ} {end : ℕ}
-    (first : LeafRead s rules (At (cursorOf words)) (nextOf words) l l₁ (reached end words₁) plainBits (leafNode s rules)) (kept : Kept rules end words₁ l₁) where
+    (first : LeafRead s rules (At (cursorOf words)) (nextOf words) l l₁ (reached end words₁) plainBits (leafNode s rules)) (kept : WordsAfter rules end words₁ l₁) where
   abbrev number : ℕ × Scan
   number = field s (rules .width) (leafVerdict rules (take (nextOf words) l)) (At (cursorOf words))
 
@@ -65,12 +64,12 @@ module _ {s : List ℕ} {rules : Rules} (words : List ℕ) {l words₁ l₁ : Li
 
   -- The reader ended with a fault.
   ended : (k : ℕ) → 0 < k → (0, outcome k (cursorOf words₁)) ≡ field s 8 free then →
-      LeafRead s rules (At (cursorOf words)) (nextOf words) l l₁ (reached k words₁) leafBits (drivenNode s rules) × Kept rules k words₁ l₁
+      LeafRead s rules (At (cursorOf words)) (nextOf words) l l₁ (reached k words₁) leafBits (drivenNode s rules) × WordsAfter rules k words₁ l₁
   ended k h e =
       let dead = outcome-dead k (cursorOf words₁) h in
-      (driven 0 k words₁ l₁ e refl (λ z. absurd (dead z)), record { long = kept .long; wide = kept .wide; used = λ z. absurd (dead z); met = λ z. absurd (dead z) })
+      (driven 0 k words₁ l₁ e refl (λ z. absurd (dead z)), record { long = kept .long; symbols-long = kept .symbols-long; used = λ z. absurd (dead z); met = λ z. absurd (dead z) })
 
-  pub number-refused : 0 < end → LeafRead s rules (At (cursorOf words)) (nextOf words) l l₁ (reached end words₁) leafBits (drivenNode s rules) × Kept rules end words₁ l₁
+  pub number-refused : 0 < end → LeafRead s rules (At (cursorOf words)) (nextOf words) l l₁ (reached end words₁) leafBits (drivenNode s rules) × WordsAfter rules end words₁ l₁
   number-refused h = ended end h (stays end h)
     where
       stays : (k : ℕ) → 0 < k → (0, outcome k (cursorOf words₁)) ≡ field s 8 free (outcome k (cursorOf words₁))
@@ -102,7 +101,7 @@ module _ {s : List ℕ} {rules : Rules} (words : List ℕ) {l words₁ l₁ : Li
     driven-most = leaf-passes rules (take (nextOf words) l) (number .0) (live-sound s (rules .width) (leafVerdict rules (take (nextOf words) l)) (At (cursorOf words)) (subst Live after live) .0) .0
 
     module _ (f : FieldRead) (here : f ≡ fieldAt s (placeOf (cursorOf words₁)) 8) where
-      pub drive-truncated : f ≡ Truncated → LeafRead s rules (At (cursorOf words)) (nextOf words) l l₁ (reached 1 words₁) leafBits (drivenNode s rules) × Kept rules 1 words₁ l₁
+      pub drive-truncated : f ≡ Truncated → LeafRead s rules (At (cursorOf words)) (nextOf words) l l₁ (reached 1 words₁) leafBits (drivenNode s rules) × WordsAfter rules 1 words₁ l₁
       drive-truncated e = ended 1 (omega arith) (field-truncated s (cursorOf words₁) 8 free f here e ∙ ap (field s 8 free) at)
 
       module _ (d : ℕ) (n : Cursor) (e : f ≡ Value d n) where
@@ -113,13 +112,13 @@ module _ {s : List ℕ} {rules : Rules} (words : List ℕ) {l words₁ l₁ : Li
         drive-small = omega (arith, ap (λ (x : ℕ × Scan). x .0) read, free-small s 8 (At (cursorOf words₁)))
 
         pub drive-sound : rules .pattern ≡ false → let l′ = set l₁ (nextOf words) (1048576 * d + getD l₁ (nextOf words) 0) in
-            LeafRead s rules (At (cursorOf words)) (nextOf words) l l′ (reached 0 (stoodAt words₁ n)) leafBits (drivenNode s rules) × Kept rules 0 (stoodAt words₁ n) l′
+            LeafRead s rules (At (cursorOf words)) (nextOf words) l l′ (reached 0 (stoodAt words₁ n)) leafBits (drivenNode s rules) × WordsAfter rules 0 (stoodAt words₁ n) l′
         drive-sound tree = (
           driven d 0 (stoodAt words₁ n) (set l₁ (nextOf words) v) (ap (λ (c : Cursor). (d, At c)) moved ∙ read ∙ ap (field s 8 free) at) (moved-next (n .byte) (n .used) words₁)
               (λ z. ap (λ (k : List ℕ). set k (nextOf words) v) stands ∙ set-set l (nextOf words) (leafSymbol (plain (number .0))) v ∙ ap (set l (nextOf words)) whole),
           record {
             long = length-set (set words₁ 0 (n .byte)) 1 (n .used) ∙ length-set words₁ 0 (n .byte) ∙ kept .long;
-            wide = length-set l₁ (nextOf words) v ∙ kept .wide;
+            symbols-long = length-set l₁ (nextOf words) v ∙ kept .symbols-long;
             used = λ z. subst (λ (m : ℕ). m < 8) (sym (ap (λ (c : Cursor). c .used) moved)) (found-used s (placeOf (cursorOf words₁)) 8 d n f here e .0);
             met = λ z p. absurd (no-pattern (sym tree ∙ p));
           },

@@ -1,12 +1,10 @@
 -- Laws about a node's code, how a reader ends, a field in an opening and the words of the readers.
 use mathlib.Core.Path.{_≡_, refl, sym, ap, ap₂, subst, _∙_}
 use mathlib.Core.List.{List, [], _∷_}
-use mathlib.Core.Bool.{Bool, true, false, cond, _&&_}
+use mathlib.Core.Bool.{Bool, true, false}
 use Prim.Native.Nat.{ℕ, zero, suc, _+_, _≤_, _<_}
 use lib.ListN.{length, set}
 use native.Mathlib.Omega.{arith}
-use lib.Dec.{leb, eqb}
-use borrow.Author.Tests.{leb-false}
 use Rattle.fields.specs.declared.Got.{Got}
 use Rattle.fields.specs.declared.Scan.{Scan}
 use Rattle.fields.specs.declared.Scan.the-variants.{At, Refused}
@@ -18,29 +16,14 @@ use Rattle.bits.specs.declared.FieldRead.the-variants.{Value, Truncated as Trun
 use Rattle.bits.specs.Bits.{placeOf, cursorAt, fieldAt}
 use Rattle.bits.proofs.Laws.{place-at}
 use Rattle.bits.proofs.Words.{stands}
-use Rattle.fields.specs.declared.Fault.the-variants.{Range, Drawing, Size}
-use Rattle.fields.specs.declared.Verdict.the-variants.{Sound, Faulty}
+use Rattle.fields.specs.declared.Fault.the-variants.{Size}
 use Rattle.fields.proofs.Laws.{Read, ends, reads, read, cursorIn, live-sound, positive-live, dead-stays}
-use Rattle.fields.specs.Reading.{place, field, taken, settled}
-use Rattle.fields.specs.Promises.{Reads, Live}
-use Rattle.shapes.specs.Promises.{Coded, faultOf, verdictOf, outcome, cursorOf, nextOf, pinsOf}
-use Rattle.shapes.specs.declared.Rules.{Rules}
-use Rattle.shapes.specs.Drawing.{codeVerdict}
-
--- A code that passes: there is room for its node, and a pattern has no driven leaf.
-pub code-room : (rules : Rules) (n code : ℕ) → codeVerdict rules n code ≡ Sound → (n < rules .nodes) × (rules .pattern ≡ true → code ≤ 2)
-unfolding codeVerdict
-code-room rules n code e = go (leb (rules .nodes) n) (rules .pattern) (leb 3 code) refl refl e
-  where
-    no-pattern : _≡_ {A = Bool} false true → ⊥
-    no-pattern q = let z : _≡_ {A = ℕ} 0 1 = cc in absurd (omega arith)
-
-    go : (a p b : Bool) → leb (rules .nodes) n ≡ a → leb 3 code ≡ b →
-        cond a (Faulty Size) (cond (p && b) (Faulty Range) (cond (p && (eqb n 0 && eqb code 0)) (Faulty Drawing) Sound)) ≡ Sound → (n < rules .nodes) × (p ≡ true → code ≤ 2)
-    go true p b ea eb e = let z : _≡_ {A = ℕ} 0 1 = cc in absurd (omega arith)
-    go false true true ea eb e = let z : _≡_ {A = ℕ} 0 1 = cc in absurd (omega arith)
-    go false true false ea eb e = (leb-false (rules .nodes) n ea, λ q. omega (arith, leb-false 3 code eb))
-    go false false b ea eb e = (leb-false (rules .nodes) n ea, λ q. absurd (no-pattern q))
+use Rattle.fields.specs.Reading.{place, field, scanned, settled, Live}
+use Rattle.fields.specs.Inside.Promises.{Reads}
+use Rattle.shapes.specs.Inside.Promises.{Coded, faultOf, verdictOf, outcome, cursorOf, nextOf, pinsOf}
+use Rattle.shapes_rules.specs.declared.Rules.{Rules}
+use Rattle.shapes_rules.specs.Drawing.{codeVerdict}
+use Rattle.shapes_rules.proofs.Drawing.{code-room}
 
 pub coded : (s : List ℕ) (rules : Rules) (scan : Scan) (n : ℕ) (r : Got) → Reads r (field s 2 (codeVerdict rules n) scan) (place scan + 2) 3 → Coded s rules scan n r
 coded s rules scan n r h =
@@ -88,14 +71,14 @@ outcome-place (suc k) c = refl
 
 module _ (s : List ℕ) (c : Cursor) (w : ℕ) (v : ℕ → Verdict) (f : FieldRead) (here : f ≡ fieldAt s (placeOf c) w) where
   pub field-truncated : f ≡ TruncatedField → (0, outcome 1 c) ≡ field s w v (At c)
-  field-truncated e = ap (taken (placeOf c) v) (sym e ∙ here)
+  field-truncated e = ap (scanned (placeOf c) v) (sym e ∙ here)
 
   pub field-faulty : (k x : ℕ) (n : Cursor) → f ≡ Value x n → 0 < k → verdictOf k ≡ v x → (0, outcome k c) ≡ field s w v (At c)
   field-faulty zero x n e h q = absurd (omega arith)
-  field-faulty (suc k) x n e h q = ap (λ (d : Verdict). settled (placeOf c) d x (At n)) q ∙ ap (taken (placeOf c) v) (sym e ∙ here)
+  field-faulty (suc k) x n e h q = ap (λ (d : Verdict). settled (placeOf c) d x (At n)) q ∙ ap (scanned (placeOf c) v) (sym e ∙ here)
 
   pub field-sound : (k x : ℕ) (n : Cursor) → f ≡ Value x n → k ≡ 0 → verdictOf k ≡ v x → (x, At n) ≡ field s w v (At c)
-  field-sound zero x n e h q = ap (λ (d : Verdict). settled (placeOf c) d x (At n)) q ∙ ap (taken (placeOf c) v) (sym e ∙ here)
+  field-sound zero x n e h q = ap (λ (d : Verdict). settled (placeOf c) d x (At n)) q ∙ ap (scanned (placeOf c) v) (sym e ∙ here)
   field-sound (suc k) x n e h q = absurd (omega arith)
 
 -- A cursor after a field that was found has not used up its byte.

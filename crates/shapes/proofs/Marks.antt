@@ -14,11 +14,11 @@ use lib.Dec.{eqb, leb}
 use borrow.Author.Tests.{eq-eqb, ne-eqb, leb-true}
 use Rattle.fields.specs.declared.Fault.the-variants.{Range, Drawing}
 use Rattle.fields.specs.declared.Verdict.the-variants.{Sound, Faulty}
-use Rattle.shapes.specs.declared.Rules.{Rules}
-use Rattle.shapes.specs.Shape.{pinSymbol}
-use Rattle.shapes.specs.Drawing.{elem, hasAll, leafVerdict}
-use Rattle.shapes.specs.Promises.{cursorOf, nextOf, pinsOf, Met, Marked, allMarked, markVerdict}
-use Rattle.shapes.proofs.Pins.{elem-append}
+use Rattle.shapes_rules.specs.declared.Rules.{Rules}
+use Rattle.shapes_rules.specs.Shape.{pinSymbol}
+use Rattle.shapes_rules.specs.Drawing.{elem, hasAll, leafVerdict}
+use Rattle.shapes.specs.Inside.Promises.{cursorOf, nextOf, pinsOf, Met, Marked, allMarked, markVerdict}
+use Rattle.shapes_rules.proofs.Pins.{elem-append}
 
 -- ---- what the marks say
 

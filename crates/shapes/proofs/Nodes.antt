@@ -8,13 +8,13 @@ use Rattle.bits.specs.declared.Cursor.{Cursor}
 use Rattle.bits.specs.Bits.{placeOf}
 use Rattle.fields.specs.declared.Scan.{Scan}
 use Rattle.fields.specs.declared.Scan.the-variants.{At}
-use Rattle.fields.specs.Promises.{Live}
-use Rattle.shapes.specs.declared.Rules.{Rules}
+use Rattle.fields.specs.Reading.{Live}
+use Rattle.shapes_rules.specs.declared.Rules.{Rules}
 use Rattle.shapes.specs.declared.NodeCode.the-variants.{Code, Faulty}
-use Rattle.shapes.specs.Promises.{plainBits, leafBits, Met, outcome, cursorOf, nextOf, pinsOf, codeGot, Reached, reached, Inside, Room, LeafRoom, CodeRead, LeafRead, NodeRead, PairRead, Kept}
+use Rattle.shapes_rules.specs.Drawing.{plainBits, leafBits, leafNode, drivenNode}
+use Rattle.shapes.specs.Inside.Promises.{Met, outcome, cursorOf, nextOf, pinsOf, codeGot, Reached, reached, Inside, Room, LeafRoom, CodeRead, LeafRead, NodeRead, PairRead, WordsAfter}
 use Rattle.shapes.proofs.Laws.{outcome-dead, outcome-place, counted-cursor, counted-next, counted-pins}
 use Rattle.shapes.proofs.Marks.{met-gate}
-use Rattle.shapes.specs.Drawing.{leafNode, drivenNode}
 use Rattle.shapes.proofs.Drawn.{node-refused, node-leaf, node-driven, node-inv, node-nand, dead-read, pair-read}
 
 pub room-inside : {e : List ℕ} {bytes : ℕ} {rules : Rules} {words l : List ℕ} → Room e bytes rules words l → Inside words
@@ -23,17 +23,17 @@ room-inside r = (r .long, r .used, omega (arith, r .near))
 
 module _ {e : List ℕ} {bytes : ℕ} {rules : Rules} {words l : List ℕ} (room : Room e bytes rules words l) where
   few : rules .nodes ≤ length l
-  few = omega (arith, room .wide, room .rules-are .nodes)
+  few = omega (arith, room .symbols-long, room .rules-are .nodes)
 
   module _ {words₁ : List ℕ} where
     -- A code that was refused.
     pub refused-done : (s : List ℕ) (f : ℕ) → CodeRead s rules words words₁ (Faulty f) →
-        NodeRead s rules (At (cursorOf words)) (nextOf words) l l (reached f words₁) × Kept rules f words₁ l
+        NodeRead s rules (At (cursorOf words)) (nextOf words) l l (reached f words₁) × WordsAfter rules f words₁ l
     refused-done s f code =
         let dead = outcome-dead f (cursorOf words₁) (code .fault f refl) in (
           subst (λ (n : ℕ). NodeRead s rules (At (cursorOf words)) (nextOf words) l l (record { scan = outcome f (cursorOf words₁); next = n })) (sym (code .next))
               (node-refused s rules (At (cursorOf words)) (nextOf words) l (room .read) few (codeGot (Faulty f) words₁) (code .coded) dead),
-          record { long = code .long; wide = room .wide; used = λ x. absurd (dead x); met = λ x. absurd (dead x) },
+          record { long = code .long; symbols-long = room .symbols-long; used = λ x. absurd (dead x); met = λ x. absurd (dead x) },
         )
 
     -- Room for the node whose code was read.
@@ -46,7 +46,7 @@ module _ {e : List ℕ} {bytes : ℕ} {rules : Rules} {words l : List ℕ} (room
       rules-are = room .rules-are;
       opened = room .opened;
       long = code .long;
-      wide = room .wide;
+      symbols-long = room .symbols-long;
       room = omega (arith, code .next, in-room s k code);
       used = code .used;
       near = omega (arith, code .coded .reads .near, room .near, in-room s k code);
@@ -90,7 +90,7 @@ module _ {e : List ℕ} {bytes : ℕ} {rules : Rules} {words l : List ℕ} (room
         rules-are = room .rules-are;
         opened = room .opened;
         long = length-set words₁ 2 (nextOf words₁ + 1) ∙ code .long;
-        wide = length-set l (nextOf words₁) (k - 1) ∙ room .wide;
+        symbols-long = length-set l (nextOf words₁) (k - 1) ∙ room .symbols-long;
         read = omega (arith, next-is, gate-in-room);
         used = subst (λ (c : Cursor). c .used < 8) (sym cursor-is) (code .used);
         near = omega (arith, ap placeOf cursor-is, next-is, gate-in-room, code .coded .reads .near, room .near);
@@ -121,7 +121,7 @@ module _ {e : List ℕ} {bytes : ℕ} {rules : Rules} {words l : List ℕ} (room
 
   -- ---- the second branch of a NAND after the first
 
-  module _ {words₁ l₁ : List ℕ} (s : List ℕ) (f : ℕ) (first : NodeRead s rules (At (cursorOf words)) (nextOf words) l l₁ (reached f words₁)) (kept : Kept rules f words₁ l₁) where
+  module _ {words₁ l₁ : List ℕ} (s : List ℕ) (f : ℕ) (first : NodeRead s rules (At (cursorOf words)) (nextOf words) l l₁ (reached f words₁)) (kept : WordsAfter rules f words₁ l₁) where
     pub second-refused : 0 < f → PairRead s rules (At (cursorOf words)) (nextOf words) l l₁ (reached f words₁)
     second-refused h =
         pair-read s rules (At (cursorOf words)) (nextOf words) l l₁ l₁ (reached f words₁) (reached f words₁) few first
@@ -135,7 +135,7 @@ module _ {e : List ℕ} {bytes : ℕ} {rules : Rules} {words l : List ℕ} (room
       rules-are = room .rules-are;
       opened = room .opened;
       long = kept .long;
-      wide = kept .wide;
+      symbols-long = kept .symbols-long;
       read = first .went .upto;
       used = kept .used (live z);
       near = omega (arith, outcome-place f (cursorOf words₁), first .went .near (live z), room .near);

@@ -8,8 +8,8 @@ use native.Mathlib.Numerals.{add-one}
 use lib.ListN.{length, getD, take, drop, set, length-append, length-drop}
 use lib.Seq.{sets, drop-cons, drop-length, getD-append-add, getD-take, length-take-le}
 use Rattle.fields.proofs.Lists.{set-sets, in-sets}
-use Rattle.shapes.specs.Shape.{Shape, leaf, inv, nand, size, symbols, sizes}
-use Rattle.shapes.proofs.Drawn.{length-symbols, length-sizes}
+use Rattle.shapes_rules.specs.Shape.{Shape, leaf, inv, nand, size, symbols, sizes}
+use Rattle.shapes_rules.proofs.Drawing.{length-symbols, length-sizes}
 
 -- A node with symbol x has size z, where the sizes of the nodes after it stand in m from i up to e.
 pub record Sized (x i e : ℕ) (m : List ℕ) (z : ℕ) : Type 0 where

@@ -13,14 +13,15 @@ use Rattle.bits.specs.Bits.{placeOf, fieldAt}
 use Rattle.fields.specs.declared.Scan.the-variants.{At}
 use Rattle.fields.specs.Reading.{field}
 use Rattle.fields.proofs.Laws.{reads-field}
-use Rattle.shapes.specs.declared.Rules.{Rules}
+use Rattle.shapes_rules.specs.declared.Rules.{Rules}
 use Rattle.shapes.specs.declared.NodeCode.{NodeCode}
 use Rattle.shapes.specs.declared.NodeCode.the-variants.{Code, Faulty}
-use Rattle.shapes.specs.Drawing.{codeVerdict, leafVerdict, leafNode}
-use Rattle.shapes.specs.Promises.{plainBits, Met, Marked, verdictOf, outcome, cursorOf, nextOf, pinsOf, codeGot, reached, CodeRead, LeafRead, Kept}
+use Rattle.shapes_rules.specs.Drawing.{codeVerdict, leafVerdict, leafNode, plainBits}
+use Rattle.shapes.specs.Inside.Promises.{Met, Marked, verdictOf, outcome, cursorOf, nextOf, pinsOf, codeGot, reached, CodeRead, LeafRead, WordsAfter}
 use Rattle.shapes.proofs.Laws.{coded, outcome-dead, outcome-place, field-truncated, field-faulty, field-sound, found-used, moved-cursor, moved-next, moved-pins, counted-cursor, counted-next, counted-pins}
 use Rattle.shapes.proofs.Marks.{met-leaf, marked-others, long-marked}
-use Rattle.shapes.proofs.Drawn.{leaf-laid, leaf-refused, leaf-passes}
+use Rattle.shapes.proofs.Drawn.{leaf-laid, leaf-refused}
+use Rattle.shapes_rules.proofs.Drawing.{leaf-passes}
 
 -- ---- a code
 
@@ -65,10 +66,10 @@ pub leaf-most : (rules : Rules) (seen : List ℕ) (k x : ℕ) → k ≡ 0 → ve
 leaf-most rules seen zero x h e = leaf-passes rules seen x (sym e) .0
 leaf-most rules seen (suc k) x h e = absurd (omega arith)
 
-module _ (s : List ℕ) (rules : Rules) (words l : List ℕ) (f : FieldRead) (long : length words ≡ 16) (wide : length l ≡ 64)
+module _ (s : List ℕ) (rules : Rules) (words l : List ℕ) (f : FieldRead) (long : length words ≡ 16) (symbols-long : length l ≡ 64)
     (here : f ≡ fieldAt s (placeOf (cursorOf words)) (rules .width)) where
   abbrev Done : List ℕ → List ℕ → ℕ → Type 0
-  Done words′ l′ r = LeafRead s rules (At (cursorOf words)) (nextOf words) l l′ (reached r words′) plainBits (leafNode s rules) × Kept rules r words′ l′
+  Done words′ l′ r = LeafRead s rules (At (cursorOf words)) (nextOf words) l l′ (reached r words′) plainBits (leafNode s rules) × WordsAfter rules r words′ l′
 
   -- A leaf that was refused.
   refused : (k : ℕ) → 0 < k → (0, outcome k (cursorOf words)) ≡ field s (rules .width) (leafVerdict rules (take (nextOf words) l)) (At (cursorOf words)) → Done words l k
@@ -82,7 +83,7 @@ module _ (s : List ℕ) (rules : Rules) (words l : List ℕ) (f : FieldRead) (lo
           from = omega arith;
           upto = omega arith;
         },
-        record { long = long; wide = wide; used = λ x. absurd (dead x); met = λ x. absurd (dead x) },
+        record { long = long; symbols-long = symbols-long; used = λ x. absurd (dead x); met = λ x. absurd (dead x) },
       )
 
   pub leaf-truncated : f ≡ Truncated → Done words l 1
@@ -107,7 +108,7 @@ module _ (s : List ℕ) (rules : Rules) (words l : List ℕ) (f : FieldRead) (lo
     },
     record {
       long = marked-long;
-      wide = length-set l (nextOf words) (2 + x) ∙ wide;
+      symbols-long = length-set l (nextOf words) (2 + x) ∙ symbols-long;
       used = λ z. subst (λ (m : ℕ). m < 8) (sym (ap (λ (c : Cursor). c .used) at)) (found .0);
       met = λ z p. subst (λ (i : ℕ). Met rules (pinsOf words′) (take i (set l (nextOf words) (2 + x)))) (sym next)
           (met-leaf rules moved words′ l (nextOf words) x moved-long (few p) (omega arith) mk (subst (λ (ps : List ℕ). Met rules ps (take (nextOf words) l)) (sym pins) met)) p;

@@ -10,26 +10,26 @@ use Rattle.fields.proofs.Lists.{take-sets, zeros-at}
 use lib.Seq.{sets}
 use Rattle.bits.specs.declared.Cursor.{Cursor}
 use Rattle.bits.specs.Bits.{placeOf}
-use Rattle.bits.specs.Promises.{Opens}
+use Rattle.bits.specs.Inside.Promises.{Opens}
 use Rattle.bits.proofs.Laws.{cursor-is}
 use Rattle.fields.specs.declared.Fault.the-variants.{Truncated}
 use Rattle.fields.specs.declared.Scan.{Scan}
 use Rattle.fields.specs.declared.Scan.the-variants.{At, Refused}
-use Rattle.fields.specs.Reading.{place}
-use Rattle.fields.specs.Promises.{Live}
-use Rattle.shapes.specs.declared.Rules.{Rules}
+use Rattle.fields.specs.Reading.{place, Live}
+use Rattle.shapes_rules.specs.declared.Rules.{Rules}
 use Rattle.shapes.specs.declared.ShapeRead.{ShapeRead}
-use Rattle.shapes.specs.Shape.{Shape, symbols}
-use Rattle.shapes.specs.Drawing.{elem, hasAll, shape}
-use Rattle.shapes.specs.Promises.{nodeBits, allMarked, faultOf, outcome, cursorOf, nextOf, pinsOf, reached, Followed, Room, Laid, NodeRead, Kept, ShapeIs}
+use Rattle.shapes_rules.specs.Shape.{Shape, symbols}
+use Rattle.shapes_rules.specs.Drawing.{elem, hasAll, shape, nodeBits}
+use Rattle.shapes.specs.Inside.Promises.{allMarked, faultOf, outcome, cursorOf, nextOf, pinsOf, reached, Followed, Room, Laid, NodeRead, WordsAfter, ShapeIs}
 use Rattle.shapes.proofs.Laws.{outcome-place}
 use Rattle.shapes.proofs.Marks.{whole-marked}
-use Rattle.shapes.proofs.Drawn.{node-dead, run-seen}
-use Rattle.shapes.proofs.Shifted.{shift, shape-shift, shape-truncated}
+use Rattle.shapes_rules.proofs.Drawing.{node-dead}
+use Rattle.shapes.proofs.Drawn.{run-seen}
+use Rattle.shapes_rules.proofs.Shifted.{shift, shape-shift, shape-truncated}
 
 -- ---- nothing was read
 
-module _ (s : List ℕ) (rules : Rules) (l : List ℕ) (wide : length l ≡ 64) where
+module _ (s : List ℕ) (rules : Rules) (l : List ℕ) (symbols-long : length l ≡ 64) where
   none : (scan r : Scan) → (Live r → ⊥) → r ≡ shape s rules scan .1 → place r ≡ place scan → ShapeIs s rules scan l l (record { scan = r; size = 0; whole = false })
   none scan r z e h = record {
     scan-is = e;
@@ -37,7 +37,7 @@ module _ (s : List ℕ) (rules : Rules) (l : List ℕ) (wide : length l ≡ 64) 
     size-is = λ x. absurd (z x);
     whole-is = λ x. absurd (z x);
     few = omega arith;
-    wide = wide;
+    symbols-long = symbols-long;
     near = omega arith;
   }
 
@@ -54,11 +54,11 @@ module _ (s : List ℕ) (rules : Rules) (l : List ℕ) (wide : length l ≡ 64) 
 
 pub start-room : (e s : List ℕ) (bytes u : ℕ) (rules : Rules) (l : List ℕ) → Opens e s bytes → Followed rules → length l ≡ 64 → u < 8 → Room e bytes rules (0 ∷ (u ∷ replicate 14 0)) l
 unfolding placeOf elem
-start-room e s bytes u rules l opens followed wide h = record {
+start-room e s bytes u rules l opens followed symbols-long h = record {
   rules-are = followed;
   opened = record { sheet = s; opens = opens };
   long = refl;
-  wide = wide;
+  symbols-long = symbols-long;
   read = omega arith;
   used = h;
   near = omega (arith, followed .nodes);
@@ -69,7 +69,7 @@ start-room e s bytes u rules l opens followed wide h = record {
 
 module _ (s : List ℕ) (rules : Rules) (scan : Scan) (c : Cursor) (b u : ℕ) (stands : scan ≡ At c) (few : b ≤ length s) (at : 8 * b + u ≡ placeOf c) (followed : Followed rules)
     (l l′ words′ : List ℕ) (end : ℕ) (long : length l ≡ 64)
-    (read : NodeRead (drop b s) rules (At (record { byte = 0; used = u })) 0 l l′ (reached end words′)) (kept : Kept rules end words′ l′) where
+    (read : NodeRead (drop b s) rules (At (record { byte = 0; used = u })) 0 l l′ (reached end words′)) (kept : WordsAfter rules end words′ l′) where
   abbrev next : Cursor
   next = record { byte = b + getD words′ 0 0; used = getD words′ 1 0 }
 
@@ -124,13 +124,13 @@ module _ (s : List ℕ) (rules : Rules) (scan : Scan) (c : Cursor) (b u : ℕ) (
             marked ∙ whole-marked rules (pinsOf words′) (take (nextOf words′) l′) (kept .met (live (back z)))
             ∙ ap (λ (ss : List ℕ). rules .pattern && hasAll (suc (rules .most)) ss) (seen (back z) ∙ ap symbols (sym shape-is));
         few = read .went .upto;
-        wide = kept .wide;
+        symbols-long = kept .symbols-long;
         near = omega (arith, end-place, ap place e, outcome-place end next, ap place stands);
       }
 
 -- ---- what a whole shape says
 
--- The first words of an array that held zeros are the shape's symbols.
+-- The first words of an array that had zeros are the shape's symbols.
 pub drawn-is : (s : List ℕ) (rules : Rules) (c : Scan) (l′ : List ℕ) (read : ShapeRead) → rules .nodes ≤ 64 → ShapeIs s rules c (replicate 64 0) l′ read → Live (read .scan) →
     take (read .size) l′ ≡ symbols (shape s rules c .0)
 drawn-is s rules c l′ read few h z =

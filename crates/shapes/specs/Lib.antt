@@ -1,4 +1,2 @@
--- What the contracts of `shapes` say, in reading order.
-pub mod Shape
-pub mod Drawing
-pub mod Promises
+-- What the functions of `shapes` promise.
+pub mod Inside

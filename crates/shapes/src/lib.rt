@@ -3,44 +3,23 @@ use bits::Cursor;
 use bits::FieldRead;
 use fields::Fault;
 use fields::Scan;
+use shapes_rules::Packed;
+use shapes_rules::Rules;
 ghost use mathlib.Core.Path.{_≡_};
 ghost use mathlib.Core.Bool.{true, false, _&&_};
 ghost use Prim.Native.Nat.{suc, _+_, _*_, _<_, _≤_, _^_};
 ghost use Rattle.bits.specs.Bits.{placeOf};
-ghost use Rattle.bits.specs.Promises.{Opened};
+ghost use Rattle.bits.specs.Inside.Promises.{Opened};
 ghost use lib.ListN.{length, getD};
 ghost use Rattle.fields.specs.Reading.{place};
-ghost use Rattle.shapes.specs.Drawing.{codeVerdict};
-ghost use Rattle.shapes.specs.Promises.{ruled, verdictOf, faultOf, markVerdict, outcome, cursorOf, stoodAt, pinsOf, Marked, allMarked, nodeBits, reach, Followed, Inside, LeafRoom, Room, CodeDone, LeafDone, DrivenDone, NodeDone, PairDone, ShapeIs, Preorder, SizesSet};
-
-// What differs between patterns and trees: the width of a leaf's number and the greatest that is sound, the most nodes, and whether
-// it is a pattern, which opens with a gate and has no pin twice and no driven leaf.
-pub struct Rules {
-    pub width: usize,
-    pub most: u32,
-    pub nodes: usize,
-    pub pattern: bool,
-}
-
-impl Rules {
-    // The most nodes that a shape can have.
-    pub const NODES: usize = 64;
-}
+ghost use Rattle.shapes_rules.specs.Drawing.{codeVerdict, nodeBits};
+ghost use Rattle.shapes.specs.Inside.Promises.{reach, ruled, verdictOf, faultOf, markVerdict, outcome, cursorOf, stoodAt, pinsOf, Marked, allMarked, Followed, Inside, LeafRoom, Room, CodeDone, LeafDone, DrivenDone, NodeDone, PairDone, ShapeIs, Preorder, SizesSet};
 
 // A shape that was read: the scan after it, how many nodes it has, and whether it is a pattern in which each pin up to the greatest stands at a leaf.
 pub struct ShapeRead {
     pub scan: Scan,
     pub size: usize,
     pub whole: bool,
-}
-
-// What stands for a leaf: a symbol from this one on, which has the leaf's number and, so many times, its drive.
-pub struct Packed {}
-
-impl Packed {
-    pub const LEAF: u32 = 2;
-
-    pub const DRIVE: u32 = 1048576;
 }
 
 // The codes of nodes, but for a NAND's, which is what is left; how wide a code is, and a drive.

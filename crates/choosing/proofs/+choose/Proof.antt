@@ -5,12 +5,12 @@ use mathlib.Core.Path.{_≡_, refl, sym, ap, _∙_}
 use mathlib.Core.List.{List, [], _∷_}
 use mathlib.Core.Option.{some}
 use lib.ListN.{length, getD}
-use Rattle.sheets.specs.Model.{Shape, Library, Tree}
+use Rattle.sheets_rules.specs.Model.{Shape, Library, Tree}
 use Rattle.covers.specs.Cover.{Placed, Cover}
 use Rattle.covers.specs.Choice.{choice}
-use Rattle.results.specs.declared.CoverRecord.{CoverRecord}
+use Rattle.result_sheets.specs.declared.CoverRecord.{CoverRecord}
 use Rattle.filling.proofs.Node.{gate-here}
-use Rattle.choosing.specs.Promises.{Chooses, appended}
+use Rattle.choosing.specs.Inside.Promises.{Chooses, appended}
 use Rattle.choosing.proofs.Gate.{Limits, limits, ready, chosen-there}
 use Rattle.choosing.proofs.Below.{Topmost, placedTo, few-inputs, placed-start, placed-all, Following, following, leaf-appended, gate-top, appended-none, appended-more}
 use borrow.Fn.Kinds.{In}

@@ -5,15 +5,15 @@ use Prim.Native.Nat.{ℕ, _+_, _-_, _*_, _%_, _≤_, _<_}
 use mathlib.Core.Path.{_≡_, sym, ap, ap₂, subst, _∙_}
 use mathlib.Core.List.{List}
 use lib.ListN.{length, getD, take, drop}
-use Rattle.sheets.specs.Model.{Shape, Library, Tree}
-use Rattle.sheets.specs.Layout.{rowWords}
+use Rattle.sheets_rules.specs.Model.{Shape, Library, Tree}
+use Rattle.sheets_rules.specs.Inside.Layout.{rowWords}
 use Rattle.covers.specs.Match.{Match}
-use Rattle.covers.specs.Curve.{base}
-use Rattle.matching.specs.Found.{matchBytes, matchTable}
-use Rattle.curves.specs.Best.{rowOf, patternOf, RowSafe}
+use Rattle.covers.specs.Inside.Curve.{base}
+use Rattle.matching.specs.Inside.Found.{matchBytes, matchTable}
+use Rattle.curves.specs.Inside.Best.{hitAt, patternOf}
 use Rattle.curves.proofs.Laws.{part-word, part-length}
-use Rattle.filling.proofs.Node.{FoundIs, gate-here, rows-ready}
-use Rattle.choosing.specs.Promises.{RowHolds, InputsAre, Prepared, Driven}
+use Rattle.filling.proofs.Node.{FoundIs, gate-here, hits-ready}
+use Rattle.choosing.specs.Inside.Promises.{HitHolds, InputsAre, Prepared, Driven}
 use Rattle.choosing.proofs.Gate.{Limits, limits, ready, word-found, Picked, picked, picked-inputs}
 use Rattle.choosing.proofs.choose_match.Statement.{statement}
 use Rattle.choosing.proofs.choose_match.Tie as tie
@@ -42,7 +42,7 @@ entry c = c .before .before .before .before .before .before .before .before .bef
 abbrev searched : Reached → Searched
 searched c = c .before .before .before .before
 
--- What the look-up found, the rows found, and the row picked among them.
+-- What the look-up found, the hits, and the one picked among them.
 abbrev word : Reached → ℕ
 word c = c .before .before .before .before .before .before .look-up .result
 
@@ -55,37 +55,37 @@ place c = c .first-reaching .result
 near : (c : Entry) → Limits (c .args .goal) (c .args .symbols .now)
 near c = let p = c .pre .1 .1 .1 in limits (p .0) (p .1)
 
--- The rows found, for every library and tree that was decoded.
-the-rows : (c : Searched) (l : Library) (t : Tree) (s : Shape) → let a = entry c .args in
+-- The hits, for every library and tree that was decoded.
+the-hits : (c : Searched) (l : Library) (t : Tree) (s : Shape) → let a = entry c .args in
     Prepared (a .most) l t (a .rows .now) (a .symbols .now) (a .sizes .now) (length (a .found .now)) (a .work .now) → Driven l t (a .goal) s → FoundIs l (a .goal .node) s (a .found .now) (table c) (c .find-matches .result)
-the-rows c l t s dec drv = let q = c .find-matches .ensures l t s (ready dec drv) in record { many = q .0; table = q .1 }
+the-hits c l t s dec drv = let q = c .find-matches .ensures l t s (ready dec drv) in record { many = q .0; table = q .1 }
 
-the-row : (c : Reached) (l : Library) (t : Tree) (s : Shape) → let a = entry (searched c) .args in
+the-hit : (c : Reached) (l : Library) (t : Tree) (s : Shape) → let a = entry (searched c) .args in
     Prepared (a .most) l t (a .rows .now) (a .symbols .now) (a .sizes .now) (length (a .found .now)) (a .work .now) → Driven l t (a .goal) s → Picked l (a .goal) s (a .rows .now) (table (searched c)) (word c) (place c)
-the-row c l t s dec drv = picked dec drv (entry (searched c) .pre .1 .1 .1 .2) (the-rows (searched c) l t s dec drv) (word c) (place c) (c .before .before .before .before .before .before .look-up .ensures) (c .first-reaching .ensures)
+the-hit c l t s dec drv = picked dec drv (entry (searched c) .pre .1 .1 .1 .2) (the-hits (searched c) l t s dec drv) (word c) (place c) (c .before .before .before .before .before .before .look-up .ensures) (c .first-reaching .ensures)
 
-own-row : (c : Reached) → let p = entry (searched c) .pre in let a = entry (searched c) .args in Picked (p .0) (a .goal) (p .1 .1 .0) (a .rows .now) (table (searched c)) (word c) (place c)
-own-row c = let p = entry (searched c) .pre in the-row c (p .0) (p .1 .0) (p .1 .1 .0) (p .1 .1 .1 .0) (p .1 .1 .1 .1)
+own-hit : (c : Reached) → let p = entry (searched c) .pre in let a = entry (searched c) .args in Picked (p .0) (a .goal) (p .1 .1 .0) (a .rows .now) (table (searched c)) (word c) (place c)
+own-hit c = let p = entry (searched c) .pre in the-hit c (p .0) (p .1 .0) (p .1 .1 .0) (p .1 .1 .1 .0) (p .1 .1 .1 .1)
 
 -- It is within the table, which is not long; its pattern is one whose row is there.
 few : (c : Reached) → matchBytes * place c + matchBytes ≤ matchTable
-few c = omega (arith, own-row c .inside, searched c .find-matches .kept .1 .1 .1 .1 .0, entry (searched c) .pre .1 .1 .1 .0 .room-is)
+few c = omega (arith, own-hit c .inside, searched c .find-matches .kept .1 .1 .1 .1 .0, entry (searched c) .pre .1 .1 .1 .0 .room-is)
 
-pattern-is : (c : Reached) → getD (rowOf (table (searched c)) (place c)) 0 0 ≡ getD (table (searched c)) (matchBytes * place c + 0) 0
+pattern-is : (c : Reached) → getD (hitAt (table (searched c)) (place c)) 0 0 ≡ getD (table (searched c)) (matchBytes * place c + 0) 0
 pattern-is c = part-word matchBytes (matchBytes * place c) (table (searched c)) 0 (omega arith)
 
 known : (c : Reached) → rowWords * (getD (table (searched c)) (matchBytes * place c + 0) 0 + 1) ≤ length (entry (searched c) .args .rows .now)
-known c = omega (arith, own-row c .known .known, pattern-is c)
+known c = omega (arith, own-hit c .known .known, pattern-is c)
 
--- The two parts that are lent are the pattern's row and the match's.
+-- The two parts that are lent are the pattern's row and the hit.
 the-pattern : (c : Reached) → let at = rowWords * getD (table (searched c)) (matchBytes * place c + 0) 0 in let rows = entry (searched c) .args .rows .now in
-    take (at + rowWords - at) (drop at rows) ≡ patternOf rows (rowOf (table (searched c)) (place c))
+    take (at + rowWords - at) (drop at rows) ≡ patternOf rows (hitAt (table (searched c)) (place c))
 the-pattern c =
     let at = rowWords * getD (table (searched c)) (matchBytes * place c + 0) 0 in
     let part : at + rowWords - at ≡ rowWords = omega arith in
     ap₂ (λ m k. take m (drop (rowWords * k) (entry (searched c) .args .rows .now))) part (sym (pattern-is c))
 
-the-match : (c : Reached) → let at = matchBytes * place c in take (at + matchBytes - at) (drop at (table (searched c))) ≡ rowOf (table (searched c)) (place c)
+the-match : (c : Reached) → let at = matchBytes * place c in take (at + matchBytes - at) (drop at (table (searched c))) ≡ hitAt (table (searched c)) (place c)
 the-match c =
     let at = matchBytes * place c in
     let part : at + matchBytes - at ≡ matchBytes = omega arith in
@@ -118,7 +118,7 @@ first-reaching-requires c κs =
     let dec = p .1 .1 .1 .0 in
     let drv = p .1 .1 .1 .1 in
     let w = call .before .before .look-up in (
-      rows-ready (ready dec drv) (the-rows call (p .0) (p .1 .0) (p .1 .1 .0) dec drv) (dec .area),
+      hits-ready (ready dec drv) (the-hits call (p .0) (p .1 .0) (p .1 .1 .0) dec drv) (dec .area),
       (near (entry call) .load-small, word-found dec drv (w .result) (w .ensures) (gate-here (ready dec drv) (p .1 .1 .1 .2)) .0),
     )
 
@@ -129,7 +129,7 @@ add-at : tie.Need-add-at
 add-at c = omega (arith, few c)
 
 slice-read-at : tie.Need-slice-read-at
-slice-read-at c = omega (arith, own-row (c .before) .inside)
+slice-read-at c = omega (arith, own-hit (c .before) .inside)
 
 cast-at : tie.Need-cast-at
 cast-at c = omega (arith, known (c .before))
@@ -162,7 +162,7 @@ part-read-inputs-start-2 : tie.Need-part-read-inputs-start-2
 part-read-inputs-start-2 c = search needs
 
 part-read-inputs-end-2 : tie.Need-part-read-inputs-end-2
-part-read-inputs-end-2 c = omega (arith, own-row (c .before .before .before) .inside)
+part-read-inputs-end-2 c = omega (arith, own-hit (c .before .before .before) .inside)
 
 cast-read-inputs : tie.Need-cast-read-inputs
 cast-read-inputs c = search needs
@@ -170,8 +170,8 @@ cast-read-inputs c = search needs
 read-inputs-requires : tie.Need-read-inputs-requires
 read-inputs-requires c κs =
     let q = c .before .before .before .before in
-    let k = own-row q in
-    rw (the-pattern q, the-match q) (k .known .safe, part-length rowWords (rowWords * getD (rowOf (table (searched q)) (place q)) 0 0) (entry (searched q) .args .rows .now) (omega (arith, k .known .known)), k .long, near (entry (searched q)) .load-small)
+    let k = own-hit q in
+    rw (the-pattern q, the-match q) (k .known .safe, part-length rowWords (rowWords * getD (hitAt (table (searched q)) (place q)) 0 0) (entry (searched q) .args .rows .now) (omega (arith, k .known .known)), k .long, near (entry (searched q)) .load-small)
 
 same-length : tie.Need-same-length
 same-length c = search needs
@@ -181,9 +181,9 @@ returns c = λ l t s dec drv.
     let q = c .before .before .before .before .before in
     let a = entry (searched q) .args in
     let x = c .read-inputs .result in
-    picked-inputs (the-row q l t s dec drv) x
-    (subst (λ row. (l : Library) (m : Match) → RowHolds l (patternOf (a .rows .now) (rowOf (table (searched q)) (place q))) row m → InputsAre l m (a .goal .load) (word q % base) x) (the-match q)
-    (subst (λ pattern. (l : Library) (m : Match) → RowHolds l pattern (take (matchBytes * place q + matchBytes - matchBytes * place q) (drop (matchBytes * place q) (table (searched q)))) m → InputsAre l m (a .goal .load) (word q % base) x) (the-pattern q) (c .read-inputs .ensures)))
+    picked-inputs (the-hit q l t s dec drv) x
+    (subst (λ hit. (l : Library) (m : Match) → HitHolds l (patternOf (a .rows .now) (hitAt (table (searched q)) (place q))) hit m → InputsAre l m (a .goal .load) (word q % base) x) (the-match q)
+    (subst (λ pattern. (l : Library) (m : Match) → HitHolds l pattern (take (matchBytes * place q + matchBytes - matchBytes * place q) (drop (matchBytes * place q) (table (searched q)))) m → InputsAre l m (a .goal .load) (word q % base) x) (the-pattern q) (c .read-inputs .ensures)))
 
 pub choose-match-spec : {M : Type 1} → statement M
 choose-match-spec =

@@ -1,19 +1,19 @@
--- The loop over the found rows, left with the first that reaches: none before it does.
+-- The loop over the hits, left with the first that reaches: none before it does.
 use native.Mathlib.Omega.{arith}
 use Prim.Native.Nat.{ℕ, _+_, _-_, _%_, _≤_, _<_}
 use mathlib.Core.Path.{_≡_, subst}
 use mathlib.Core.Logic.{_⊎_, inl, inr}
 use Rattle.covers.proofs.Basics.{lt-or-le}
-use Rattle.covers.specs.Curve.{base}
-use Rattle.curves.specs.Best.{rowOf}
-use Rattle.curves.proofs.Laws.{row-ready}
-use Rattle.choosing.specs.Promises.{Reaches}
+use Rattle.covers.specs.Inside.Curve.{base}
+use Rattle.curves.specs.Inside.Best.{hitAt}
+use Rattle.curves.proofs.Laws.{hit-ready}
+use Rattle.choosing.specs.Inside.Promises.{Reaches}
 use Rattle.choosing.proofs.Reading.{reached, unreached}
 use Rattle.choosing.proofs.first_reaching.Statement.{statement}
 use Rattle.choosing.proofs.first_reaching.Tie as tie
 
 abbrev Inv-loop : tie.InvT-loop
-Inv-loop rows found count symbols work most load w j₀ j = (j ≤ count) × ((i : ℕ) → i < j → Reaches most symbols work rows load w (rowOf found i) → ⊥)
+Inv-loop rows found count symbols work most load w j₀ j = (j ≤ count) × ((i : ℕ) → i < j → Reaches most symbols work rows load w (hitAt found i) → ⊥)
 
 abbrev μ-loop : tie.MeasureT-loop
 μ-loop rows found count symbols work most load w j₀ j = count - j
@@ -27,7 +27,7 @@ add-match-best c = omega arith
 match-best-requires : tie.Need-match-best-requires Inv-loop μ-loop
 match-best-requires c κs =
     let p = c .before .before .before .before .before .before .pre in
-    (row-ready (p .0) (c .before .loop .j) (omega arith), (p .0 .sources, (p .1 .0, omega arith)))
+    (hit-ready (p .0) (c .before .loop .j) (omega arith), (p .0 .sources, (p .1 .0, omega arith)))
 
 add-j : tie.Need-add-j Inv-loop μ-loop
 add-j c = omega arith
@@ -41,12 +41,12 @@ loop-again c =
     (omega arith, λ k h. go k (lt-or-le k (i .j)) h)
   where
     go : (k : ℕ) → (k < c .before .before .before .loop .j) ⊎ (c .before .before .before .loop .j ≤ k) → k < c .before .before .before .loop .j + 1 →
-        let a = c .before .before .before .before .before .before .before .before .args in Reaches (a .most) (a .symbols .now) (a .work .now) (a .rows .now) (a .load) (a .w) (rowOf (a .found .now) k) → ⊥
+        let a = c .before .before .before .before .before .before .before .before .args in Reaches (a .most) (a .symbols .now) (a .work .now) (a .rows .now) (a .load) (a .w) (hitAt (a .found .now) k) → ⊥
     go k (inl l) h = c .before .before .before .loop .inv .1 k l
     go k (inr l) h =
         let a = c .before .before .before .before .before .before .before .before .args in
         let e : c .before .before .before .loop .j ≡ k = omega arith in
-        subst (λ (q : ℕ). Reaches (a .most) (a .symbols .now) (a .work .now) (a .rows .now) (a .load) (a .w) (rowOf (a .found .now) q) → ⊥) e
+        subst (λ (q : ℕ). Reaches (a .most) (a .symbols .now) (a .work .now) (a .rows .now) (a .load) (a .w) (hitAt (a .found .now) q) → ⊥) e
         (unreached (a .w) (c .before .match-best .result) (a .w % base + 1) _ (omega arith) (c .before .match-best .ensures) (c .if1 .left))
 
 returns : tie.Need-returns Inv-loop μ-loop

@@ -1,15 +1,15 @@
--- The loop over a row's inputs: those passed are read.
+-- The loop over a hit's inputs: those passed are read.
 use native.Mathlib.Omega.{arith}
 use Prim.Native.Nat.{ℕ, _-_, _≤_, _<_}
 use mathlib.Core.Path.{_≡_, refl, _∙_}
 use mathlib.Core.List.{List}
 use lib.ListN.{length, getD, length-set}
-use Rattle.sheets.specs.Model.{Library}
-use Rattle.sheets.specs.Layout.{rowWords}
+use Rattle.sheets_rules.specs.Model.{Library}
+use Rattle.sheets_rules.specs.Inside.Layout.{rowWords}
 use Rattle.covers.specs.Match.{Match}
-use Rattle.matching.specs.Found.{matchBytes}
-use Rattle.curves.specs.Best.{rowCount, InputSafe}
-use Rattle.choosing.specs.Promises.{RowHolds, goalOf, noInput}
+use Rattle.matching.specs.Inside.Found.{matchBytes}
+use Rattle.curves.specs.Inside.Best.{hitCount, InputSafe}
+use Rattle.choosing.specs.Inside.Promises.{HitHolds, goalOf, noInput}
 use Rattle.choosing.proofs.Reading.{goalIn, count-at, pattern-at, crossing-at, inputs-turn}
 use Rattle.choosing.proofs.read_inputs.Statement.{statement}
 use Rattle.choosing.proofs.read_inputs.Tie as tie
@@ -18,26 +18,26 @@ use Rattle.choosing.proofs.read_inputs.Lts as lts
 use Rattle.choosing.proofs.time_left.Reads as time-left-reads
 
 abbrev Inv-loop : tie.InvT-loop
-Inv-loop pattern row load time nodes₀ loads₀ bins₀ times₀ count k₀ nodes loads bins times k =
-    (k ≤ count) × (count ≡ rowCount row) × (length nodes ≡ 6) × (length loads ≡ 6) × (length bins ≡ 6) × (length times ≡ 6)
-    × ((l : Library) (m : Match) → RowHolds l pattern row m → (i : ℕ) → i < k → goalIn nodes loads bins times i ≡ goalOf l m load time (getD (m .inputs) i noInput))
+Inv-loop pattern hit load time nodes₀ loads₀ bins₀ times₀ count k₀ nodes loads bins times k =
+    (k ≤ count) × (count ≡ hitCount hit) × (length nodes ≡ 6) × (length loads ≡ 6) × (length bins ≡ 6) × (length times ≡ 6)
+    × ((l : Library) (m : Match) → HitHolds l pattern hit m → (i : ℕ) → i < k → goalIn nodes loads bins times i ≡ goalOf l m load time (getD (m .inputs) i noInput))
 
 abbrev μ-loop : tie.MeasureT-loop
-μ-loop pattern row load time nodes₀ loads₀ bins₀ times₀ count k₀ nodes loads bins times k = count - k
+μ-loop pattern hit load time nodes₀ loads₀ bins₀ times₀ count k₀ nodes loads bins times k = count - k
 
 -- What the loop may read and write.
-record Near (pattern row : List ℕ) (k : ℕ) : Type 0 where
+record Near (pattern hit : List ℕ) (k : ℕ) : Type 0 where
   pattern-long : length pattern ≡ rowWords
-  row-long : length row ≡ matchBytes
+  hit-long : length hit ≡ matchBytes
   few : k < 6
-  safe : InputSafe pattern row k
+  safe : InputSafe pattern hit k
 
-near : (c : tie.In-loop Inv-loop μ-loop) → let a = c .before .before .before .before .before .args in Near (a .pattern .now) (a .row .now) (c .before .loop .k)
+near : (c : tie.In-loop Inv-loop μ-loop) → let a = c .before .before .before .before .before .args in Near (a .pattern .now) (a .hit .now) (c .before .loop .k)
 near c =
     let p = c .before .before .before .before .before .pre in
     let a = c .before .before .before .before .before .args in
-    let below : c .before .loop .k < rowCount (a .row .now) = omega (arith, c .loop-test .taken, c .before .loop .inv .1) in
-    record { pattern-long = p .1; row-long = p .2; few = omega (arith, p .0 .few, c .loop-test .taken, c .before .loop .inv .1); safe = p .0 .inputs (c .before .loop .k) below }
+    let below : c .before .loop .k < hitCount (a .hit .now) = omega (arith, c .loop-test .taken, c .before .loop .inv .1) in
+    record { pattern-long = p .1; hit-long = p .2; few = omega (arith, p .0 .few, c .loop-test .taken, c .before .loop .inv .1); safe = p .0 .inputs (c .before .loop .k) below }
 
 shared-slice-read-count : tie.Need-shared-slice-read-count Inv-loop μ-loop
 shared-slice-read-count c = omega (arith, c .before .before .before .pre .2)
@@ -147,7 +147,7 @@ loop-again c =
       length-set (i .bins) (i .k) _ ∙ i .inv .4,
       length-set (i .times) (i .k) _ ∙ i .inv .5,
       λ l m h.
-          inputs-turn l (a .pattern .now) (a .row .now) m h (a .load) (a .time) (i .k) (c .time-left .result) (i .nodes) (i .loads) (i .bins) (i .times) (omega (arith, q .loop-test .taken, i .inv .1)) (i .inv .2) (i .inv .3) (i .inv .4) (i .inv .5)
+          inputs-turn l (a .pattern .now) (a .hit .now) m h (a .load) (a .time) (i .k) (c .time-left .result) (i .nodes) (i .loads) (i .bins) (i .times) (omega (arith, q .loop-test .taken, i .inv .1)) (i .inv .2) (i .inv .3) (i .inv .4) (i .inv .5)
           (c .time-left .ensures) (i .inv .6 l m h),
     )
 
@@ -161,10 +161,10 @@ returns : tie.Need-returns Inv-loop μ-loop
 returns c = λ l m h.
     let a = c .before .before .before .before .before .before .before .args in
     let i = c .before .before .before .loop in
-    let many = count-at l (a .pattern .now) (a .row .now) m h in
+    let many = count-at l (a .pattern .now) (a .hit .now) m h in
     record {
-      pattern-is = pattern-at l (a .pattern .now) (a .row .now) m h;
-      crossing-is = crossing-at l (a .pattern .now) (a .row .now) m h;
+      pattern-is = pattern-at l (a .pattern .now) (a .hit .now) m h;
+      crossing-is = crossing-at l (a .pattern .now) (a .hit .now) m h;
       count-is = many;
       few = h .few;
       each = λ k g. i .inv .6 l m h k (omega (arith, many, c .before .before .loop-test .left, i .inv .1));

@@ -4,29 +4,29 @@ use mathlib.Core.Path.{_≡_, refl, subst}
 use mathlib.Core.Option.{none}
 use mathlib.Core.Logic.{⊎-elim}
 use lib.ListN.{length, getD, length-set}
-use Rattle.curves.specs.Words.{matchLimit}
-use Rattle.curves.specs.Best.{rowsBest}
-use Rattle.curves.specs.Promises.{Worth, Kept}
-use Rattle.curves.proofs.Laws.{worth-none, rows-turn, row-ready}
+use Rattle.curves.specs.Inside.Words.{matchLimit}
+use Rattle.curves.specs.Inside.Best.{hitsBest}
+use Rattle.curves.specs.Inside.Promises.{Worth, Kept}
+use Rattle.curves.proofs.Laws.{worth-none, hits-turn, hit-ready}
 use Rattle.curves.proofs.Lasting.{passed-over, worth-top, kept-set}
 use Rattle.curves.proofs.best.Statement.{statement}
 use Rattle.curves.proofs.best.Tie as tie
 
 abbrev Inv-loop : tie.InvT-loop
-Inv-loop rows found count symbols work kept₀ end load most least₀ j₀ kept least j = (j ≤ count) × (length kept ≡ length kept₀) × Kept most symbols work rows found load count end kept × Worth matchLimit end least (rowsBest most symbols work rows found load end j)
+Inv-loop rows found count symbols work kept₀ end load most least₀ j₀ kept least j = (j ≤ count) × (length kept ≡ length kept₀) × Kept most symbols work rows found load count end kept × Worth matchLimit end least (hitsBest most symbols work rows found load end j)
 
 abbrev μ-loop : tie.MeasureT-loop
 μ-loop rows found count symbols work kept₀ end load most least₀ j₀ kept least j = count - j
 
 loop-holds : tie.Need-loop-holds Inv-loop μ-loop
-unfolding rowsBest
+unfolding hitsBest
 loop-holds c = let s = c .before .before .before .before .before in (omega arith, refl, s .pre .1 .1 .1, worth-none matchLimit (s .args .end) none refl)
 
 match-best-requires : tie.Need-match-best-requires Inv-loop μ-loop
 match-best-requires c κs =
     let q = c .before .before .before in
     let p = q .before .before .before .before .before .before .before .pre in
-    (row-ready (p .0) (q .before .loop .j) (q .loop-test .taken), (p .0 .sources, (p .1 .0 .0, p .1 .0 .1)))
+    (hit-ready (p .0) (q .before .loop .j) (q .loop-test .taken), (p .0 .sources, (p .1 .0 .0, p .1 .0 .1)))
 
 loop-again : tie.Need-loop-again Inv-loop μ-loop
 loop-again c =
@@ -35,7 +35,7 @@ loop-again c =
     let s = q .before .before .before .before .before .before .before in
     let k = i .inv .2 in
     let rising = s .pre .1 .1 .0 (i .j) (q .loop-test .taken) in
-    let turn = rows-turn k (i .j) (i .least) in
+    let turn = hits-turn k (i .j) (i .least) in
     let word = getD (i .kept) (i .j) 0 in
     ⊎-elim
     (λ t.

@@ -3,22 +3,22 @@ use Prim.Native.Nat.{_-_, _*_, _≤_, _<_}
 use native.Mathlib.Nat.{sub-zero}
 use mathlib.Core.Path.{_≡_, sym, _∙_}
 use mathlib.Core.Option.{some}
-use Rattle.covers.specs.Curve.{both}
+use Rattle.covers.specs.Inside.Curve.{both}
 use Rattle.covers.proofs.Points.{both-nothing}
-use Rattle.curves.specs.Words.{areaLimit}
-use Rattle.curves.specs.Best.{rowCount, inputsBest}
+use Rattle.curves.specs.Inside.Words.{areaLimit}
+use Rattle.curves.specs.Inside.Best.{hitCount, inputsBest}
 use Rattle.curves.proofs.Laws.{match-never, match-stops, match-turn, match-worth}
 use Rattle.curves.proofs.best_match.Statement.{statement}
 use Rattle.curves.proofs.best_match.Tie as tie
 
 abbrev Inv-loop : tie.InvT-loop
-Inv-loop pattern row symbols work most load end count area₀ arrival₀ k₀ area arrival k = (k ≤ rowCount row)
+Inv-loop pattern hit symbols work most load end count area₀ arrival₀ k₀ area arrival k = (k ≤ hitCount hit)
     × (area ≤ areaLimit * k)
     × (arrival < end)
-    × (inputsBest most symbols work pattern row load end 0 (rowCount row) ≡ both (some (record { area = area; arrival = arrival })) (inputsBest most symbols work pattern row load end k (rowCount row - k)))
+    × (inputsBest most symbols work pattern hit load end 0 (hitCount hit) ≡ both (some (record { area = area; arrival = arrival })) (inputsBest most symbols work pattern hit load end k (hitCount hit - k)))
 
 abbrev μ-loop : tie.MeasureT-loop
-μ-loop pattern row symbols work most load end count area₀ arrival₀ k₀ area arrival k = rowCount row - k
+μ-loop pattern hit symbols work most load end count area₀ arrival₀ k₀ area arrival k = hitCount hit - k
 
 returns : tie.Need-returns Inv-loop μ-loop
 returns c = let s = c .before .before .before .before .before in match-never (s .pre .0) (s .args .load) (s .args .end) (c .if1 .taken)

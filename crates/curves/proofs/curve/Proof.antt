@@ -2,7 +2,7 @@ use native.Mathlib.Omega.{arith}
 use Prim.Native.Nat.{_+_, _-_, _<_}
 use mathlib.Core.Path.{_≡_, refl, _∙_}
 use lib.ListN.{length, length-set}
-use Rattle.curves.specs.Words.{slot}
+use Rattle.curves.specs.Inside.Words.{slot}
 use Rattle.curves.proofs.Laws.{SlotWithin, slot-within, matches-in}
 use Rattle.curves.proofs.Frames.{Growing, growing-start, growing-rising, growing-kept, growing-next, growing-done, growing-over}
 use Rattle.curves.proofs.curve.Statement.{statement}

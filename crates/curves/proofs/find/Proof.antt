@@ -1,7 +1,7 @@
 use borrow.Author.Needs.{needs}
 use mathlib.Core.Path.{sym, subst}
-use Rattle.curves.specs.Words.{pointLimit}
-use Rattle.curves.specs.Promises.{Worth, Probed}
+use Rattle.curves.specs.Inside.Words.{pointLimit}
+use Rattle.curves.specs.Inside.Promises.{Worth, Probed}
 use Rattle.curves.proofs.find.Statement.{statement}
 use Rattle.curves.proofs.find.Tie as tie
 

@@ -3,8 +3,8 @@ use native.Mathlib.Omega.{arith}
 use Prim.Native.Nat.{_+_, _-_}
 use mathlib.Core.Path.{subst, _∙_}
 use lib.ListN.{length, List·getD-eq-default}
-use Rattle.curves.specs.Words.{pointLimit}
-use Rattle.curves.specs.Promises.{Probed}
+use Rattle.curves.specs.Inside.Words.{pointLimit}
+use Rattle.curves.specs.Inside.Promises.{Probed}
 use Rattle.curves.proofs.Laws.{worth-none, found-end}
 use Rattle.curves.proofs.find_from.Statement.{statement}
 use Rattle.curves.proofs.find_from.Tie as tie

@@ -2,8 +2,8 @@ use borrow.Author.Needs.{needs}
 use native.Mathlib.Omega.{arith}
 use mathlib.Core.Path.{sym, subst, _∙_}
 use lib.ListN.{getD}
-use Rattle.curves.specs.Words.{pointLimit, tableOf}
-use Rattle.curves.specs.Promises.{Worth}
+use Rattle.curves.specs.Inside.Words.{pointLimit, tableOf}
+use Rattle.curves.specs.Inside.Promises.{Worth}
 use Rattle.curves.proofs.Laws.{leaf-timely, leaf-late, gate-best, worth-none, found-never}
 use Rattle.curves.proofs.input_best.Statement.{statement}
 use Rattle.curves.proofs.input_best.Tie as tie

@@ -13,7 +13,7 @@ delay-requires c κs =
     let s = c .before .before .before .before .before .before .before .before in
     let safe = s .pre .1 .0 .0 in
     let pattern = s .args .pattern .now in
-    let at = 5 + 4 * getD (s .args .row .now) (3 + 2 * s .args .k) 0 in
+    let at = 5 + 4 * getD (s .args .hit .now) (3 + 2 * s .args .k) 0 in
     (omega (arith, figure-is pattern at 2 (omega arith), safe .intrinsic), omega (arith, figure-is pattern at 3 (omega arith), safe .drive), s .pre .1 .1 .0)
 
 input-best-requires : tie.Need-input-best-requires
@@ -22,7 +22,7 @@ input-best-requires c κs =
     let tables = s .pre .0 in
     let safe = s .pre .1 .0 .0 in
     let pattern = s .args .pattern .now in
-    let at = 5 + 4 * getD (s .args .row .now) (3 + 2 * s .args .k) 0 in
+    let at = 5 + 4 * getD (s .args .hit .now) (3 + 2 * s .args .k) 0 in
     let long : length (pinPart pattern at) ≡ at + 4 - at = length-take-le (at + 4 - at) (drop at pattern) (omega (arith, length-drop at pattern, safe .pin, tables .pattern-length)) in
     (tables .sources, (safe .node, (omega (arith, long), omega (arith, bin-is pattern at, safe .bin), omega (arith, figure-is pattern at 1 (omega arith), safe .load))))
 

@@ -3,9 +3,9 @@ use native.Mathlib.Omega.{arith}
 use Prim.Native.Nat.{ℕ, _+_, _-_}
 use mathlib.Core.Path.{_≡_, subst}
 use lib.ListN.{take, drop}
-use Rattle.covers.specs.Curve.{lookup}
-use Rattle.curves.specs.Words.{pointLimit, stored, slot}
-use Rattle.curves.specs.Promises.{Worth}
+use Rattle.covers.specs.Inside.Curve.{lookup}
+use Rattle.curves.specs.Inside.Words.{pointLimit, stored, slot}
+use Rattle.curves.specs.Inside.Promises.{Worth}
 use Rattle.curves.proofs.Laws.{part-small, SlotWithin, slot-within}
 use Rattle.curves.proofs.look_up.Statement.{statement}
 use Rattle.curves.proofs.look_up.Tie as tie

@@ -3,9 +3,9 @@ use native.Mathlib.Omega.{arith}
 use native.Mathlib.Nat.{add-sub-cancel-left}
 use Prim.Native.Nat.{_+_, _-_, _*_, _≤_}
 use lib.ListN.{length, getD, take, drop}
-use Rattle.sheets.specs.Layout.{rowWords}
-use Rattle.matching.specs.Found.{matchBytes}
-use Rattle.curves.proofs.Laws.{row-tables}
+use Rattle.sheets_rules.specs.Inside.Layout.{rowWords}
+use Rattle.matching.specs.Inside.Found.{matchBytes}
+use Rattle.curves.proofs.Laws.{hit-tables}
 use Rattle.curves.proofs.match_best.Statement.{statement}
 use Rattle.curves.proofs.match_best.Tie as tie
 
@@ -18,7 +18,7 @@ legal-match-requires : tie.Need-legal-match-requires
 legal-match-requires c κs =
     let s = c .before .before .before .before .before .before .before in
     let p = s .pre in
-    simp add-sub-cancel-left (row-tables (s .args .found .now) (s .args .j) (p .0 .0) (p .0 .1) (p .1 .0), p .1 .1)
+    simp add-sub-cancel-left (hit-tables (s .args .found .now) (s .args .j) (p .0 .0) (p .0 .1) (p .1 .0), p .1 .1)
 
 returns : tie.Need-returns
 returns c = simp add-sub-cancel-left at (c .legal-match .ensures)

@@ -3,8 +3,8 @@ use Prim.Native.Nat.{ℕ, _+_, _-_, _≤_}
 use native.Mathlib.Nat.{add-zero, add-assoc}
 use mathlib.Core.Path.{_≡_, ap, _∙_}
 use lib.ListN.{getD, drop}
-use Rattle.covers.specs.Curve.{lookup}
-use Rattle.curves.specs.Words.{pointLimit, stored}
+use Rattle.covers.specs.Inside.Curve.{lookup}
+use Rattle.curves.specs.Inside.Words.{pointLimit, stored}
 use Rattle.curves.proofs.Laws.{worth-none, worth-point, found-end, found-here, found-later}
 use Rattle.curves.proofs.probe_words.Statement.{statement}
 use Rattle.curves.proofs.probe_words.Tie as tie

@@ -6,8 +6,8 @@ use lib.Pow.{pow-mono}
 use Rattle.fields.specs.declared.Fault.the-variants.{Truncated}
 use Rattle.fields.specs.declared.Scan.the-variants.{Refused}
 use Rattle.bits.specs.Bits.{placeOf}
-use Rattle.fields.specs.Reading.{place, taken, free}
-use Rattle.fields.proofs.Laws.{found-fits, reads-taken}
+use Rattle.fields.specs.Reading.{place, scanned, free}
+use Rattle.fields.proofs.Laws.{found-fits, reads-scanned}
 use Rattle.fields.proofs.raw.Statement.{statement}
 use Rattle.fields.proofs.raw.Tie as tie
 
@@ -37,8 +37,8 @@ returns-2 c =
     let a = c .before .before .before .before .before .before .before .before .args in
     let k = c .before .before .before .before .before .scan .given in
     let field = c .before .before .before .field in
-    reads-taken (a .s .now) (a .width) (a .scan) (k .0 .0) (field .result) _ (k .1) (field .ensures)
-    (ap (λ (p : ℕ). (0, Refused Truncated p)) (c .place .ensures) ∙ ap (taken (placeOf (k .0 .0)) free) (sym (c .before .enum-told2 .given .1)))
+    reads-scanned (a .s .now) (a .width) (a .scan) (k .0 .0) (field .result) _ (k .1) (field .ensures)
+    (ap (λ (p : ℕ). (0, Refused Truncated p)) (c .place .ensures) ∙ ap (scanned (placeOf (k .0 .0)) free) (sym (c .before .enum-told2 .given .1)))
 
 cast-t11 : tie.Need-cast-t11
 cast-t11 c =
@@ -53,8 +53,8 @@ returns-3 c =
     let a = c .before .before .before .before .before .before .before .before .args in
     let k = c .before .before .before .before .before .scan .given in
     let field = c .before .before .before .field in
-    reads-taken (a .s .now) (a .width) (a .scan) (k .0 .0) (field .result) _ (k .1) (field .ensures)
-    (ap (taken (placeOf (k .0 .0)) free) (sym (c .before .value .given .1)))
+    reads-scanned (a .s .now) (a .width) (a .scan) (k .0 .0) (field .result) _ (k .1) (field .ensures)
+    (ap (scanned (placeOf (k .0 .0)) free) (sym (c .before .value .given .1)))
 
 pub raw-spec : {M : Type 1} → statement M
 raw-spec =

@@ -5,8 +5,8 @@ use Prim.Native.Nat.{ℕ, _+_, _-_, _≤_, _<_}
 use mathlib.Core.Path.{_≡_, refl, subst, _∙_}
 use mathlib.Core.Bool.{Bool}
 use lib.ListN.{length}
-use Rattle.sheets.specs.Model.{Library, Tree}
-use Rattle.filling.specs.Promises.{Exceeds, FillStart}
+use Rattle.sheets_rules.specs.Model.{Library, Tree}
+use Rattle.filling.specs.Inside.Promises.{Exceeds, FillStart}
 use Rattle.filling.proofs.Progress.{Progress, below, atRoot, begun, some-node, few-bins, ready-below, ready-root, turn-below, turn-root}
 use Rattle.filling.proofs.fill.Statement.{statement}
 use Rattle.filling.proofs.fill.Tie as tie

@@ -5,7 +5,7 @@ use mathlib.Core.Path.{_≡_, refl, subst, _∙_}
 use lib.ListN.{length}
 use mir.Syntax.{w8}
 use mir.Val.{Fits}
-use Rattle.filling.specs.Promises.{loadAt}
+use Rattle.filling.specs.Inside.Promises.{loadAt}
 use Rattle.filling.proofs.Steps.{Done, done-start, done-matches, done-fit, count-small, done-next, done-all}
 use Rattle.filling.proofs.fill_node.Statement.{statement}
 use Rattle.filling.proofs.fill_node.Tie as tie

@@ -7,9 +7,9 @@ use mathlib.Core.Bool.{Bool, true, _&&_}
 use mathlib.Core.List.{List, [], _∷_}
 use lib.Dec.{ltb, eqb}
 use lib.ListN.{getD}
-use Rattle.functions.specs.Function.{pinIn, bitOf, every}
-use Rattle.functions.specs.Inside.{wordSettings}
-use Rattle.functions.proofs.Every.{both, every-each}
+use Rattle.functions_rules.specs.Function.{pinIn, bitOf, every}
+use Rattle.functions.specs.Inside.Promises.{wordSettings}
+use Rattle.functions_rules.proofs.Every.{both, every-each}
 use Rattle.functions.proofs.column.Statement.{statement}
 use Rattle.functions.proofs.column.Tie as tie
 

@@ -1,5 +1,5 @@
 use borrow.Author.Needs.{needs}
-use Rattle.functions.proofs.Every.{row-computes}
+use Rattle.functions.proofs.Computing.{row-computes}
 use Rattle.functions.proofs.computes.Statement.{statement}
 use Rattle.functions.proofs.computes.Tie as tie
 

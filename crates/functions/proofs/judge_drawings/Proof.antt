@@ -4,9 +4,9 @@ use Prim.Native.Nat.{ℕ, _+_, _-_, _*_, _≤_}
 use mathlib.Core.Path.{_≡_, refl, sym, ap₂, _∙_}
 use lib.ListN.{length}
 use Rattle.fields.specs.Answer.{success}
-use Rattle.sheets.specs.Model.{Library, patterns}
-use Rattle.sheets.specs.Report.{ofLibraryJudged, countsOf}
-use Rattle.functions.specs.Inside.{RowsHold, Stated}
+use Rattle.sheets_rules.specs.Model.{Library, patterns}
+use Rattle.sheets_rules.specs.Report.{ofLibraryJudged, countsOf}
+use Rattle.functions.specs.Inside.Promises.{RowsHold, Stated}
 use Rattle.functions.proofs.Rows.{patternAt, rows-long, rows-few, row-holds}
 use Rattle.functions.proofs.Judged.{Judging, judged-other, judged-right, judged-all, stated-fits}
 use Rattle.functions.proofs.judge_drawings.Statement.{statement}

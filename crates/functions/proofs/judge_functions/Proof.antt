@@ -1,12 +1,12 @@
 use borrow.Author.Needs.{needs}
 use mathlib.Core.Path.{sym, subst}
 use Rattle.fields.specs.Reading.{start}
-use Rattle.sheets.specs.LibrarySheet.{library}
-use Rattle.sheets.specs.Report.{ofLibraryJudged}
-use Rattle.sheets.proofs.Held.{library-laid}
-use Rattle.functions.specs.Demands.{FunctionDemands}
+use Rattle.sheets_rules.specs.LibrarySheet.{library}
+use Rattle.sheets_rules.specs.Report.{ofLibraryJudged}
+use Rattle.sheets_rules.proofs.Stored.{library-laid}
+use Rattle.functions_rules.specs.Demands.{FunctionDemands}
 use Rattle.functions.proofs.Sheet.{library-answered, library-refused}
-use Rattle.functions.proofs.Demands.{demands}
+use Rattle.functions_rules.proofs.Demands.{demands}
 use Rattle.functions.proofs.judge_functions.Statement.{statement}
 use Rattle.functions.proofs.judge_functions.Tie as tie
 

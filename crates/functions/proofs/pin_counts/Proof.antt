@@ -2,8 +2,8 @@ use native.Mathlib.Omega.{arith}
 use Prim.Native.Nat.{_-_, _*_, _≤_}
 use mathlib.Core.Path.{_≡_, refl, _∙_}
 use lib.ListN.{length, length-set}
-use Rattle.sheets.specs.Model.{Library}
-use Rattle.functions.specs.Inside.{RowsHold}
+use Rattle.sheets_rules.specs.Model.{Library}
+use Rattle.functions.specs.Inside.Promises.{RowsHold}
 use Rattle.functions.proofs.Rows.{rows-long, rows-few, known, number-at, pins-at, Noted, noted-more, noted-all}
 use Rattle.functions.proofs.pin_counts.Statement.{statement}
 use Rattle.functions.proofs.pin_counts.Tie as tie

@@ -8,11 +8,11 @@ use Rattle.fields.specs.Reading.{place, start, times, ended}
 use Rattle.fields.specs.declared.Scan.{Scan}
 use Rattle.bits.specs.Bits.{endsAt}
 use Rattle.fields.proofs.Laws.{length-times, times-scan, tailed-place}
-use Rattle.sheets.specs.Layout.{padded}
-use Rattle.sheets.proofs.Laws.{filled-more}
-use Rattle.functions.specs.FunctionSheet.{function, functionSheet}
-use Rattle.functions.specs.Inside.{PinsFew}
-use Rattle.functions.proofs.Reading.{function-is}
+use Rattle.sheets_rules.specs.Inside.Layout.{padded}
+use Rattle.sheets_rules.proofs.Laid.{filled-more}
+use Rattle.functions_rules.specs.FunctionSheet.{function, functionSheet}
+use Rattle.functions.specs.Inside.Promises.{PinsFew}
+use Rattle.functions_rules.proofs.Reading.{function-is}
 use Rattle.functions.proofs.read_functions.Statement.{statement}
 use Rattle.functions.proofs.read_functions.Tie as tie
 
@@ -44,8 +44,8 @@ cast-settings c = record { fits = omega (arith, c .before .loop .inv .1 .few-pin
 settings-requires : tie.Need-settings-requires Inv-loop μ-loop
 settings-requires c κs = c .before .loop .inv .1 .few-pins (c .before .loop .k) (omega arith)
 
-wide-requires : tie.Need-wide-requires Inv-loop μ-loop
-wide-requires c κs = omega (arith, c .before .before .loop .inv .4, c .before .before .loop .inv .1 .few-cells)
+raw-wide-requires : tie.Need-raw-wide-requires Inv-loop μ-loop
+raw-wide-requires c κs = omega (arith, c .before .before .loop .inv .4, c .before .before .loop .inv .1 .few-cells)
 
 mul-functions : tie.Need-mul-functions Inv-loop μ-loop
 mul-functions c = record { fits = omega (arith, c .before .before .before .loop .inv .1 .few-cells) }
@@ -68,9 +68,9 @@ loop-again c =
     let e = function-is (a .s .now) (a .t2) (a .cells) (i .k) (c .before .settings .result) (x .0) (i .at) (x .1) (omega arith) (length-times (i .k) r start) (c .before .settings .ensures .0) (i .inv .3) in (
       omega arith,
       i .inv .1,
-      filled-more 64 0 (λ (q : ℕ). q) r start (i .k) (i .functions) (c .wide .result .value) (i .inv .2) (c .wide .ensures .value ∙ ap (λ (q : ℕ × Scan). q .0) e),
-      c .wide .ensures .scan ∙ ap (λ (q : ℕ × Scan). q .1) e ∙ sym (times-scan (i .k) r start),
-      omega (arith, c .wide .ensures .near, i .inv .4, c .before .settings .ensures .2),
+      filled-more 64 0 (λ (q : ℕ). q) r start (i .k) (i .functions) (c .raw-wide .result .value) (i .inv .2) (c .raw-wide .ensures .value ∙ ap (λ (q : ℕ × Scan). q .0) e),
+      c .raw-wide .ensures .scan ∙ ap (λ (q : ℕ × Scan). q .1) e ∙ sym (times-scan (i .k) r start),
+      omega (arith, c .raw-wide .ensures .near, i .inv .4, c .before .settings .ensures .2),
     )
 
 end-requires : tie.Need-end-requires Inv-loop μ-loop
@@ -100,7 +100,7 @@ read-functions-spec =
     array-read-settings
     cast-settings
     settings-requires
-    wide-requires
+    raw-wide-requires
     mul-functions
     array-write-functions
     add-k

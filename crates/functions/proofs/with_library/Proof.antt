@@ -3,13 +3,13 @@ use native.Mathlib.Omega.{arith}
 use Prim.Native.Nat.{_*_}
 use mathlib.Core.Path.{_≡_, sym, subst, _∙_}
 use lib.Seq.{length-take-le}
-use Rattle.sheets.specs.Model.{Library, patterns}
-use Rattle.sheets.specs.Sound.{LibraryHeld}
-use Rattle.sheets.specs.Report.{ofLibraryJudged, countsOf}
-use Rattle.sheets.proofs.Held.{table-whole, few-rows, cell-count}
-use Rattle.functions.specs.FunctionSheet.{pinCounts}
-use Rattle.functions.specs.Report.{drawingsJudged}
-use Rattle.functions.specs.Inside.{FunctionsAre}
+use Rattle.sheets_rules.specs.Model.{Library, patterns}
+use Rattle.sheets_rules.specs.Inside.Sound.{LibraryStored}
+use Rattle.sheets_rules.specs.Report.{ofLibraryJudged, countsOf}
+use Rattle.sheets_rules.proofs.Stored.{table-whole, few-rows, cell-count}
+use Rattle.functions_rules.specs.FunctionSheet.{pinCounts}
+use Rattle.functions_rules.specs.Report.{drawingsJudged}
+use Rattle.functions.specs.Inside.Promises.{FunctionsAre}
 use Rattle.functions.proofs.Judged.{InLimits}
 use Rattle.functions.proofs.Sheet.{rows-hold, pins-few, own-pins, functions-long, stated, sheet-judged, sheet-limits, sheet-refused, refused-limits}
 use Rattle.functions.proofs.with_library.Statement.{statement}
@@ -78,9 +78,9 @@ returns c =
     let told = c .before .before .before .enum-told .given in
     let library = first .args .library in
     let s = first .args .s .now in
-    let are : (l : Library) → LibraryHeld l library → FunctionsAre s (pinCounts l) (read .result) =
+    let are : (l : Library) → LibraryStored l library → FunctionsAre s (pinCounts l) (read .result) =
     λ l g. own-pins (g .sound) s (counts .result) (library .count) (read .result) (cell-count g) (counts .ensures .1 l (rows-hold g)) (read .ensures) in
-    let judged : (l : Library) → LibraryHeld l library → ofLibraryJudged (c .judge-drawings .result) ≡ drawingsJudged (read .result .functions) (countsOf l) 0 (patterns l) =
+    let judged : (l : Library) → LibraryStored l library → ofLibraryJudged (c .judge-drawings .result) ≡ drawingsJudged (read .result .functions) (countsOf l) 0 (patterns l) =
     λ l g. c .judge-drawings .ensures l (rows-hold g) (stated (g .sound) s (read .result) (are l g)) (cell-count g) in
     let p = first .pre in (
       λ l g. judged l g ∙ sheet-judged (g .sound) s (read .result) (are l g) (told .0 .0) (told .1),
@@ -97,7 +97,7 @@ returns-2 c =
     let number = c .library-number in
     let library = first .args .library in
     let s = first .args .s .now in
-    let are : (l : Library) → LibraryHeld l library → FunctionsAre s (pinCounts l) (read .result) =
+    let are : (l : Library) → LibraryStored l library → FunctionsAre s (pinCounts l) (read .result) =
     λ l g. own-pins (g .sound) s (counts .result) (library .count) (read .result) (cell-count g) (counts .ensures .1 l (rows-hold g)) (read .ensures) in
     let p = first .pre in (
       λ l g. sheet-refused (g .sound) s (read .result) (are l g) (told .0 .0) (told .0 .1 .0) (number .result) (told .1) (number .ensures .0),

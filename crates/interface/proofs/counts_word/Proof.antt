@@ -2,32 +2,32 @@ use borrow.Author.Needs.{needs}
 use native.Mathlib.Omega.{arith}
 use mathlib.Core.Path.{sym, ap, subst, _∙_}
 use Rattle.fields.specs.Answer.{onSuccess, word, Bounded}
-use Rattle.sheets.specs.declared.library.LibraryJudged.{LibraryJudged}
-use Rattle.sheets.specs.Report.{libraryWord, ofLibraryJudged}
+use Rattle.sheets_rules.specs.declared.LibraryJudged.{LibraryJudged}
+use Rattle.sheets_rules.specs.Report.{libraryWord, ofLibraryJudged}
 use Rattle.interface.proofs.counts_word.Statement.{statement}
 use Rattle.interface.proofs.counts_word.Tie as tie
 
 -- What is known of a verdict of that form.
-abbrev Kept : LibraryJudged → Type 0
-Kept q = Bounded (onSuccess libraryWord (ofLibraryJudged q))
+abbrev Within : LibraryJudged → Type 0
+Within q = Bounded (onSuccess libraryWord (ofLibraryJudged q))
 
 enum-known-judged : tie.Need-enum-known-judged
 enum-known-judged c = search needs
 
 mul-result : tie.Need-mul-result
 unfolding ofLibraryJudged libraryWord onSuccess Bounded
-mul-result c = omega (arith, subst Kept (c .before .judged .given .1) (c .before .before .before .pre))
+mul-result c = omega (arith, subst Within (c .before .judged .given .1) (c .before .before .before .pre))
 
 add-result : tie.Need-add-result
 unfolding ofLibraryJudged libraryWord onSuccess Bounded
-add-result c = omega (arith, subst Kept (c .before .judged .given .1) (c .before .before .before .pre))
+add-result c = omega (arith, subst Within (c .before .judged .given .1) (c .before .before .before .pre))
 
 enum-known-judged-2 : tie.Need-enum-known-judged-2
 enum-known-judged-2 c = search needs
 
 refusal-requires : tie.Need-refusal-requires
 unfolding ofLibraryJudged onSuccess Bounded
-refusal-requires c κs = let h = subst Kept (c .before .judged2 .given .1) (c .before .before .before .pre) in (h .1, h .2)
+refusal-requires c κs = let h = subst Within (c .before .judged2 .given .1) (c .before .before .before .pre) in (h .1, h .2)
 
 returns : tie.Need-returns
 unfolding ofLibraryJudged libraryWord onSuccess word

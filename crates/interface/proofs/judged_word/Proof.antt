@@ -1,15 +1,15 @@
 use borrow.Author.Needs.{needs}
 use native.Mathlib.Omega.{arith}
 use mathlib.Core.Path.{sym, ap, subst, _∙_}
-use Rattle.judgement.specs.Judgement.{pointWord, PointBounded}
-use Rattle.judge.specs.Public.{ofCoverJudged}
-use Rattle.judge.specs.declared.CoverJudged.{CoverJudged}
+use Rattle.judge_rules.specs.Judgement.{pointWord, PointBounded}
+use Rattle.judge_rules.specs.Public.{ofCoverJudged}
+use Rattle.judge_rules.specs.declared.CoverJudged.{CoverJudged}
 use Rattle.interface.proofs.judged_word.Statement.{statement}
 use Rattle.interface.proofs.judged_word.Tie as tie
 
 -- What is known of a judgement of that form.
-abbrev Kept : CoverJudged → Type 0
-Kept q = PointBounded (ofCoverJudged q)
+abbrev Within : CoverJudged → Type 0
+Within q = PointBounded (ofCoverJudged q)
 
 enum-known-judged : tie.Need-enum-known-judged
 enum-known-judged c = search needs
@@ -19,25 +19,25 @@ cast-result c = search needs
 
 mul-result : tie.Need-mul-result
 unfolding ofCoverJudged PointBounded
-mul-result c = omega (arith, subst Kept (c .before .judged .given .1) (c .before .before .before .pre))
+mul-result c = omega (arith, subst Within (c .before .judged .given .1) (c .before .before .before .pre))
 
 add-result : tie.Need-add-result
 unfolding ofCoverJudged PointBounded
-add-result c = omega (arith, subst Kept (c .before .judged .given .1) (c .before .before .before .pre))
+add-result c = omega (arith, subst Within (c .before .judged .given .1) (c .before .before .before .pre))
 
 cast-result-2 : tie.Need-cast-result-2
 cast-result-2 c = search needs
 
 add-result-2 : tie.Need-add-result-2
 unfolding ofCoverJudged PointBounded
-add-result-2 c = let h = subst Kept (c .before .judged .given .1) (c .before .before .before .pre) in omega (arith, h .0, h .1)
+add-result-2 c = let h = subst Within (c .before .judged .given .1) (c .before .before .before .pre) in omega (arith, h .0, h .1)
 
 enum-known-judged-2 : tie.Need-enum-known-judged-2
 enum-known-judged-2 c = search needs
 
 refusal-requires : tie.Need-refusal-requires
 unfolding ofCoverJudged PointBounded
-refusal-requires c κs = let h = subst Kept (c .before .judged2 .given .1) (c .before .before .before .pre) in (h .0, h .1)
+refusal-requires c κs = let h = subst Within (c .before .judged2 .given .1) (c .before .before .before .pre) in (h .0, h .1)
 
 returns : tie.Need-returns
 unfolding ofCoverJudged pointWord

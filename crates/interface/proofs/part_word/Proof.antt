@@ -1,15 +1,15 @@
 use native.Mathlib.Omega.{arith}
 use mathlib.Core.Path.{sym, ap, subst}
-use Rattle.parts.specs.Answer.{partWord, PartBounded}
-use Rattle.assembly.specs.Public.{ofPartReply}
-use Rattle.assembly.specs.declared.PartReply.{PartReply}
+use Rattle.part_rules.specs.Answer.{partWord, PartBounded}
+use Rattle.part_rules.specs.Public.{ofPartReply}
+use Rattle.part_rules.specs.declared.PartReply.{PartReply}
 use borrow.Author.Needs.{needs}
 use Rattle.interface.proofs.part_word.Statement.{statement}
 use Rattle.interface.proofs.part_word.Tie as tie
 
 -- What is known of a reply of that form.
-abbrev Kept : PartReply → Type 0
-Kept q = PartBounded (ofPartReply q)
+abbrev Within : PartReply → Type 0
+Within q = PartBounded (ofPartReply q)
 
 enum-known-reply : tie.Need-enum-known-reply
 enum-known-reply c = search needs
@@ -28,11 +28,11 @@ add-result c = search needs
 
 mul-result-2 : tie.Need-mul-result-2
 unfolding ofPartReply PartBounded
-mul-result-2 c = let h = subst Kept (c .before .reply .given .1) (c .before .before .before .pre) in omega (arith, h .0, h .2, h .3)
+mul-result-2 c = let h = subst Within (c .before .reply .given .1) (c .before .before .before .pre) in omega (arith, h .0, h .2, h .3)
 
 add-result-2 : tie.Need-add-result-2
 unfolding ofPartReply PartBounded
-add-result-2 c = let h = subst Kept (c .before .reply .given .1) (c .before .before .before .pre) in omega (arith, h .0, h .2, h .3)
+add-result-2 c = let h = subst Within (c .before .reply .given .1) (c .before .before .before .pre) in omega (arith, h .0, h .2, h .3)
 
 enum-known-reply-2 : tie.Need-enum-known-reply-2
 enum-known-reply-2 c = search needs

@@ -1,8 +1,8 @@
 use borrow.Author.Needs.{needs}
 use mathlib.Core.Path.{sym, ap, subst, _∙_}
 use Rattle.fields.specs.Answer.{word, Bounded}
-use Rattle.operations.specs.Public.{ofReply}
-use Rattle.operations.specs.declared.Reply.{Reply}
+use Rattle.map_rules.specs.Public.{ofReply}
+use Rattle.map_rules.specs.declared.Reply.{Reply}
 use Rattle.interface.proofs.reply_word.Statement.{statement}
 use Rattle.interface.proofs.reply_word.Tie as tie
 

@@ -2,10 +2,10 @@ use borrow.Author.Needs.{needs}
 use mathlib.Core.Path.{_≡_, sym, ap, subst, _∙_}
 use Rattle.fields.specs.Answer.{Answer}
 use Rattle.covers.specs.Cover.{Point}
-use Rattle.judgement.specs.Judgement.{pointWord, ofPointWord}
-use Rattle.judgement.specs.Demands.{JudgedWhereSound}
-use Rattle.judgement.proofs.Demands.{point-word-reads}
-use Rattle.judge.specs.Public.{ofCoverJudged}
+use Rattle.judge_rules.specs.Judgement.{pointWord, ofPointWord}
+use Rattle.judge_rules.specs.Demands.{JudgedWhereSound}
+use Rattle.judge_rules.proofs.Demands.{point-word-reads}
+use Rattle.judge_rules.specs.Public.{ofCoverJudged}
 use Rattle.interface.proofs.treecover_judge_cover.Statement.{statement}
 use Rattle.interface.proofs.treecover_judge_cover.Tie as tie
 

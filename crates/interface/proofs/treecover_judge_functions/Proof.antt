@@ -1,9 +1,9 @@
 use borrow.Author.Needs.{needs}
 use mathlib.Core.Path.{_≡_, sym, ap, subst, _∙_}
 use Rattle.fields.specs.Answer.{onSuccess, word, ofWord}
-use Rattle.sheets.specs.Report.{libraryWord, ofLibraryWord, ofLibraryJudged}
-use Rattle.sheets.proofs.Whole.{counts-read}
-use Rattle.functions.specs.Demands.{FunctionDemands}
+use Rattle.sheets_rules.specs.Report.{libraryWord, ofLibraryWord, ofLibraryJudged}
+use Rattle.sheets_rules.proofs.Report.{counts-read}
+use Rattle.functions_rules.specs.Demands.{FunctionDemands}
 use Rattle.interface.proofs.treecover_judge_functions.Statement.{statement}
 use Rattle.interface.proofs.treecover_judge_functions.Tie as tie
 

@@ -1,7 +1,7 @@
 use borrow.Author.Needs.{needs}
 use mathlib.Core.Path.{ap, _∙_}
 use Rattle.fields.specs.Answer.{onSuccess, word}
-use Rattle.sheets.specs.Report.{libraryWord}
+use Rattle.sheets_rules.specs.Report.{libraryWord}
 use Rattle.interface.proofs.treecover_judge_library.Statement.{statement}
 use Rattle.interface.proofs.treecover_judge_library.Tie as tie
 

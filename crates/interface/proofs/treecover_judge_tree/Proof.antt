@@ -1,8 +1,8 @@
 use borrow.Author.Needs.{needs}
 use mathlib.Core.Path.{sym, ap, subst, _∙_}
 use Rattle.fields.specs.Answer.{word, Bounded}
-use Rattle.sheets.specs.declared.tree.TreeJudged.{TreeJudged}
-use Rattle.sheets.specs.Report.{ofTreeJudged}
+use Rattle.sheets_rules.specs.declared.TreeJudged.{TreeJudged}
+use Rattle.sheets_rules.specs.Report.{ofTreeJudged}
 use Rattle.interface.proofs.treecover_judge_tree.Statement.{statement}
 use Rattle.interface.proofs.treecover_judge_tree.Tie as tie
 

@@ -6,7 +6,7 @@ use Rattle.fields.specs.Answer.{Answer, word, ofWord}
 use Rattle.fields.proofs.Answer.{word-reads}
 use Rattle.covers.specs.Outcome.{mapBytes, observed}
 use Rattle.covers.specs.Demands.{MapDemands, WhereSound}
-use Rattle.operations.specs.Public.{ofReply}
+use Rattle.map_rules.specs.Public.{ofReply}
 use Rattle.interface.proofs.treecover_map.Statement.{statement}
 use Rattle.interface.proofs.treecover_map.Tie as tie
 

@@ -2,11 +2,11 @@ use borrow.Author.Needs.{needs}
 use Prim.Native.Nat.{ℕ}
 use mathlib.Core.Path.{_≡_, sym, ap, subst, _∙_}
 use lib.ListN.{length}
-use Rattle.parts.specs.Answer.{PartAnswer, partWord, ofPartWord}
-use Rattle.parts.specs.Outcome.{partObserved}
-use Rattle.parts.specs.Demands.{PartWhereSound}
-use Rattle.parts.proofs.Demands.{part-word-reads}
-use Rattle.assembly.specs.Public.{ofPartReply}
+use Rattle.part_rules.specs.Answer.{PartAnswer, partWord, ofPartWord}
+use Rattle.part_rules.specs.Outcome.{partObserved}
+use Rattle.part_rules.specs.Demands.{PartWhereSound}
+use Rattle.part_rules.proofs.Demands.{part-word-reads}
+use Rattle.part_rules.specs.Public.{ofPartReply}
 use Rattle.interface.proofs.treecover_map_part.Statement.{statement}
 use Rattle.interface.proofs.treecover_map_part.Tie as tie
 

@@ -1,5 +1,5 @@
 use native.Mathlib.Omega.{arith}
-use Rattle.judge.proofs.Kept.{arrived-at}
+use Rattle.judge.proofs.Stored.{arrived-at}
 use Rattle.judge.proofs.arrive.Statement.{statement}
 use Rattle.judge.proofs.arrive.Tie as tie
 

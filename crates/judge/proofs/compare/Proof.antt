@@ -1,9 +1,9 @@
 use borrow.Author.Needs.{needs}
 use mathlib.Core.Path.{sym, ap, _∙_}
 use Rattle.covers.specs.Cover.{Point}
-use Rattle.judge.proofs.Kept.{figures-false, figures-true}
-use Rattle.judgement.specs.Judgement.{figures}
-use Rattle.judge.specs.Public.{ofCoverJudged}
+use Rattle.judge.proofs.Stored.{figures-false, figures-true}
+use Rattle.judge_rules.specs.Judgement.{figures}
+use Rattle.judge_rules.specs.Public.{ofCoverJudged}
 use Rattle.judge.proofs.compare.Statement.{statement}
 use Rattle.judge.proofs.compare.Tie as tie
 

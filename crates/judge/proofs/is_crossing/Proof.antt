@@ -1,5 +1,5 @@
 use borrow.Author.Needs.{needs}
-use Rattle.judge.proofs.Kept.{crossing-large, some-left, crossing-tested}
+use Rattle.judge.proofs.Stored.{crossing-large, some-left, crossing-tested}
 use Rattle.judge.proofs.is_crossing.Statement.{statement}
 use Rattle.judge.proofs.is_crossing.Tie as tie
 

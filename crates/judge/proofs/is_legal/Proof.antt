@@ -1,6 +1,6 @@
 use mathlib.Core.Path.{sym, ap, _∙_}
 use lib.Dec.{leb}
-use Rattle.judge.proofs.Kept.{held-not, free-legal}
+use Rattle.judge.proofs.Stored.{held-not, free-legal}
 use Rattle.judge.proofs.is_legal.Statement.{statement}
 use Rattle.judge.proofs.is_legal.Tie as tie
 

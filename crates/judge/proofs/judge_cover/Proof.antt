@@ -1,6 +1,6 @@
 use borrow.Author.Needs.{needs}
 use Rattle.fields.specs.Reading.{start}
-use Rattle.sheets.specs.LibrarySheet.{library as libraryOf}
+use Rattle.sheets_rules.specs.LibrarySheet.{library as libraryOf}
 use Rattle.overlay.proofs.Sheets.{library-laid}
 use Rattle.judge.proofs.Judged.{library-answered, library-refused, library-bounded, demanded}
 use Rattle.judge.proofs.judge_cover.Statement.{statement}

@@ -2,7 +2,7 @@
 use borrow.Author.Needs.{needs}
 use native.Mathlib.Omega.{arith}
 use Prim.Native.Nat.{_+_, _-_, _*_}
-use Rattle.sheets.specs.Layout.{rowWords}
+use Rattle.sheets_rules.specs.Inside.Layout.{rowWords}
 use Rattle.overlay.proofs.Patterns.{patternAt}
 use Rattle.judge.proofs.Stepping.{count-few, wrong-past, wrong-node, wrong-pattern, row-inside, taking, made}
 use Rattle.judge.proofs.step.Statement.{statement}

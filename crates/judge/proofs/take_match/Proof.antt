@@ -3,9 +3,9 @@ use borrow.Author.Needs.{needs}
 use borrow.Author.Tests.{not-true, not-false}
 use native.Mathlib.Omega.{arith}
 use Prim.Native.Nat.{ℕ}
-use Rattle.sheets.specs.Model.{Shape, Library, Pattern, Tree}
-use Rattle.judgement.specs.Walk.{Walk}
-use Rattle.judge.specs.Inside.{Taking}
+use Rattle.sheets_rules.specs.Model.{Shape, Library, Pattern, Tree}
+use Rattle.judge_rules.specs.Walk.{Walk}
+use Rattle.judge.specs.Inside.Promises.{Taking}
 use Rattle.judge.proofs.Taking.{top, measured, nands-read, wrong-load, wrong-crossing, crossing-below, wrong-shape, Found, found}
 use Rattle.judge.proofs.take_match.Statement.{statement}
 use Rattle.judge.proofs.take_match.Tie as tie
@@ -89,8 +89,8 @@ found-here number c h =
     found h number _ _ (q .before .before .measure .ensures) (walk .result) (q .before .before .before .before .is-legal .ensures) (not-false _ (q .before .before .before .if1 .left)) (q .is-crossing .ensures) (not-false _ (c .before .before .before .before .before .if2 .left))
     (walk .ensures) (not-false _ (c .before .before .if3 .left)) (c .pop .ensures)
 
-come-to-inputs-requires : tie.Need-come-to-inputs-requires
-come-to-inputs-requires c κs =
+visit-inputs-requires : tie.Need-visit-inputs-requires
+visit-inputs-requires c κs =
     let p = entry (c .before .before .before .before .before .before .before .before .before .before) .pre in
     let f = found-here 0 c (p .1 .1 .1 .1 .1 .1) in
     (p .0, (f .m, (f .below, f .enters)))
@@ -98,7 +98,7 @@ come-to-inputs-requires c κs =
 returns-4 : tie.Need-returns-4
 returns-4 c = λ l t k p s w number h.
     let f = found-here number (c .before) h in
-    f .makes (c .come-to-inputs .result) (c .come-to-inputs .ensures l (f .m) (f .below) (f .enters))
+    f .makes (c .visit-inputs .result) (c .visit-inputs .ensures l (f .m) (f .below) (f .enters))
 
 pub take-match-spec : {M : Type 1} → statement M
 take-match-spec =
@@ -124,5 +124,5 @@ take-match-spec =
     returns-3
     shared-slice-read-pop
     pop-requires
-    come-to-inputs-requires
+    visit-inputs-requires
     returns-4)

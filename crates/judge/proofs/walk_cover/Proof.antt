@@ -6,12 +6,12 @@ use Prim.Native.Nat.{ℕ, suc, _-_, _≤_}
 use mathlib.Core.Path.{_≡_, sym, ap, subst}
 use mathlib.Core.List.{[], _∷_}
 use lib.ListN.{length, drop, getD}
-use Rattle.sheets.specs.Model.{Library, Tree}
-use Rattle.results.specs.Public.{coverOf}
-use Rattle.overlay.specs.Held.{Decoded}
-use Rattle.judgement.specs.Walk.{started}
-use Rattle.judge.specs.Public.{ofCoverJudged}
-use Rattle.judge.specs.Inside.{Kept, Stepping, Judging}
+use Rattle.sheets_rules.specs.Model.{Library, Tree}
+use Rattle.result_sheets.specs.Public.{coverOf}
+use Rattle.overlay.specs.Inside.Promises.{Decoded}
+use Rattle.judge_rules.specs.Walk.{started}
+use Rattle.judge_rules.specs.Public.{ofCoverJudged}
+use Rattle.judge.specs.Inside.Promises.{WalkStored, Stepping, Judging}
 use Rattle.judge.specs.declared.WalkRecord.{WalkRecord}
 use Rattle.judge.proofs.Walking.{symbol-small, symbols-long, sizes-long, load-small, started-kept, listing, Roomy, placed-drop, placed-end, Gone, gone-start, gone-early, gone-end, gone-wrong, gone-next}
 use Rattle.judge.proofs.walk_cover.Statement.{statement}
@@ -19,7 +19,7 @@ use Rattle.judge.proofs.walk_cover.Tie as tie
 
 abbrev Inv-loop : tie.InvT-loop
 Inv-loop rows symbols sizes nodes patterns crossings count walk₀ k₀ walk k =
-    (k ≤ count) × ((l : Library) (t : Tree) → Decoded l t rows symbols sizes → Kept (started t) walk₀ → Gone l t (listing count nodes patterns crossings) k walk)
+    (k ≤ count) × ((l : Library) (t : Tree) → Decoded l t rows symbols sizes → WalkStored (started t) walk₀ → Gone l t (listing count nodes patterns crossings) k walk)
 
 abbrev μ-loop : tie.MeasureT-loop
 μ-loop rows symbols sizes nodes patterns crossings count walk₀ k₀ walk k = count - k
@@ -40,7 +40,7 @@ room c =
 gone-here : (c : tie.In-loop Inv-loop μ-loop) →
     let a = entry (c .before) .args in
     (l : Library) (t : Tree) → Judging l t (a .rows .now) (a .tree) → Gone l t (coverOf (a .cover) .placed) (c .before .loop .k) (c .before .loop .walk)
-gone-here c l t h = c .before .loop .inv .1 l t (h .decoded) (started-kept h _ _ (c .before .before .before .before .begin .ensures) (c .before .before .come-to .ensures))
+gone-here c l t h = c .before .loop .inv .1 l t (h .decoded) (started-kept h _ _ (c .before .before .before .before .begin .ensures) (c .before .before .visit .ensures))
 
 stepping : (c : tie.In-loop Inv-loop μ-loop) →
     let a = entry (c .before) .args in
@@ -60,14 +60,14 @@ listed c = let a = entry (c .before) .args in placed-drop (a .cover .nodes) (a .
 begin-requires : tie.Need-begin-requires Inv-loop μ-loop
 begin-requires c κs = search needs
 
-array-read-come-to : tie.Need-array-read-come-to Inv-loop μ-loop
-array-read-come-to c = search needs
+array-read-visit : tie.Need-array-read-visit Inv-loop μ-loop
+array-read-visit c = search needs
 
-cast-come-to : tie.Need-cast-come-to Inv-loop μ-loop
-cast-come-to c = omega (arith, load-small (c .before .before .before .before .before .before .before .before .pre .1 .1 .1))
+cast-visit : tie.Need-cast-visit Inv-loop μ-loop
+cast-visit c = omega (arith, load-small (c .before .before .before .before .before .before .before .before .pre .1 .1 .1))
 
-come-to-requires : tie.Need-come-to-requires Inv-loop μ-loop
-come-to-requires c κs =
+visit-requires : tie.Need-visit-requires Inv-loop μ-loop
+visit-requires c κs =
     let h = c .before .before .before .before .before .before .before .before .pre .1 .1 .1 in
     (symbol-small h, omega (arith, ap (λ (r : WalkRecord). r .count) (c .before .begin .ensures)), omega arith, load-small h, omega arith)
 
@@ -130,7 +130,7 @@ gone-all c l t h =
     let i = c .before .loop in
     let all : i .k ≡ a .cover .count = omega (arith, i .inv .0, c .loop-test .left) in
     subst (λ (j : ℕ). Gone l t (coverOf (a .cover) .placed) j (i .walk)) all
-    (i .inv .1 l t (h .decoded) (started-kept h _ _ (c .before .before .before .before .begin .ensures) (c .before .before .come-to .ensures)))
+    (i .inv .1 l t (h .decoded) (started-kept h _ _ (c .before .before .before .before .begin .ensures) (c .before .before .visit .ensures)))
 
 none-listed : (c : tie.Start Inv-loop μ-loop) → let a = c .args in drop (a .cover .count) (coverOf (a .cover) .placed) ≡ []
 none-listed c = let a = c .args in placed-end (a .cover .nodes) (a .cover .patterns) (a .cover .crossings) (a .cover .count) (room c)
@@ -150,9 +150,9 @@ walk-cover-spec =
     Inv-loop
     μ-loop
     begin-requires
-    array-read-come-to
-    cast-come-to
-    come-to-requires
+    array-read-visit
+    cast-visit
+    visit-requires
     loop-holds
     slice-aggregate-step
     slice-aggregate-step-2

@@ -1,9 +1,9 @@
 use borrow.Author.Needs.{needs}
 use Rattle.fields.specs.Reading.{start}
-use Rattle.sheets.specs.TreeSheet.{tree as treeOf}
+use Rattle.sheets_rules.specs.TreeSheet.{tree as treeOf}
 use Rattle.covers.specs.CoverSheet.{coverRead}
 use Rattle.overlay.proofs.Sheets.{tree-laid}
-use Rattle.judgement.specs.Judgement.{coverJudged}
+use Rattle.judge_rules.specs.Judgement.{coverJudged}
 use Rattle.judge.proofs.Judged.{tree-answered, tree-refused, tree-bounded}
 use Rattle.judge.proofs.with_library.Statement.{statement}
 use Rattle.judge.proofs.with_library.Tie as tie

@@ -3,8 +3,8 @@ use native.Mathlib.Omega.{arith}
 use Prim.Native.Nat.{_*_}
 use mathlib.Core.Path.{sym, ap, _∙_}
 use lib.Seq.{length-take-le}
-use Rattle.sheets.specs.Layout.{rowWords}
-use Rattle.judgement.specs.Judgement.{figures}
+use Rattle.sheets_rules.specs.Inside.Layout.{rowWords}
+use Rattle.judge_rules.specs.Judgement.{figures}
 use Rattle.overlay.proofs.Sheets.{rows-long, total-few, decoded-of}
 use Rattle.judge.proofs.with_records.Statement.{statement}
 use Rattle.judge.proofs.with_records.Tie as tie

@@ -1,4 +1,4 @@
--- The matches of one pattern. When the loop stands before a crossing, the rows of the matches under all lower crossings are written.
+-- The matches of one pattern. When the loop stands before a crossing, the hits of the matches under all lower crossings are written.
 use Prim.Native.Nat.{ℕ, _+_, _-_, _*_, _/_, _^_, _≤_, _<_}
 use mathlib.Core.Path.{_≡_, refl, sym, ap, _∙_}
 use mathlib.Core.Bool.{true}
@@ -11,15 +11,15 @@ use borrow.Author.Needs.{needs}
 use borrow.Rule.Slice.PartMut.{same-len-mid}
 use mir.Syntax.{w8}
 use mir.Val.{Fits}
-use Rattle.sheets.specs.Model.{Shape, Pattern}
-use Rattle.sheets.specs.Layout.{tableFrom}
+use Rattle.sheets_rules.specs.Model.{Shape, Pattern}
+use Rattle.sheets_rules.specs.Inside.Layout.{tableFrom}
 use Rattle.covers.specs.Lists.{select}
 use Rattle.covers.specs.Crossing.{redrawn, isCrossing, counted, crossings}
 use Rattle.covers.specs.Match.{matched, fittingUnder}
-use Rattle.overlay.specs.Standing.{Measured}
-use Rattle.overlay.specs.Held.{WalkIs}
-use Rattle.matching.specs.Found.{matchBytes, matchTable, matchRow}
-use Rattle.matching.specs.Promises.{Trying}
+use Rattle.overlay.specs.Inside.Standing.{Measured}
+use Rattle.overlay.specs.Inside.Promises.{WalkIs}
+use Rattle.matching.specs.Inside.Found.{matchBytes, matchTable, hitOf}
+use Rattle.matching.specs.Inside.Promises.{Trying}
 use Rattle.matching.proofs.Crossings.{matchesBelow, is-crossing}
 use Rattle.matching.proofs.Patterns.{writable, all-below, put-few, crossing-turn, nands-told, decides-few, more-below, next-crosses}
 use Rattle.matching.proofs.find_crossings.Statement.{statement}
@@ -40,7 +40,7 @@ Inv-loop row symbols sizes n pattern table₀ count extents nands found₀ cross
     × ((p : Pattern) (s : Shape) → Trying row symbols sizes n pattern (length table₀) count p s →
     (crossing < 32 → isCrossing (p .drawing) crossing ≡ true)
     × (found ≡ count + length (matchesBelow n s pattern p crossing))
-    × (table ≡ tableFrom matchBytes table₀ count (map matchRow (matchesBelow n s pattern p crossing))))
+    × (table ≡ tableFrom matchBytes table₀ count (map hitOf (matchesBelow n s pattern p crossing))))
 
 abbrev μ-loop : tie.MeasureT-loop
 μ-loop row symbols sizes n pattern table₀ count extents nands found₀ crossing₀ table found crossing = 32 - crossing
@@ -120,7 +120,7 @@ write-match-requires c κs =
       (matched (redrawn (i .crossing) (t .0 .drawing)) _ (t .1 .0), writable (t .1 .1 .sound) (t .1 .1 .few-pins) _ (t .1 .0) (i .crossing) (walked-here (c .before) (t .0) (t .1 .0) (t .1 .1))),
     )
 
--- One row at the most.
+-- One hit at the most.
 wrote-few : (c : tie.After-write-match Inv-loop μ-loop) → c .write-match .result ≤ 1
 wrote-few c =
     let q = c .before .before .before in
@@ -184,7 +184,7 @@ returns c = λ p s t.
     let done : i .crossing ≡ 32 = omega (arith, i .inv .0, c .loop-test .left) in
     let all : matchesBelow (a .n) s (a .pattern) p (i .crossing) ≡ fittingUnder (a .n) s (a .pattern) p (crossings (p .drawing)) = all-below (a .n) s (a .pattern) p done in
     let r = i .inv .3 p s t in
-    (r .1 ∙ ap (λ ms. a .count + length ms) all, r .2 ∙ ap (λ ms. tableFrom matchBytes (a .table .now) (a .count) (map matchRow ms)) all)
+    (r .1 ∙ ap (λ ms. a .count + length ms) all, r .2 ∙ ap (λ ms. tableFrom matchBytes (a .table .now) (a .count) (map hitOf ms)) all)
 
 pub find-crossings-spec : {M : Type 1} → statement M
 find-crossings-spec =

@@ -1,16 +1,16 @@
--- The matches of a node. After p turns the rows of the matches of the first p patterns are written.
+-- The matches of a node. After p turns the hits of the matches of the first p patterns are written.
 use Prim.Native.Nat.{ℕ, _+_, _*_, _-_, _/_, _≤_, _<_}
 use mathlib.Core.Path.{_≡_, refl, sym, ap, subst, _∙_}
 use mathlib.Core.List.{List, map}
 use native.Mathlib.Omega.{arith}
 use lib.ListN.{length, take, drop}
 use lib.Seq.{take-length}
-use Rattle.sheets.specs.Model.{Shape, Library, Tree, patterns}
-use Rattle.sheets.specs.Layout.{tableFrom, rowWords}
+use Rattle.sheets_rules.specs.Model.{Shape, Library, Tree, patterns}
+use Rattle.sheets_rules.specs.Inside.Layout.{tableFrom, rowWords}
 use Rattle.covers.specs.Match.{fittingFrom, fitting}
 use Rattle.overlay.proofs.Patterns.{patternAt, rows-long, few-patterns}
-use Rattle.matching.specs.Found.{matchBytes, matchRow}
-use Rattle.matching.specs.Promises.{Trying, Ready}
+use Rattle.matching.specs.Inside.Found.{matchBytes, hitOf}
+use Rattle.matching.specs.Inside.Promises.{Trying, Ready}
 use Rattle.matching.proofs.Patterns.{matchesBefore, trying, pattern-turn, of-few}
 use Rattle.matching.proofs.find_matches.Statement.{statement}
 use Rattle.matching.proofs.find_matches.Tie as tie
@@ -24,7 +24,7 @@ Inv-loop rows symbols sizes n table₀ total count₀ p₀ table count p =
     × (count ≤ 32 * p)
     × (length table ≡ length table₀)
     × ((l : Library) (t : Tree) (s : Shape) → Ready l t rows symbols sizes n (length table₀) s →
-    (count ≡ length (matchesBefore l n s p)) × (table ≡ tableFrom matchBytes table₀ 0 (map matchRow (matchesBefore l n s p))))
+    (count ≡ length (matchesBefore l n s p)) × (table ≡ tableFrom matchBytes table₀ 0 (map hitOf (matchesBefore l n s p))))
 
 abbrev μ-loop : tie.MeasureT-loop
 μ-loop rows symbols sizes n table₀ total count₀ p₀ table count p = total - p
@@ -122,7 +122,7 @@ returns c =
     let all : matchesBefore l (start .args .n) s (i .p) ≡ fitting l (start .args .n) s =
     ap (fittingFrom (start .args .n) s 0) (ap (λ k. take k (patterns l)) done ∙ take-length (patterns l)) in
     let r = i .inv .3 l t s h in
-    (r .0 ∙ ap length all, r .1 ∙ ap (λ ms. tableFrom matchBytes (start .args .table .now) 0 (map matchRow ms)) all)
+    (r .0 ∙ ap length all, r .1 ∙ ap (λ ms. tableFrom matchBytes (start .args .table .now) 0 (map hitOf ms)) all)
 
 pub find-matches-spec : {M : Type 1} → statement M
 find-matches-spec =

@@ -1,4 +1,4 @@
--- The bytes of a match's inputs. After k turns those of the first k inputs stand in the row.
+-- The bytes of a match's inputs. After k turns those of the first k inputs stand in the hit.
 use Prim.Native.Nat.{_+_, _*_, _-_, _≤_, _<_}
 use mathlib.Core.Path.{_≡_, refl, sym, ap, _∙_}
 use mathlib.Core.List.{List}
@@ -6,8 +6,8 @@ use native.Mathlib.Omega.{arith}
 use lib.ListN.{length, take, length-set}
 use lib.Seq.{sets, take-length}
 use Rattle.covers.specs.Match.{Input}
-use Rattle.overlay.specs.Held.{Walks}
-use Rattle.matching.specs.Found.{matchBytes, inputsAt, inputsBytes}
+use Rattle.overlay.specs.Inside.Promises.{Walks}
+use Rattle.matching.specs.Inside.Found.{matchBytes, inputsAt, inputsBytes}
 use Rattle.matching.proofs.Written.{inputs-turn}
 use Rattle.matching.proofs.write_inputs.Statement.{statement}
 use Rattle.matching.proofs.write_inputs.Tie as tie

@@ -1,4 +1,4 @@
--- The row of a match.
+-- The hit of a match.
 use borrow.Author.Needs.{needs}
 use mathlib.Core.Path.{_≡_, refl, sym, ap, ap₂, _∙_}
 use mathlib.Core.List.{List}

@@ -3,21 +3,21 @@ use Prim.Native.Nat.{ℕ, _+_, _-_, _≤_, _<_}
 use mathlib.Core.Path.{_≡_, refl, sym, subst, _∙_}
 use native.Mathlib.Omega.{arith}
 use lib.ListN.{length, getD, set, replicate, length-set}
-use Rattle.sheets.specs.Model.{Shape, size}
-use Rattle.overlay.specs.Standing.{DrawingHeld, Extending, extent}
+use Rattle.sheets_rules.specs.Model.{Shape, size}
+use Rattle.overlay.specs.Inside.Standing.{DrawingStored, Extending, extent}
 use Rattle.overlay.proofs.Measuring.{MeasuredFrom, here, extending, here-small, measured-more, measured-none}
 use Rattle.overlay.proofs.measure.Statement.{statement}
 use Rattle.overlay.proofs.measure.Tie as tie
 
 abbrev Inv-loop : tie.InvT-loop
-Inv-loop row words₀ k₀ words k = (k ≤ 16) × (length words ≡ 16) × ((d : Shape) → DrawingHeld row d → size d ≤ 16 → (k ≤ size d) × MeasuredFrom d words k)
+Inv-loop row words₀ k₀ words k = (k ≤ 16) × (length words ≡ 16) × ((d : Shape) → DrawingStored row d → size d ≤ 16 → (k ≤ size d) × MeasuredFrom d words k)
 
 abbrev μ-loop : tie.MeasureT-loop
 μ-loop row words₀ k₀ words k = k
 
 -- The node before those whose extents are there.
 next : (c : tie.In-loop Inv-loop μ-loop) → let i = c .before .loop in let row = c .before .before .before .before .args .row .now in
-    (d : Shape) → DrawingHeld row d → size d ≤ 16 →
+    (d : Shape) → DrawingStored row d → size d ≤ 16 →
     (s : Shape) × Extending (getD row (30 + (i .k - 1)) 0) (i .words) (i .k - 1) s × (extent s ≤ 255) × ((v : ℕ) → v ≡ extent s → MeasuredFrom d (set (i .words) (i .k - 1) v) (i .k - 1))
 next c d h g =
     let i = c .before .loop in

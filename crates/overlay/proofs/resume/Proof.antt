@@ -1,6 +1,6 @@
 -- The branch that waits last.
 use borrow.Author.Needs.{needs}
-use Rattle.overlay.specs.Held.{resumed}
+use Rattle.overlay.specs.Inside.Promises.{resumed}
 use Rattle.overlay.proofs.resume.Statement.{statement}
 use Rattle.overlay.proofs.resume.Tie as tie
 

@@ -4,10 +4,10 @@ use mathlib.Core.Path.{_≡_, refl}
 use mathlib.Core.List.{List}
 use native.Mathlib.Omega.{arith}
 use lib.ListN.{getD, length}
-use Rattle.sheets.specs.Layout.{symbolsAt, rowWords}
-use Rattle.sheets.specs.Model.{Shape}
+use Rattle.sheets_rules.specs.Inside.Layout.{symbolsAt, rowWords}
+use Rattle.sheets_rules.specs.Model.{Shape}
 use Rattle.overlay.specs.declared.Left.{Left}
-use Rattle.overlay.specs.Held.{Passable, Walkable}
+use Rattle.overlay.specs.Inside.Promises.{Passable, Walkable}
 use Rattle.overlay.proofs.Walking.{Going, going-start, within, symbol-small, passable, going-pass, going-skip, going-end, going-missed}
 use Rattle.overlay.proofs.walk.Statement.{statement}
 use Rattle.overlay.proofs.walk.Tie as tie
@@ -24,12 +24,12 @@ record Near (row words symbols sizes : List ℕ) (count : ℕ) (left : Left) (at
   row-long : length row ≡ rowWords
   symbols-long : length symbols ≡ 64
   sizes-long : length sizes ≡ 64
-  place : left .place % 32 < 16
+  spot : left .spot % 32 < 16
   noted : count + left .depth < 6
   some : 0 < getD sizes at 0
   ends : at + getD sizes at 0 ≤ 64
-  symbol : getD row (symbolsAt + left .place % 32) 0 < 8
-  passes : getD row (symbolsAt + left .place % 32) 0 < 2 → Passable left (getD row (symbolsAt + left .place % 32) 0) words
+  symbol : getD row (symbolsAt + left .spot % 32) 0 < 8
+  passes : getD row (symbolsAt + left .spot % 32) 0 < 2 → Passable left (getD row (symbolsAt + left .spot % 32) 0) words
 
 near : (c : tie.At-loop Inv-loop μ-loop) →
     let a = c .before .before .before .before .args in let i = c .loop in Near (a .row .now) (a .extents .words) (a .symbols .now) (a .sizes .now) (i .count) (i .left) (i .at)
@@ -42,7 +42,7 @@ near c =
       row-long = w .long;
       symbols-long = w .subject .symbols-long;
       sizes-long = w .subject .sizes-long;
-      place = b .place-small;
+      spot = b .spot-small;
       noted = b .noted-few;
       some = b .at-some;
       ends = b .at-ends;

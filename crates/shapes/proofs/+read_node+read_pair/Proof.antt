@@ -4,7 +4,7 @@ use native.Mathlib.Omega.{arith}
 use mathlib.Core.Path.{subst}
 use Prim.Native.Nat.{ℕ, _<_, _≤_, _-_, _*_, _+_}
 use Rattle.shapes.proofs.Nodes.{room-inside, refused-done, leaf-room, leaf-done, driven-done, gate-next, gate-in-room, gate-room, inv-done, nand-done, second-refused, second-room, second-done}
-use Rattle.shapes.specs.Promises.{nextOf, CodeRead}
+use Rattle.shapes.specs.Inside.Promises.{nextOf, CodeRead}
 use borrow.Fn.Kinds.{In}
 use borrow.Fn.PlainCycle.{Measures, is, falls, and}
 use Rattle.shapes.proofs.read_node.Reads as read-node

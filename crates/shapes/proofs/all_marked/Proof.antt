@@ -3,7 +3,7 @@ use Prim.Native.Nat.{ℕ, suc, _≤_, _-_}
 use mathlib.Core.Path.{_≡_, refl, sym, ap, _∙_}
 use mathlib.Core.Bool.{true}
 use lib.Seq.{getD-drop}
-use Rattle.shapes.specs.Promises.{pinsOf, allMarked}
+use Rattle.shapes.specs.Inside.Promises.{pinsOf, allMarked}
 use Rattle.shapes.proofs.Marks.{lacks-mark, mark-more}
 use Rattle.shapes.proofs.all_marked.Statement.{statement}
 use Rattle.shapes.proofs.all_marked.Tie as tie

@@ -1,5 +1,5 @@
 use borrow.Author.Tests.{le-leb, lt-leb, eq-eqb, ne-eqb}
-use Rattle.shapes.specs.Drawing.{codeVerdict}
+use Rattle.shapes_rules.specs.Drawing.{codeVerdict}
 use Rattle.shapes.proofs.code_fault.Statement.{statement}
 use Rattle.shapes.proofs.code_fault.Tie as tie
 

@@ -1,7 +1,7 @@
 use mathlib.Core.Path.{sym, _∙_}
 use lib.ListN.{getD}
 use lib.Seq.{getD-drop}
-use Rattle.shapes.specs.Promises.{pinsOf}
+use Rattle.shapes.specs.Inside.Promises.{pinsOf}
 use native.Mathlib.Omega.{arith}
 use borrow.Author.Tests.{le-leb, lt-leb, eq-eqb, ne-eqb}
 use borrow.Author.Needs.{needs}

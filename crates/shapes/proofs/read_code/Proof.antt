@@ -5,7 +5,7 @@ use mathlib.Core.List.{List}
 use Rattle.bits.specs.declared.Cursor.{Cursor}
 use Rattle.bits.specs.Bits.{placeOf, fieldAt}
 use Rattle.shapes.specs.declared.NodeCode.the-variants.{Code}
-use Rattle.shapes.specs.Promises.{CodeRead}
+use Rattle.shapes.specs.Inside.Promises.{CodeRead}
 use Rattle.shapes.proofs.Steps.{code-truncated, code-faulty, code-sound}
 use borrow.Author.Needs.{needs}
 use Rattle.shapes.proofs.read_code.Statement.{statement}

@@ -6,8 +6,8 @@ use lib.ListN.{getD, set}
 use Rattle.bits.specs.declared.Cursor.{Cursor}
 use Rattle.bits.specs.Bits.{placeOf, fieldAt}
 use Rattle.fields.specs.declared.Scan.the-variants.{At}
-use Rattle.shapes.specs.Drawing.{drivenNode}
-use Rattle.shapes.specs.Promises.{leafBits, reached, cursorOf, nextOf, LeafRead, Kept}
+use Rattle.shapes_rules.specs.Drawing.{drivenNode, leafBits}
+use Rattle.shapes.specs.Inside.Promises.{reached, cursorOf, nextOf, LeafRead, WordsAfter}
 use Rattle.shapes.proofs.Driven.{leaf-in, number-refused, drive-inside, driven-number, driven-most, drive-truncated, drive-small, drive-sound}
 use borrow.Author.Needs.{needs}
 use Rattle.shapes.proofs.read_driven.Statement.{statement}
@@ -99,7 +99,7 @@ returns-3 c s opens =
     let l = c .before .before .before .before .before .before .before .before .before .before .read-leaf .last .1 .1 .1 .1 .0 in
     let l′ = set l (nextOf (a .words .now)) (1048576 * c .before .before .before .before .drive .given .0 .0 + getD l (nextOf (a .words .now)) 0) in
     let Done : List ℕ → Type 0 = λ w.
-    LeafRead s (a .rules) (At (cursorOf (a .words .now))) (nextOf (a .words .now)) (a .symbols .now) l′ (reached 0 w) leafBits (drivenNode s (a .rules)) × Kept (a .rules) 0 w l′ in
+    LeafRead s (a .rules) (At (cursorOf (a .words .now))) (nextOf (a .words .now)) (a .symbols .now) l′ (reached 0 w) leafBits (drivenNode s (a .rules)) × WordsAfter (a .rules) 0 w l′ in
     subst Done (sym (c .stand .ensures)) (drive-sound (a .words .now) (done .0) (done .1) (c .before .before .before .before .before .before .before .before .before .if1 .left) (leaf-in pre) (c .before .before .before .before .before .before .field-of .result) (c .before .before .before .before .before .before .field-of .ensures s opens ∙ ap (λ (k : Cursor). fieldAt s (placeOf k) 8) (c .before .before .before .before .before .before .before .stood .ensures)) _ _ (c .before .before .before .before .drive .given .1) (c .before .before .before .before .before .before .before .before .before .before .before .before .before .before .pre .1))
 
 pub read-driven-spec : {M : Type 1} → statement M

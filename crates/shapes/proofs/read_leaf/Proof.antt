@@ -5,7 +5,7 @@ use mathlib.Core.List.{List}
 use lib.ListN.{set, take}
 use Rattle.bits.specs.declared.Cursor.{Cursor}
 use Rattle.bits.specs.Bits.{placeOf, fieldAt}
-use Rattle.shapes.specs.Promises.{nextOf, pinsOf, Marked}
+use Rattle.shapes.specs.Inside.Promises.{nextOf, pinsOf, Marked}
 use Rattle.shapes.proofs.Marks.{mark-leaf}
 use Rattle.shapes.proofs.Steps.{leaf-most, leaf-truncated, leaf-faulty, leaf-sound}
 use borrow.Author.Needs.{needs}
@@ -32,7 +32,7 @@ returns : tie.Need-returns
 returns c s opens =
     let a = c .before .before .before .before .before .args in
     let pre = c .before .before .before .before .before .pre in
-    leaf-truncated s (a .rules) (a .words .now) (a .symbols .now) (c .before .before .field-of .result) (pre .long) (pre .wide) (c .before .before .field-of .ensures s opens ∙ ap (λ (k : Cursor). fieldAt s (placeOf k) (a .rules .width)) (c .before .before .before .stood .ensures)) (c .enum-told .given .1)
+    leaf-truncated s (a .rules) (a .words .now) (a .symbols .now) (c .before .before .field-of .result) (pre .long) (pre .symbols-long) (c .before .before .field-of .ensures s opens ∙ ap (λ (k : Cursor). fieldAt s (placeOf k) (a .rules .width)) (c .before .before .before .stood .ensures)) (c .enum-told .given .1)
 
 leaf-fault-requires : tie.Need-leaf-fault-requires
 leaf-fault-requires c κs = search needs
@@ -41,7 +41,7 @@ returns-2 : tie.Need-returns-2
 returns-2 c s opens =
     let a = c .before .before .before .before .before .before .before .before .before .args in
     let pre = c .before .before .before .before .before .before .before .before .before .pre in
-    leaf-faulty s (a .rules) (a .words .now) (a .symbols .now) (c .before .before .before .before .before .before .field-of .result) (pre .long) (pre .wide) (c .before .before .before .before .before .before .field-of .ensures s opens ∙ ap (λ (k : Cursor). fieldAt s (placeOf k) (a .rules .width)) (c .before .before .before .before .before .before .before .stood .ensures)) (c .before .leaf-fault .result) _ _ (c .before .before .before .before .number .given .1) (c .if1 .taken)
+    leaf-faulty s (a .rules) (a .words .now) (a .symbols .now) (c .before .before .before .before .before .before .field-of .result) (pre .long) (pre .symbols-long) (c .before .before .before .before .before .before .field-of .ensures s opens ∙ ap (λ (k : Cursor). fieldAt s (placeOf k) (a .rules .width)) (c .before .before .before .before .before .before .before .stood .ensures)) (c .before .leaf-fault .result) _ _ (c .before .before .before .before .number .given .1) (c .if1 .taken)
     (c .before .leaf-fault .ensures ∙ mark-leaf (a .rules) (pinsOf (a .words .now)) (take (nextOf (a .words .now)) (a .symbols .now)) (c .before .before .before .before .number .given .0 .0) (pre .met))
 
 element-copy-out-n : tie.Need-element-copy-out-n
@@ -82,7 +82,7 @@ returns-3 : tie.Need-returns-3
 returns-3 c s opens =
     let a = c .before .before .before .before .before .before .before .before .before .before .before .before .before .before .args in
     let pre = c .before .before .before .before .before .before .before .before .before .before .before .before .before .before .pre in
-    leaf-sound s (a .rules) (a .words .now) (a .symbols .now) (c .before .before .before .before .before .before .before .before .before .before .before .field-of .result) (pre .long) (pre .wide) (c .before .before .before .before .before .before .before .before .before .before .before .field-of .ensures s opens ∙ ap (λ (k : Cursor). fieldAt s (placeOf k) (a .rules .width)) (c .before .before .before .before .before .before .before .before .before .before .before .before .stood .ensures)) (c .before .before .before .before .before .before .leaf-fault .result) _ _ _ (c .before .before .before .before .before .before .before .before .before .number .given .1)
+    leaf-sound s (a .rules) (a .words .now) (a .symbols .now) (c .before .before .before .before .before .before .before .before .before .before .before .field-of .result) (pre .long) (pre .symbols-long) (c .before .before .before .before .before .before .before .before .before .before .before .field-of .ensures s opens ∙ ap (λ (k : Cursor). fieldAt s (placeOf k) (a .rules .width)) (c .before .before .before .before .before .before .before .before .before .before .before .before .stood .ensures)) (c .before .before .before .before .before .before .leaf-fault .result) _ _ _ (c .before .before .before .before .before .before .before .before .before .number .given .1)
     (c .before .before .before .before .before .if1 .left) (c .before .before .before .before .before .before .leaf-fault .ensures ∙ mark-leaf (a .rules) (pinsOf (a .words .now)) (take (nextOf (a .words .now)) (a .symbols .now)) (c .before .before .before .before .before .before .before .before .before .number .given .0 .0) (pre .met)) (pre .rules-are .width) (λ p. omega (arith, small (c .before .before .before .before), pre .rules-are .pins p)) (omega (arith, pre .room, pre .rules-are .nodes)) (pre .met)
     (subst (λ (w : List ℕ). Marked (a .rules) (set w 2 (nextOf (a .words .now) + 1)) (c .before .before .before .before .before .before .before .before .before .number .given .0 .0) (c .mark .last .1 .0)) (c .before .before .stand .ensures) (c .mark .ensures))
 

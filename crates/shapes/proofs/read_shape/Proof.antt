@@ -5,9 +5,9 @@ use lib.ListN.{getD}
 use mathlib.Core.Path.{sym, ap, subst, _∙_}
 use Rattle.bits.specs.Bits.{placeOf}
 use Rattle.bits.proofs.Words.{stands}
-use Rattle.fields.specs.Reading.{place}
-use Rattle.fields.specs.Promises.{Live}
-use Rattle.shapes.specs.Promises.{nodeBits, ShapeIs}
+use Rattle.fields.specs.Reading.{place, Live}
+use Rattle.shapes_rules.specs.Drawing.{nodeBits}
+use Rattle.shapes.specs.Inside.Promises.{ShapeIs}
 use Rattle.shapes.proofs.Wholes.{shape-refused, shape-ended, start-room, end-place, shape-done}
 use borrow.Author.Needs.{needs}
 use Rattle.shapes.proofs.read_shape.Statement.{statement}

@@ -4,7 +4,7 @@ use mathlib.Core.Path.{_≡_, refl}
 use mathlib.Core.Logic.{⊎-elim}
 use lib.ListN.{length, getD, take, drop, set, length-set}
 use lib.Seq.{sets}
-use Rattle.shapes.specs.Shape.{Shape, symbols, sizes}
+use Rattle.shapes_rules.specs.Shape.{Shape, symbols, sizes}
 use Rattle.shapes.proofs.Sizes.{Sized, none-set, one-set}
 use Rattle.shapes.proofs.set_sizes.Statement.{statement}
 use Rattle.shapes.proofs.set_sizes.Tie as tie

@@ -4,7 +4,7 @@
 pub mod drivers;
 
 use crate::kinds::{short, Kinds};
-use crate::stored::{Stored, MOST_BYTES};
+use crate::stored::Stored;
 use reference::cover::{Cover, Placed};
 use reference::crossing::{bit, crossings, redrawn, CROSSINGS};
 use reference::form::Role;
@@ -363,10 +363,10 @@ impl Covers {
         short(count, make, Case::length).into_iter().for_each(|case| self.add(case));
     }
 
-    /// There are enough cases, of every kind, and not too many bytes.
+    /// There are enough cases, of every kind.
     fn check(&self) {
         self.kinds().check(&KINDS, LEAST_OF_A_KIND);
-        assert!(self.cases.len() >= LEAST_CASES && self.bytes() <= MOST_BYTES);
+        assert!(self.cases.len() >= LEAST_CASES);
     }
 
     fn kinds(&self) -> Kinds {

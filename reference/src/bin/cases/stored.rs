@@ -1,12 +1,13 @@
-//! A file of cases and the file of their results.
+//! Cases with their results, and the files of both.
 
 use crate::kinds::Kinds;
 use reference::{bill, part, text, tree};
 use std::io;
 use std::path::Path;
 
-/// The most bytes of records: the program that runs them keeps them in one array.
-pub const MOST_BYTES: usize = 672_000;
+/// The most bytes of a record's sheets: the program that runs the records reads all sheets of one into an array of
+/// this length (`Input::SHEETS` in `crates/test_cases`).
+const MOST_SHEETS: usize = 16_384;
 
 /// How many records with driven leaves there must be of each kind that is asked for.
 const LEAST_DRIVEN: usize = 100;
@@ -23,26 +24,38 @@ pub struct Stored {
 impl Stored {
     /// Appends a record: the kind, each number in two bytes, high byte first, and the sheets.
     pub fn add(&mut self, kind: u8, numbers: &[usize], sheets: &[&[u8]], line: String) {
+        let bytes = sheets.concat();
+        assert!(bytes.len() <= MOST_SHEETS, "{}: {} bytes", word(kind), bytes.len());
         self.records.push(kind);
         for &number in numbers {
             let short = u16::try_from(number).expect("a number of two bytes");
             self.records.extend(short.to_be_bytes());
         }
-        self.records.extend(sheets.concat());
+        self.records.extend(bytes);
         if has_driven_leaves(kind, sheets) {
             self.driven.push(driven_kind(kind, &line));
         }
         self.lines.push(line);
     }
 
+    /// Appends all records of a group.
+    pub fn append(&mut self, group: Stored) {
+        self.records.extend(group.records);
+        self.lines.extend(group.lines);
+        self.driven.extend(group.driven);
+    }
+
     /// Writes both files and prints how much is in them.
     pub fn write(&self, directory: &Path, name: &str) -> io::Result<()> {
-        assert!(self.records.len() <= MOST_BYTES, "{name}: {} bytes", self.records.len());
         std::fs::write(directory.join(format!("{name}.bin")), &self.records)?;
         let lines: String = self.lines.iter().map(|line| format!("{line}\n")).collect();
         std::fs::write(directory.join(format!("{name}.expected")), lines)?;
-        println!("{name}: {} cases, {} bytes", self.lines.len(), self.records.len());
+        self.print_size(name);
         Ok(())
+    }
+
+    pub fn print_size(&self, name: &str) {
+        println!("{name}: {} cases, {} bytes", self.lines.len(), self.records.len());
     }
 
     /// Prints how many records with driven leaves there are of each kind; none of these is rare.

@@ -1,5 +1,5 @@
-//! Fresh inputs of bill, for the program whose path is in `TREECOVER_BILL_CASES`: it reads records as they stand in
-//! `bills.bin` and prints their texts one after another.
+//! Fresh inputs of bill, for the program whose path is in `TREECOVER_CASES`: it reads records as they stand in
+//! `stored.bin` and prints their texts one after another.
 
 use crate::tally::Tally;
 use reference::bill::{self, Answer};
@@ -12,8 +12,9 @@ use std::process::{Command, Stdio};
 use std::slice;
 use std::thread;
 
-/// A batch with so many bytes is full: the program keeps what it reads in one array, and one more record fits.
-const FULL: usize = 590_000;
+/// How many questions the program is asked at once: enough that starting it takes little of the time, and few enough to
+/// be asked one by one if the texts differ.
+const BATCH: u64 = 2_000;
 
 struct Question {
     input: Vec<u8>,
@@ -40,28 +41,17 @@ impl Question {
 }
 
 pub fn run(count: u64, seed: u64) -> Tally {
-    let program = std::env::var_os("TREECOVER_BILL_CASES").expect("the program's path in TREECOVER_BILL_CASES");
+    let program = std::env::var_os("TREECOVER_CASES").expect("the program's path in TREECOVER_CASES");
     let mut rng = Rng::new(seed);
     let mut tally = Tally::default();
     let mut left = count;
     while left > 0 {
-        let batch = batch(&mut rng, left);
-        left -= batch.len() as u64;
+        let size = left.min(BATCH);
+        let batch: Vec<Question> = (0..size).map(|_| Question::any(&mut rng)).collect();
         compare(&mut tally, &program, &batch);
+        left -= size;
     }
     tally
-}
-
-/// As many questions as the program reads at once, at most `most`.
-fn batch(rng: &mut Rng, most: u64) -> Vec<Question> {
-    let mut batch = Vec::new();
-    let mut bytes = 0;
-    while bytes < FULL && (batch.len() as u64) < most {
-        let question = Question::any(rng);
-        bytes += question.record().len();
-        batch.push(question);
-    }
-    batch
 }
 
 /// Asks all at once and, where that gives another text, one by one to find those that disagree.

@@ -5,7 +5,7 @@
 //! `fresh cover [COUNT] [SEED]`: the judge of covers.
 //! `fresh functions [COUNT] [SEED]`: the judge of functions.
 //! `fresh part [COUNT] [SEED]`: map of parts.
-//! `fresh bill [COUNT] [SEED]`: bill's text, by the program whose path is in `TREECOVER_BILL_CASES`.
+//! `fresh bill [COUNT] [SEED]`: bill's text, by the program whose path is in `TREECOVER_CASES`.
 //!
 //! The exit status is 1 if anything disagrees.
 

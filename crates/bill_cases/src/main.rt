@@ -1,4 +1,0 @@
-// The stored cases of bills.
-fn main() {
-    stored::run();
-}

@@ -1,0 +1,6 @@
+-- The laws of `bill_rules`, in reading order.
+pub mod Counting
+pub mod Entries
+pub mod Accepted
+pub mod Text
+pub mod Demands

@@ -1,0 +1,3 @@
+-- The laws of `bill_text`, in reading order.
+pub mod Laws
+pub mod Stored

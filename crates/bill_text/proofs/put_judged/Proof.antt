@@ -1,0 +1,67 @@
+use borrow.Author.Needs.{needs}
+use native.Mathlib.Omega.{arith}
+use Prim.Native.Nat.{ℕ}
+use mathlib.Core.Path.{sym, ap, subst, _∙_}
+use mathlib.Core.List.{List}
+use Rattle.judge_rules.specs.Public.{ofCoverJudged}
+use Rattle.text.specs.Inside.Promises.{Appended}
+use Rattle.frame.specs.Framed.{outcomeText}
+use Rattle.frame.proofs.Laws.{refusal-short}
+use Rattle.bill_rules.proofs.Demands.{shown-refusal}
+use Rattle.bill_text.proofs.put_judged.Statement.{statement}
+use Rattle.bill_text.proofs.put_judged.Tie as tie
+
+judge-cover-requires : tie.Need-judge-cover-requires
+judge-cover-requires c κs = search needs
+
+enum-known-judged : tie.Need-enum-known-judged
+enum-known-judged c = search needs
+
+put-refusal-requires : tie.Need-put-refusal-requires
+put-refusal-requires c κs =
+    let told = c .before .before .judged .given in
+    omega (arith, refusal-short (told .0 .0) (told .0 .1 .0) (omega arith) (omega arith))
+
+enum-told : tie.Need-enum-told
+enum-told c = search needs
+
+put-accepted-requires : tie.Need-put-accepted-requires
+unfolding ofCoverJudged
+put-accepted-requires c κs =
+    let judged = c .before .before .before in
+    let told = c .before .enum-told .given in
+    (judged .before .before .before .before .before .pre, (record { area = told .0 .0; arrival = told .0 .1 .0 }, sym (judged .judge-cover .ensures .0) ∙ ap ofCoverJudged (told .1)))
+
+same-length : tie.Need-same-length
+same-length c = search needs
+
+returns : tie.Need-returns
+unfolding outcomeText ofCoverJudged
+returns c =
+    let judged = c .before .before .before .before .before .before .before in
+    let a = judged .before .before .before .before .before .args in
+    let told = c .before .before .before .before .before .judged .given in
+    let put = c .before .before .put-refusal in
+    subst (λ (w : List ℕ). Appended w (a .text .now) 0 (put .last .0) (put .result))
+    (sym (ap outcomeText (shown-refusal (a .library .now) (a .tree .now) (a .cover .now) (sym (judged .judge-cover .ensures .0) ∙ ap ofCoverJudged (told .1)))))
+    (put .ensures)
+
+same-length-2 : tie.Need-same-length-2
+same-length-2 c = search needs
+
+returns-2 : tie.Need-returns-2
+returns-2 c = search needs
+
+pub put-judged-spec : {M : Type 1} → statement M
+put-judged-spec =
+    tie.close
+    (tie.spec
+    judge-cover-requires
+    enum-known-judged
+    put-refusal-requires
+    enum-told
+    put-accepted-requires
+    same-length
+    returns
+    same-length-2
+    returns-2)

@@ -1,0 +1,2 @@
+-- What the functions of `bill_text` promise.
+pub mod Inside

@@ -1,3 +1,0 @@
--- The laws of `billing`, in reading order.
-pub mod Laws
-pub mod Held

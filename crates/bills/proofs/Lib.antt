@@ -1,6 +1,0 @@
--- The laws of `bills`, in reading order.
-pub mod Counting
-pub mod Entries
-pub mod Accepted
-pub mod Text
-pub mod Demands

@@ -1,4 +1,0 @@
-// The stored cases of the judge of covers.
-fn main() {
-    stored::run();
-}

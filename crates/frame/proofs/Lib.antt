@@ -1,0 +1,2 @@
+-- The laws of `frame`.
+pub mod Laws

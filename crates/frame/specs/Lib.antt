@@ -1,0 +1,3 @@
+-- The frame of an input, and the lines that refuse one.
+pub mod Framed
+pub mod Inside

@@ -1,2 +1,0 @@
--- The laws of `framing`.
-pub mod Laws

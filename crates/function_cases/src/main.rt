@@ -1,4 +1,0 @@
-// The stored cases of functions.
-fn main() {
-    stored::run();
-}

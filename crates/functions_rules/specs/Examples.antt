@@ -1,0 +1,2 @@
+-- What drawings compute, as examples.
+pub mod Drawings

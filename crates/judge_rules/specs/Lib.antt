@@ -1,0 +1,7 @@
+-- The judge of covers, in reading order.
+pub mod Walk
+pub mod Judgement
+pub mod Demands
+pub mod DriveZero
+pub mod Public
+pub mod Inside

@@ -1,6 +1,0 @@
--- The judge of covers, in reading order.
-pub mod Walk
-pub mod Judgement
-pub mod Demands
-pub mod DriveZero
-pub mod Order

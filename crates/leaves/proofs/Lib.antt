@@ -1,0 +1,2 @@
+-- The laws of `leaves`.
+pub mod Symbols

@@ -1,0 +1,2 @@
+-- What the functions of `leaves` promise.
+pub mod Inside

@@ -1,0 +1,4 @@
+-- The laws of `library`, in reading order.
+pub mod Laws
+pub mod Cells
+pub mod Whole

@@ -1,0 +1,58 @@
+use borrow.Author.Needs.{needs}
+use native.Mathlib.Omega.{arith}
+use Prim.Native.Nat.{ℕ}
+use mathlib.Core.Path.{refl, ap}
+use lib.Dec.{eqb}
+use Rattle.fields.specs.Reading.{within}
+use Rattle.fields.proofs.Laws.{value-at, scan-at}
+use Rattle.sheets_rules.specs.LibrarySheet.{head}
+use Rattle.library.proofs.read_head.Statement.{statement}
+use Rattle.library.proofs.read_head.Tie as tie
+
+ranged-requires : tie.Need-ranged-requires
+ranged-requires c κs = search needs
+
+ranged-requires-2 : tie.Need-ranged-requires-2
+ranged-requires-2 c κs = search needs
+
+ranged-requires-3 : tie.Need-ranged-requires-3
+ranged-requires-3 c κs = search needs
+
+ranged-requires-4 : tie.Need-ranged-requires-4
+ranged-requires-4 c κs = search needs
+
+cast-t12 : tie.Need-cast-t12
+cast-t12 c = search needs
+
+cast-t13 : tie.Need-cast-t13
+cast-t13 c = search needs
+
+returns : tie.Need-returns
+unfolding head
+returns c =
+    let a = c .before .before .before .before .before .before .before .before .args in
+    let s = a .s .now in
+    let e1 = scan-at s 1 (within 0 1) (a .scan) (c .before .before .before .before .before .before .ranged .ensures) refl in
+    let e2 = scan-at s 16 (within 1 65535) (c .before .before .before .before .before .before .ranged .result .scan) (c .before .before .before .before .before .ranged2 .ensures) e1 in
+    let e3 = scan-at s 8 (within 0 255) (c .before .before .before .before .before .ranged2 .result .scan) (c .before .before .before .before .ranged3 .ensures) e2 in
+    record {
+      held = ap (λ (v : ℕ). eqb v 1) (value-at s 1 (within 0 1) (a .scan) (c .before .before .before .before .before .before .ranged .ensures) refl);
+      area = value-at s 16 (within 1 65535) (c .before .before .before .before .before .before .ranged .result .scan) (c .before .before .before .before .before .ranged2 .ensures) e1;
+      highest = value-at s 8 (within 0 255) (c .before .before .before .before .before .ranged2 .result .scan) (c .before .before .before .before .ranged3 .ensures) e2;
+      pins = value-at s 3 (within 1 6) (c .before .before .before .before .ranged3 .result .scan) (c .before .before .before .ranged4 .ensures) e3;
+      few = c .before .before .before .ranged4 .ensures .small;
+      scan-is = scan-at s 3 (within 1 6) (c .before .before .before .before .ranged3 .result .scan) (c .before .before .before .ranged4 .ensures) e3;
+      near = omega (arith, c .before .before .before .before .before .before .ranged .ensures .near, c .before .before .before .before .before .ranged2 .ensures .near, c .before .before .before .before .ranged3 .ensures .near, c .before .before .before .ranged4 .ensures .near);
+    }
+
+pub read-head-spec : {M : Type 1} → statement M
+read-head-spec =
+    tie.close
+    (tie.spec
+    ranged-requires
+    ranged-requires-2
+    ranged-requires-3
+    ranged-requires-4
+    cast-t12
+    cast-t13
+    returns)

@@ -1,0 +1,19 @@
+use mathlib.Core.Path.{refl}
+use mathlib.Core.Logic.{inl}
+use Rattle.library.proofs.Whole.{library-is}
+use Rattle.library.proofs.read_library.Statement.{statement}
+use Rattle.library.proofs.read_library.Tie as tie
+
+slice-aggregate-read-sheet : tie.Need-slice-aggregate-read-sheet
+slice-aggregate-read-sheet c = refl
+
+read-sheet-requires : tie.Need-read-sheet-requires
+read-sheet-requires c κs = inl refl
+
+returns : tie.Need-returns
+returns c =
+    let read = c .before .before .read-sheet in
+    library-is (c .before .before .before .before .before .args .s .now) (read .last .1 .0) (read .result) (read .ensures)
+
+pub read-library-spec : {M : Type 1} → statement M
+read-library-spec = tie.close (tie.spec slice-aggregate-read-sheet read-sheet-requires returns)

@@ -1,0 +1,2 @@
+-- What the functions of `library` promise.
+pub mod Inside

@@ -1,2 +1,0 @@
--- What the contracts of `lines` say.
-pub mod Text

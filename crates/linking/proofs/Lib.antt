@@ -1,4 +1,0 @@
--- The laws of `linking`.
-pub mod Laws
-pub mod Links
-pub mod Trees

@@ -1,0 +1,32 @@
+use borrow.Author.Needs.{needs}
+use mathlib.Core.Path.{sym, subst}
+use lib.ListN.{length}
+use Rattle.covers.specs.Outcome.{listBytes, listOutcome}
+use Rattle.covers.specs.Demands.{ListDemands, WhereSound}
+use Rattle.covers.proofs.Demands.{list-demands}
+use Rattle.map.specs.Inside.Promises.{leastOutput, taskAnswer}
+use Rattle.map_rules.proofs.Laws.{seen}
+use Rattle.map.proofs.list.Statement.{statement}
+use Rattle.map.proofs.list.Tie as tie
+use Rattle.map.proofs.list.Reads as reads
+use Rattle.map.proofs.list.Lts as lts
+use Rattle.map.proofs.operate.Reads as operate-reads
+
+operate-requires : tie.Need-operate-requires
+operate-requires c κs = search needs
+
+same-length : tie.Need-same-length
+same-length c = search needs
+
+same-length-2 : tie.Need-same-length-2
+same-length-2 c = search needs
+
+returns : tie.Need-returns
+unfolding listOutcome leastOutput taskAnswer
+returns c =
+    let a = c .before .before .before .before .before .before .before .before .before .before .before .args in
+    let done = c .before .before .before .before .operate .ensures in
+    (done, subst (WhereSound ListDemands listBytes (a .library .now) (a .tree .now) (length (a .output .now)) (length (a .work .now))) (sym (seen done)) (list-demands (a .library .now) (a .tree .now) (length (a .output .now)) (length (a .work .now))))
+
+pub list-spec : {M : Type 1} → statement M
+list-spec = tie.close (tie.spec operate-requires same-length same-length-2 returns)

@@ -1,0 +1,2 @@
+-- What the functions of `map` promise.
+pub mod Inside

@@ -1,0 +1,4 @@
+-- The laws of `map_core`, in reading order.
+pub mod Root
+pub mod Points
+pub mod Core

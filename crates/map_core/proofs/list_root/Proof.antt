@@ -1,0 +1,89 @@
+use borrow.Author.Needs.{needs}
+use Prim.Native.Nat.{_+_}
+use mathlib.Core.Path.{sym}
+use native.Mathlib.Omega.{arith}
+use lib.Seq.{length-take-le}
+use Rattle.map_core.proofs.Root.{leaf-small}
+use Rattle.map_core.proofs.Points.{leaf-listed, gate-empty, gate-listed}
+use Rattle.map_core.proofs.list_root.Statement.{statement}
+use Rattle.map_core.proofs.list_root.Tie as tie
+use Rattle.map_core.proofs.list_root.Reads as reads
+use Rattle.map_core.proofs.list_root.Lts as lts
+use Rattle.leaves.proofs.leaf_arrival.Reads as leaf-arrival-reads
+use Rattle.map_core.proofs.count_points.Reads as count-points-reads
+
+array-read-symbol : tie.Need-array-read-symbol
+array-read-symbol c = search needs
+
+cast-leaf-arrival : tie.Need-cast-leaf-arrival
+cast-leaf-arrival c = search needs
+
+leaf-arrival-requires : tie.Need-leaf-arrival-requires
+leaf-arrival-requires c κs =
+    let p = c .before .before .before .before .pre in
+    let e = c .before .if1 in
+    (omega (arith, e), leaf-small (p .1 .1 .1 .1), search needs)
+
+slice-write-work : tie.Need-slice-write-work
+slice-write-work c = search needs
+
+same-length : tie.Need-same-length
+same-length c = search needs
+
+returns : tie.Need-returns
+returns c l t rows room given =
+    let e = c .before .before .if1 in
+    leaf-listed given (omega (arith, e)) (c .leaf-arrival .result) (c .leaf-arrival .ensures .0) (c .leaf-arrival .ensures .1)
+
+add-count-points : tie.Need-add-count-points
+add-count-points c = search needs
+
+slice-reshare-prefix-count-points : tie.Need-slice-reshare-prefix-count-points
+slice-reshare-prefix-count-points c = search needs
+
+slice-aggregate-count-points : tie.Need-slice-aggregate-count-points
+slice-aggregate-count-points c =
+    let first = c .before .before .before .before in
+    sym (length-take-le (first .args .most + 1) (first .args .work .now) (omega (arith, first .pre .1 .1 .1 .1 .prepared .area .room)))
+
+count-points-requires : tie.Need-count-points-requires
+count-points-requires c κs = search needs
+
+same-length-2 : tie.Need-same-length-2
+same-length-2 c = search needs
+
+returns-2 : tie.Need-returns-2
+returns-2 c l t rows room given =
+    let e = c .before .before .before .if1 in
+    let k = c .before .count-points in
+    let z = c .if2 in
+    gate-empty given (omega (arith, e)) (k .result) (k .ensures .0) (k .ensures .1) (omega (arith, z))
+
+same-length-3 : tie.Need-same-length-3
+same-length-3 c = search needs
+
+returns-3 : tie.Need-returns-3
+returns-3 c l t rows room given =
+    let e = c .before .before .before .if1 in
+    let k = c .before .count-points in
+    let z = c .if2 in
+    gate-listed given (omega (arith, e)) (k .result) (k .ensures .0) (k .ensures .1) (λ y. omega (arith, z, y))
+
+pub list-root-spec : {M : Type 1} → statement M
+list-root-spec =
+    tie.close
+    (tie.spec
+    array-read-symbol
+    cast-leaf-arrival
+    leaf-arrival-requires
+    slice-write-work
+    same-length
+    returns
+    add-count-points
+    slice-reshare-prefix-count-points
+    slice-aggregate-count-points
+    count-points-requires
+    same-length-2
+    returns-2
+    same-length-3
+    returns-3)

@@ -1,0 +1,3 @@
+-- What functions inside promise each other, and what the laws about them speak of.
+pub mod Found
+pub mod Promises

@@ -1,0 +1,2 @@
+-- What the functions of `map_core` promise.
+pub mod Inside

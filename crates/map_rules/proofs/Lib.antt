@@ -1,0 +1,2 @@
+-- The laws of `map_rules`.
+pub mod Laws

@@ -1,4 +1,0 @@
--- The laws of `mapper`, in reading order.
-pub mod Root
-pub mod Points
-pub mod Core

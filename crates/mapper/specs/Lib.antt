@@ -1,3 +1,0 @@
--- What the contracts of `mapper` say.
-pub mod Found
-pub mod Promises

@@ -1,4 +1,0 @@
-// treecover on no input at all.
-fn main() {
-    printing::run();
-}

@@ -1,2 +1,0 @@
--- The laws of `operations`.
-pub mod Laws

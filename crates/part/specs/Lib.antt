@@ -1,0 +1,2 @@
+-- What the functions of `part` promise.
+pub mod Inside

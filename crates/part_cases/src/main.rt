@@ -1,4 +1,0 @@
-// The stored cases of parts.
-fn main() {
-    stored::run();
-}

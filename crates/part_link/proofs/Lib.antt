@@ -1,0 +1,2 @@
+-- The laws of `part_link`.
+pub mod Trees

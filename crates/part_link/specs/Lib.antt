@@ -1,0 +1,2 @@
+-- What the functions of `part_link` promise.
+pub mod Inside

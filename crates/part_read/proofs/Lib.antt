@@ -1,0 +1,3 @@
+-- The laws of `part_read`.
+pub mod Laws
+pub mod Links

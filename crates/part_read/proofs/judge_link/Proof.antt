@@ -1,0 +1,54 @@
+use native.Mathlib.Omega.{arith}
+use Rattle.part_rules.specs.Answer.{PartBounded}
+use Rattle.part_read.proofs.Links.{not-leaf, leaf-taken, not-lower, right}
+use borrow.Author.Needs.{needs}
+use Rattle.part_read.proofs.judge_link.Statement.{statement}
+use Rattle.part_read.proofs.judge_link.Tie as tie
+
+cast-node : tie.Need-cast-node
+cast-node c = search needs
+
+mul-leaf-field : tie.Need-mul-leaf-field
+mul-leaf-field c = search needs
+
+add-leaf-field : tie.Need-add-leaf-field
+add-leaf-field c = search needs
+
+add-leaf-field-2 : tie.Need-add-leaf-field-2
+add-leaf-field-2 c = search needs
+
+mul-if1 : tie.Need-mul-if1
+mul-if1 c = search needs
+
+array-read-if1 : tie.Need-array-read-if1
+array-read-if1 c = search needs
+
+returns : tie.Need-returns
+unfolding PartBounded
+returns c = ((λ trees before x h. not-leaf h (omega arith)), (omega arith, omega arith, omega arith, omega (arith, c .before .before .before .pre)))
+
+returns-2 : tie.Need-returns-2
+unfolding PartBounded
+returns-2 c = ((λ trees before x h. leaf-taken h (omega arith) (c .if2 .taken)), (omega arith, omega arith, omega arith, omega (arith, c .before .before .before .before .pre)))
+
+returns-3 : tie.Need-returns-3
+unfolding PartBounded
+returns-3 c = ((λ trees before x h. not-lower h (omega arith) (c .before .before .if2 .left) (omega arith)), (omega arith, omega arith, omega arith, omega (arith, c .before .before .before .before .before .before .pre)))
+
+returns-4 : tie.Need-returns-4
+returns-4 c = ((λ trees before x h. right h (omega arith) (c .before .before .if2 .left) (omega arith)), tt)
+
+pub judge-link-spec : {M : Type 1} → statement M
+judge-link-spec =
+    tie.close
+    (tie.spec
+    cast-node
+    mul-leaf-field
+    add-leaf-field
+    add-leaf-field-2
+    mul-if1
+    array-read-if1
+    returns
+    returns-2
+    returns-3
+    returns-4)

@@ -1,0 +1,2 @@
+-- What the functions of `part_read` promise.
+pub mod Inside

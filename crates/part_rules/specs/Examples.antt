@@ -1,0 +1,2 @@
+-- Linked trees and part sheets, as examples.
+pub mod Linked

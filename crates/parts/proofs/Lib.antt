@@ -1,8 +1,0 @@
--- The laws of `parts`, in reading order.
-pub mod Linked
-pub mod Known
-pub mod Trees
-pub mod Links
-pub mod Running
-pub mod Accepted
-pub mod Demands

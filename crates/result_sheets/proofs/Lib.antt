@@ -1,0 +1,2 @@
+-- Laws that the proofs of `result_sheets` cite.
+pub mod Laws

@@ -1,2 +1,0 @@
--- Laws that the proofs of `results` cite.
-pub mod Laws

@@ -1,3 +1,0 @@
--- What the contracts of `results` say.
-pub mod Public
-pub mod Inside

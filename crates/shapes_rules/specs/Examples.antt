@@ -1,0 +1,2 @@
+-- Shapes read from bytes, as examples.
+pub mod Shapes

@@ -1,0 +1,4 @@
+-- What functions inside promise each other, and what the laws about them speak of.
+pub mod Layout
+pub mod Sound
+pub mod Readers

@@ -1,0 +1,4 @@
+// treecover on no input at all.
+fn main() {
+    treecover_text::run();
+}

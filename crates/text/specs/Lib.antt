@@ -1,0 +1,3 @@
+-- Numbers and lines as text.
+pub mod Text
+pub mod Inside

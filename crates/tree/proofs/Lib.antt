@@ -1,0 +1,2 @@
+-- The laws of `tree`.
+pub mod Whole

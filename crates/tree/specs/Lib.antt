@@ -1,0 +1,2 @@
+-- What the functions of `tree` promise.
+pub mod Inside
