@@ -41,32 +41,47 @@ stack() { # WHO ROW: the greatest stack of a map, or of a judgement, in bytes
 cat <<TEXT
 # Measurements
 
-Printed by \`docs/measure.sh GATE_LOG\`, where GATE_LOG is the output of \`.ci/run\`. The machine's speed changes from run to run, so ratios within a
+Printed by \`docs/measure.sh GATE_LOG\`, where GATE_LOG is the output of \`.ci/run\`. The machine's speed
+changes from run to run, so ratios within a
 run say more than times. Processor: $(lscpu | awk -F': *' '/^Model name/ { print $2; exit }'), $(nproc) processors.
 
 ## Map and the judges
 
-The proved map through the C interface; the same algorithm in plain Rust (\`reference/src/deadline\`), which works every point out anew (\`plain\`) or keeps a match's last point
-while it is in time, and passes over a match whose last point is not below the least so far (\`plain_kept\`); the separate implementation, which merges whole curves (\`merging\`)$([ "$features" = product ] || echo '; and the static library of the delivery before (`before`)'). All built for release, on the same bytes,
-taking turns in one run (medians of 31 rounds), each answer compared with the expected sheet$([ "$features" = product ] || echo ' (of `before` area and arrival; it is left out where it refuses the sheets)'). A ratio is the product's time over the other's. \`typical\` is a usual
-problem; \`chain\` and \`comb\` are the worst that were found before inputs could be exchanged; \`deep\` has nearly nothing to find and the deepest choice; \`full\` and \`crosscomb\` have many crossings; \`driven\` is \`typical\` with all leaves driven; \`part\` has 16 trees of the kind of \`typical\`, and \`deep_part\` 16 of the kind of \`deep\`, linked.
+The proved map through the C interface; the same algorithm in plain Rust (\`reference/src/deadline\`),
+which works every point out anew (\`plain\`) or keeps a match's last point while it is in time, and passes
+over a match whose last point is not below the least so far (\`plain_kept\`); the separate implementation,
+which merges whole curves (\`merging\`)$([ "$features" = product ] || echo '; and the static library of the delivery before (`before`)'). All built for release, on the same bytes, taking turns in one
+run (medians of 31 rounds), each answer compared with the expected sheet$([ "$features" = product ] || echo ' (of `before` area and arrival; it is left out where it refuses the sheets)'). A ratio is the product's time
+over the other's. \`typical\` is a usual problem; \`chain\` and \`comb\` are the worst that were found
+before inputs could be exchanged; \`deep\` has nearly nothing to find and the deepest choice; \`full\` and
+\`crosscomb\` have many crossings; \`driven\` is \`typical\` with all leaves driven; \`part\` has 16 trees
+of the kind of \`typical\`, and \`deep_part\` 16 of the kind of \`deep\`, linked.
 
-The judges are timed on the longest sound library, the longest sound tree, whose leaves are all driven, and the same tree with plain leaves; the judge of functions on a library as long and its function sheet, all of it right (\`longest_functions\`). Beside the product stand the separate implementation, which keeps what it reads and works a drawing out setting by setting (\`reference\`), and judges
-written by hand for speed, which take each field from one word of 64 bits (a function of six pins from two), check every rule, keep nothing but what each drawing computes and each cell's counts, and divide places, which the product must not (\`reference/src/wordwise.rs\`, \`wordwise\`).
+The judges are timed on the longest sound library, the longest sound tree, whose leaves are all driven,
+and the same tree with plain leaves; the judge of functions on a library as long and its function sheet,
+all of it right (\`longest_functions\`). Beside the product stand the separate implementation, which keeps
+what it reads and works a drawing out setting by setting (\`reference\`), and judges written by hand for
+speed, which take each field from one word of 64 bits (a function of six pins from two), check every rule,
+keep nothing but what each drawing computes and each cell's counts, and divide places, which the product
+must not (\`reference/src/wordwise.rs\`, \`wordwise\`).
 
-The bars that we set: on chain and comb no more instructions than before inputs could be exchanged; on full and crosscomb at most 1.25 times plain Rust with all savings
-(crossings that are ruled out together, points that are kept, matches that are passed over: \`plain_kept\`); faster than merging on every row but deep; for the judges of sheets half of the time
-that they took while a field was read bit by bit, and a quarter as the goal; for a part of 16 typical trees at most 1.1 of the time of 16 calls of map.
+The bars that we set: on chain and comb no more instructions than before inputs could be exchanged; on
+full and crosscomb at most 1.25 times plain Rust with all savings (crossings that are ruled out together,
+points that are kept, matches that are passed over: \`plain_kept\`); faster than merging on every row but
+deep; for the judges of sheets half of the time that they took while a field was read bit by bit, and a
+quarter as the goal; for a part of 16 typical trees at most 1.1 of the time of 16 calls of map.
 
 \`\`\`
 $("$bench")
 \`\`\`
 
-Instructions for one map, by callgrind. Bytes made zero by one repeated instruction count once for each byte: for the product some 250,000 in every row.
+Instructions for one map, by callgrind. Bytes made zero by one repeated instruction count once for each
+byte: for the product some 250,000 in every row.
 
 $(table "$mappers" "$rows")
 
-Instructions for the parts of 16 trees, by callgrind: the part operation, the same trees mapped by 16 calls of map with the arrivals put in (\`maps\`), and plain Rust and merging with the part.
+Instructions for the parts of 16 trees, by callgrind: the part operation, the same trees mapped by 16
+calls of map with the arrivals put in (\`maps\`), and plain Rust and merging with the part.
 
 $(table "$parts" "part deep_part")
 
@@ -74,17 +89,20 @@ Instructions for one judgement, by callgrind.
 
 $(table "$judges" "$sheets")
 
-The greatest stack, by massif, in bytes, of which main and the benchmark have a small part. The bar that we set is 512 KB.
+The greatest stack, by massif, in bytes, of which main and the benchmark have a small part. The bar that
+we set is 512 KB.
 
 | row | map | judge of its cover |
 |---|---|---|
 $(for row in $rows; do echo "| $row | $(stack product "$row") | $(stack judge "$row") |"; done)
 
-The judge of functions, on \`longest_functions\`: $(stack product longest_functions). The part operation, on \`part\` and \`deep_part\`: $(stack product part), $(stack product deep_part).
+The judge of functions, on \`longest_functions\`: $(stack product longest_functions). The part operation, on \`part\` and \`deep_part\`:
+$(stack product part), $(stack product deep_part).
 
 ## Agreement on fresh cases
 
-Number and place or length, every byte of the output and every word of the work area, both filled with random values before. Fresh sheets are judged by \`wordwise\` too.
+Number and place or length, every byte of the output and every word of the work area, both filled with
+random values before. Fresh sheets are judged by \`wordwise\` too.
 
 \`\`\`
 $ fresh map 200000 31
