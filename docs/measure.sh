@@ -42,20 +42,22 @@ cat <<TEXT
 # Measurements
 
 Printed by \`docs/measure.sh GATE_LOG\`, where GATE_LOG is the output of \`.ci/run\`. The machine's speed
-changes from run to run, so ratios within a
-run say more than times. Processor: $(lscpu | awk -F': *' '/^Model name/ { print $2; exit }'), $(nproc) processors.
+changes from run to run, so ratios within a run say more than times.
+Processor: $(lscpu | awk -F': *' '/^Model name/ { print $2; exit }'), $(nproc) processors.
 
 ## Map and the judges
 
 The proved map through the C interface; the same algorithm in plain Rust (\`reference/src/deadline\`),
 which works every point out anew (\`plain\`) or keeps a match's last point while it is in time, and passes
 over a match whose last point is not below the least so far (\`plain_kept\`); the separate implementation,
-which merges whole curves (\`merging\`)$([ "$features" = product ] || echo '; and the static library of the delivery before (`before`)'). All built for release, on the same bytes, taking turns in one
-run (medians of 31 rounds), each answer compared with the expected sheet$([ "$features" = product ] || echo ' (of `before` area and arrival; it is left out where it refuses the sheets)'). A ratio is the product's time
-over the other's. \`typical\` is a usual problem; \`chain\` and \`comb\` are the worst that were found
-before inputs could be exchanged; \`deep\` has nearly nothing to find and the deepest choice; \`full\` and
-\`crosscomb\` have many crossings; \`driven\` is \`typical\` with all leaves driven; \`part\` has 16 trees
-of the kind of \`typical\`, and \`deep_part\` 16 of the kind of \`deep\`, linked.
+which merges whole curves (\`merging\`)$([ "$features" = product ] || echo '; and the static library of the delivery before (`before`)').
+All built for release, on the same bytes, taking turns in one run (medians of 31 rounds), each answer compared
+with the expected sheet$([ "$features" = product ] || echo ' (of `before` area and arrival; it is left out where it refuses the sheets)').
+A ratio is the product's time over the other's. \`typical\` is a usual problem; \`chain\` and \`comb\` are
+the worst that were found before inputs could be exchanged; \`deep\` has nearly nothing to find and the
+deepest choice; \`full\` and \`crosscomb\` have many crossings; \`driven\` is \`typical\` with all leaves
+driven; \`part\` has 16 trees of the kind of \`typical\`, and \`deep_part\` 16 of the kind of \`deep\`,
+linked.
 
 The judges are timed on the longest sound library, the longest sound tree, whose leaves are all driven,
 and the same tree with plain leaves; the judge of functions on a library as long and its function sheet,
