@@ -12,12 +12,12 @@ use Rattle.fields.specs.Reading.{Live}
 use Rattle.shapes_rules.specs.declared.Rules.{Rules}
 use Rattle.shapes.specs.declared.NodeCode.the-variants.{Code, Faulty}
 use Rattle.shapes_rules.specs.Drawing.{plainBits, leafBits, leafNode, drivenNode}
-use Rattle.shapes.specs.Inside.Promises.{Met, outcome, cursorOf, nextOf, pinsOf, codeGot, Reached, reached, Inside, Room, LeafRoom, CodeRead, LeafRead, NodeRead, PairRead, WordsAfter}
+use Rattle.shapes.specs.Inside.Promises.{Met, outcome, cursorOf, nextOf, pinsOf, codeGot, Reached, reached, InOpening, Room, LeafRoom, CodeRead, LeafRead, NodeRead, PairRead, WordsAfter}
 use Rattle.shapes.proofs.Laws.{outcome-dead, outcome-place, counted-cursor, counted-next, counted-pins}
 use Rattle.shapes.proofs.Marks.{met-gate}
 use Rattle.shapes.proofs.Drawn.{node-refused, node-leaf, node-driven, node-inv, node-nand, dead-read, pair-read}
 
-pub room-inside : {e : List ℕ} {bytes : ℕ} {rules : Rules} {words l : List ℕ} → Room e bytes rules words l → Inside words
+pub room-inside : {e : List ℕ} {bytes : ℕ} {rules : Rules} {words l : List ℕ} → Room e bytes rules words l → InOpening words
 unfolding placeOf
 room-inside r = (r .long, r .used, omega (arith, r .near))
 

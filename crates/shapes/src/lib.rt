@@ -13,7 +13,7 @@ ghost use Rattle.bits.specs.Inside.Promises.{Opened};
 ghost use lib.ListN.{length, getD};
 ghost use Rattle.fields.specs.Reading.{place};
 ghost use Rattle.shapes_rules.specs.Drawing.{codeVerdict, nodeBits};
-ghost use Rattle.shapes.specs.Inside.Promises.{reach, ruled, verdictOf, faultOf, markVerdict, outcome, cursorOf, stoodAt, pinsOf, Marked, allMarked, Followed, Inside, LeafRoom, Room, CodeDone, LeafDone, DrivenDone, NodeDone, PairDone, ShapeIs, Preorder, SizesSet};
+ghost use Rattle.shapes.specs.Inside.Promises.{reach, ruled, verdictOf, faultOf, markVerdict, outcome, cursorOf, stoodAt, pinsOf, Marked, allMarked, Followed, InOpening, LeafRoom, Room, CodeDone, LeafDone, DrivenDone, NodeDone, PairDone, ShapeIs, Preorder, SizesSet};
 
 // A shape that was read: the scan after it, how many nodes it has, and whether it is a pattern in which each pin up to the greatest stands at a leaf.
 pub struct ShapeRead {
@@ -117,7 +117,7 @@ fn read_code(
     rules: Rules,
     words: &mut [usize; Words::COUNT],
 ) -> NodeCode
-    requires { ⌜ Opened (now opening) bytes × Inside (now words) ⌝ }
+    requires { ⌜ Opened (now opening) bytes × InOpening (now words) ⌝ }
     ensures { λ r. ⌜ CodeDone (now (opening .entry)) bytes rules (now (words .entry)) (now (words .exit)) r ⌝ }
 {
     let at = stood(words);

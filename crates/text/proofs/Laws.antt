@@ -102,14 +102,14 @@ not-negative (negsuc n) t = absurd (true≢false t)
 
 -- A negative integer of 32 bits taken from 0 in 64 bits.
 module _ (z : ℤ) (f : SFits w32 z) where
-  abbrev taken : ℤ
-  taken = pos 0 -ℤ toZ w64 (ofZ w64 z)
+  abbrev opposite : ℤ
+  opposite = pos 0 -ℤ toZ w64 (ofZ w64 z)
 
   -- What the subtraction asks, what the cast to an unsigned number asks, and that the result is how far the integer is from 0.
   pub record Negated : Type 0 where
-    pub subtracts : SFits w64 taken
-    pub casts : T (nonNeg (toZ w64 (ofZ w64 taken))) × Fits w64 (natAbs (toZ w64 (ofZ w64 taken)))
-    pub result : natAbs (toZ w64 (ofZ w64 taken)) ≡ natAbs z
+    pub subtracts : SFits w64 opposite
+    pub casts : T (nonNeg (toZ w64 (ofZ w64 opposite))) × Fits w64 (natAbs (toZ w64 (ofZ w64 opposite)))
+    pub result : natAbs (toZ w64 (ofZ w64 opposite)) ≡ natAbs z
 
   pub fits-wide : SFits w64 z
   fits-wide = record { sfits = omega (arith, f .sfits) }
@@ -118,9 +118,9 @@ module _ (z : ℤ) (f : SFits w32 z) where
   negated t =
       let (k, e) = is-negative z t in
       let small : k < 2147483648 = omega (arith, f .sfits, ap mag e) in
-      let taken-is : taken ≡ pos (suc k) = ap (λ (v : ℤ). pos 0 -ℤ v) (toZ-ofZ w64 z fits-wide ∙ e) ∙ ap pos (zero-add (suc k)) in
-      let fits : SFits w64 taken = subst (SFits w64) (sym taken-is) (record { sfits = omega arith }) in
-      let read : toZ w64 (ofZ w64 taken) ≡ pos (suc k) = toZ-ofZ w64 taken fits ∙ taken-is in
+      let opposite-is : opposite ≡ pos (suc k) = ap (λ (v : ℤ). pos 0 -ℤ v) (toZ-ofZ w64 z fits-wide ∙ e) ∙ ap pos (zero-add (suc k)) in
+      let fits : SFits w64 opposite = subst (SFits w64) (sym opposite-is) (record { sfits = omega arith }) in
+      let read : toZ w64 (ofZ w64 opposite) ≡ pos (suc k) = toZ-ofZ w64 opposite fits ∙ opposite-is in
       record {
         subtracts = fits;
         casts = subst (λ (v : ℤ). T (nonNeg v) × Fits w64 (natAbs v)) (sym read) (tt, record { fits = omega arith });

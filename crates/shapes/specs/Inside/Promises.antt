@@ -98,8 +98,8 @@ pub record Followed (rules : Rules) : Type 0 where
   pub pins : rules .pattern ≡ true → rules .most ≤ 12
 
 -- The cursor stands in the opening, with a word from its byte on.
-abbrev pub Inside : List ℕ → Type 0
-Inside words = (length words ≡ 16) × (getD words 1 0 < 8) × (getD words 0 0 ≤ 252)
+abbrev pub InOpening : List ℕ → Type 0
+InOpening words = (length words ≡ 16) × (getD words 1 0 < 8) × (getD words 0 0 ≤ 252)
 
 -- What the readers are lent: an opening of some bytes, room for every node, and the words.
 pub record Room (e : List ℕ) (bytes : ℕ) (rules : Rules) (words l : List ℕ) : Type 0 where
