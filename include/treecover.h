@@ -88,7 +88,7 @@ uint64_t treecover_map_part(const uint8_t *library, size_t library_len, const ui
 
 /*
  * Judges a cover sheet: TREECOVER_ACCEPTED + area * 2^24 + arrival if it is that of a legal cover of the tree by the library's cells, late or
- * not, with its true area and arrival; or a refusal, the library's (2 to 6), the tree's (12 to 16), 22, 23 or 24.
+ * not, with its true area and arrival; or a refusal, the library's (2 to 6), the tree's (12 to 14 and 16), 22, 23 or 24.
  */
 uint64_t treecover_judge_cover(const uint8_t *library, size_t library_len, const uint8_t *tree, size_t tree_len,
                                const uint8_t *cover, size_t cover_len);

@@ -22,7 +22,7 @@ use Rattle.covers.specs.Promise.{RootCover, cellArea, listedArea}
 use Rattle.covers.proofs.Ascending.{Ascending, end, then, ascending-append}
 use Rattle.covers.proofs.Listing.{known-patterns, area-listed}
 use Rattle.bill_rules.specs.Bill.{Entry, uses, entryOf, entriesBelow, summed, amounts, counts, margin, bill}
-use Rattle.bill_rules.specs.Demands.{BillIs}
+use Rattle.bill_rules.specs.Demands.{BillIs, BillSums}
 use Rattle.bill_rules.proofs.Counting.{used-by, by-used, weighed, weights, weighed-all}
 
 -- ---- sums of lines
@@ -196,13 +196,14 @@ module _ {l : Library} (t : Tree) {c : Cover} (sound : SoundLibrary l) (legal : 
   pub bill-is : BillIs l t c (bill l t c)
   unfolding bill margin entryOf
   bill-is = record {
-    total-area = amounts-are ∙ sym (area-listed l legal);
-    total-matches = amounts-are;
-    total-lines = refl;
-    counts-matches = counts-are;
     ascending = λ j k. ascending-at (λ (e : Entry). e .cell) j k (entries-ascend l xs cells);
     used = used;
     counted = λ e m. let r = entry-from l xs cells m in rw (r .entry-is);
     amounted = λ e m. let r = entry-from l xs cells m in rw (r .entry-is);
+    total-lines = refl;
     margin-is = -ℤ-+ℤ-cancel (pos (t .required)) (pos (c .point .arrival));
   }
+
+  pub bill-sums : BillSums l c (bill l t c)
+  unfolding bill
+  bill-sums = record { total-area = amounts-are ∙ sym (area-listed l legal); total-matches = amounts-are; counts-matches = counts-are }

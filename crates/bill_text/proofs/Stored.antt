@@ -5,7 +5,7 @@ use mathlib.Core.List.{List, _++_, flatMap, List·Memᴰ}
 use native.Mathlib.Omega.{arith}
 use lib.IntN.{ℤ}
 use lib.ListN.{length, length-append}
-use Rattle.fields.specs.Reading.{Live, start}
+use Rattle.fields.specs.Reading.{start}
 use Rattle.fields.specs.Answer.{success}
 use Rattle.sheets_rules.specs.declared.LibraryRead.{LibraryRead}
 use Rattle.sheets_rules.specs.declared.LibraryRecord.{LibraryRecord}
@@ -16,7 +16,10 @@ use Rattle.sheets_rules.specs.LibrarySheet.{library as libraryOf}
 use Rattle.sheets_rules.specs.TreeSheet.{tree as treeOf}
 use Rattle.sheets_rules.specs.Inside.Layout.{libraryLaid, treeLaid}
 use Rattle.sheets_rules.specs.Inside.Readers.{LibraryIs, TreeIs}
-use Rattle.sheets_rules.proofs.Sound.{library-limits, tree-limits}
+use Rattle.sheets_rules.specs.Inside.Sound.{LibraryStored, TreeStored}
+use Rattle.sheets_rules.specs.Report.{librarySaid, treeSaid}
+use Rattle.sheets_rules.proofs.Sound.{library-limits, tree-limits, library-said, tree-said}
+use Rattle.fields.proofs.Answer.{says-holds}
 use Rattle.sheets_rules.proofs.Patterns.{cell-below, area-small, row-in, cell-told, area-told}
 use Rattle.covers.specs.Cover.{Point, Placed, Cover}
 use Rattle.covers.specs.Promise.{RootCover}
@@ -94,19 +97,19 @@ module _ {l : Library} {t : Tree} {rows : List ℕ} {cells : ℕ} {cover : Cover
 
 -- ---- what is read of an accepted cover
 
-module _ {ls ts cs : List ℕ} {p : Point} (accepts : judgement ls ts cs ≡ success p) {library : LibraryRead} {tree : TreeRead} {cover : CoverRead} (hl : LibraryIs ls library) (ht : TreeIs ts tree) (hc : CoverIs cs cover) where
+module _ (ls ts cs : List ℕ) {p : Point} (accepts : judgement ls ts cs ≡ success p) {library : LibraryRead} (tree : TreeRead) {cover : CoverRead} (hl : LibraryIs ls library) (ht : TreeIs ts tree) (hc : CoverIs cs cover) where
   pub stored-read : BillStored (libraryOf ls start .0) (treeOf ts start .0) (library .library .rows) (library .library .count) (cover .cover) (tree .tree .required)
   unfolding libraryLaid treeLaid
   stored-read =
       let found = accepted ls ts cs p accepts in
-      let laid = hl .laid (subst Live (sym (hl .scan-is)) (found .library-live)) in
+      let laid = says-holds LibraryStored (librarySaid ls) (library .finding) (library .library) (hl .said) (libraryOf ls start .0) (library-said ls (found .library-live)) .library-is in
       record {
         sound = library-limits ls (found .library-live);
         tree = tree-limits ts (found .tree-live);
         legal = subst (RootCover (libraryOf ls start .0) (treeOf ts start .0)) (sym (hc .cover-is)) (found .legal);
         rows-are = ap (λ (r : LibraryRecord). r .rows) laid;
         cells-are = ap (λ (r : LibraryRecord). r .count) laid;
-        required-is = ap (λ (r : TreeRecord). r .required) (ht .laid (subst Live (sym (ht .scan-is)) (found .tree-live)));
+        required-is = ap (λ (r : TreeRecord). r .required) (says-holds TreeStored (treeSaid ts) (tree .finding) (tree .tree) ht (treeOf ts start .0) (tree-said ts (found .tree-live)) .tree-is);
         count-small = hc .few;
       }
 

@@ -17,10 +17,10 @@ ghost use Rattle.result_sheets.specs.Public.{coverOf, Written};
 ghost use Rattle.judge_rules.specs.Judgement.{judgement};
 ghost use Rattle.text.specs.Inside.Promises.{Appended};
 ghost use Rattle.frame.specs.Framed.{outcomeText};
-ghost use Rattle.bill_rules.specs.Bill.{margin as marginOf, bill};
-ghost use Rattle.bill_rules.specs.Billed.{totalLine, marginLine, billText, billShown, longestBill, billedWithin};
+ghost use Rattle.bill_rules.specs.Bill.{margin as marginOf};
+ghost use Rattle.bill_rules.specs.Billed.{totalLine, marginLine, billShown, longestBill, billedWithin};
 ghost use Rattle.bill_rules.specs.Demands.{BilledWhereWhole};
-ghost use Rattle.bill_text.specs.Inside.Promises.{entryText, Countable, TallyIs, Tallied, EntriesPut, BillStored};
+ghost use Rattle.bill_text.specs.Inside.Promises.{entryText, Countable, Tallies, Tallied, TallyPut, BillStored, BillPut};
 
 // How many lengths an input has: library, tree and cover sheet.
 struct Input {}
@@ -55,7 +55,7 @@ pub struct Put {
 // Counts the matches of a cover by their cells.
 fn count_cells(cover: CoverRecord, rows: &[u32]) -> Tally
     requires { ⌜ (cover .count < 2 ^ matchCountWidth) × ((l : Library) × Countable l (now rows) (coverOf cover .placed)) ⌝ }
-    ensures { λ r. ⌜ ((l : Library) → Countable l (now (rows .entry)) (coverOf cover .placed) → TallyIs l (coverOf cover .placed) (r .counts) (r .amounts)) ⌝ }
+    ensures { λ r. ⌜ Tallies (now (rows .entry)) (coverOf cover .placed) r ⌝ }
 {
     let count = cover.count;
     let patterns = cover.patterns;
@@ -87,7 +87,7 @@ fn put_entry(text: &mut [u8], at: usize, cell: usize, count: u32, amount: u32) -
 // A line for each of `cells` cells that is used.
 fn put_entries(text: &mut [u8], tally: Tally, cells: usize) -> Put
     requires { ⌜ ((l : Library) × ((xs : List Placed) × Tallied l xs (tally .counts) (tally .amounts) cells (now text))) ⌝ }
-    ensures { λ r. ⌜ ((l : Library) (xs : List Placed) → Tallied l xs (tally .counts) (tally .amounts) cells (now (text .entry)) → EntriesPut l xs cells (now (text .entry)) (now (text .exit)) r) ⌝ }
+    ensures { λ r. ⌜ TallyPut tally cells (now (text .entry)) (now (text .exit)) r ⌝ }
 {
     let counts = tally.counts;
     let amounts = tally.amounts;
@@ -133,7 +133,7 @@ fn margin_of(required: u32, arrival: u32) -> i32
 // The bill of a legal cover.
 fn put_bill(text: &mut [u8], rows: &[u32], cells: usize, cover: CoverRecord, required: u32) -> usize
     requires { ⌜ (longestBill ≤ length (now text)) × ((l : Library) × ((t : Tree) × BillStored l t (now rows) cells cover required)) ⌝ }
-    ensures { λ r. ⌜ ((l : Library) (t : Tree) → BillStored l t (now (rows .entry)) cells cover required → Appended (billText (bill l t (coverOf cover))) (now (text .entry)) 0 (now (text .exit)) r) ⌝ }
+    ensures { λ r. ⌜ BillPut (now (rows .entry)) cells cover required (now (text .entry)) (now (text .exit)) r ⌝ }
 {
     let margin = margin_of(required, cover.arrival);
     let tally = count_cells(cover, rows);
@@ -165,7 +165,7 @@ fn put_judged(text: &mut [u8], library: &[u8], tree: &[u8], cover: &[u8]) -> usi
 {
     let judged = judge::judge_cover(library, tree, cover);
     match judged {
-        CoverJudged::Refused(number, place) => frame::put_refusal(text, number, place),
+        CoverJudged::Refused(refusal) => frame::put_refusal(text, refusal),
         CoverJudged::Accepted(_, _) => put_accepted(text, library, tree, cover),
     }
 }

@@ -36,7 +36,8 @@ use Rattle.curves.specs.Inside.Words.{absent, pointLimit, tableOf}
 use Rattle.curves.specs.Inside.Best.{hitAt, patternOf, legalBest, HitKnown}
 use Rattle.curves.specs.Inside.Promises.{Worth}
 use Rattle.curves.proofs.Laws.{part-length}
-use Rattle.filling.proofs.Hits.{legal-is, hit-is-match}
+use Rattle.cells.proofs.Laws.{legal-is}
+use Rattle.filling.proofs.Hits.{hit-is-match}
 use Rattle.filling.proofs.Node.{noMatch, here, node-within, gate-here, FoundIs, match-in, found-at, hits-ready}
 use Rattle.choosing.specs.declared.Goal.{Goal}
 use Rattle.choosing.specs.declared.Inputs.{Inputs}

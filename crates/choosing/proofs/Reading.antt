@@ -1,25 +1,26 @@
 -- Which hit reaches a word, and the inputs read from a hit.
-use mathlib.Core.Path.{_≡_, sym, ap, ap₂, subst, _∙_}
+use mathlib.Core.Path.{_≡_, sym, ap, _∙_}
 use mathlib.Core.Logic.{_⊎_, inl, inr}
 use mathlib.Core.Option.{Option, some, Option·none-ne-some, Option·some-injective}
 use mathlib.Core.List.{List}
-use Prim.Native.Nat.{ℕ, _+_, _-_, _*_, _≤_, _<_}
+use Prim.Native.Nat.{ℕ, _+_, _-_, _≤_, _<_}
 use native.Mathlib.Decide.{ℕ-discrete}
 use native.Mathlib.Omega.{arith}
 use lib.ListN.{length, getD, set}
 use lib.Seq.{getD-set-same, getD-set-other}
 use Rattle.sheets_rules.specs.Model.{Library}
-use Rattle.sheets_rules.specs.Inside.Layout.{figuresAt, pinWords}
-use Rattle.covers.specs.Match.{Match, delay, pinAt}
-use Rattle.covers.specs.Cover.{Point, feeds, inputDelay}
+use Rattle.covers.specs.Match.{Match}
+use Rattle.covers.specs.Cover.{Point, feeds}
 use Rattle.covers.specs.Inside.Curve.{pointOf, wordOf}
 use Rattle.covers.proofs.Basics.{lt-or-le}
 use Rattle.fields.proofs.Lists.{at-mem}
-use Rattle.overlay.specs.Inside.Promises.{PinStored}
+use Rattle.cells.specs.declared.PinFigures.{PinFigures}
+use Rattle.cells.specs.Inside.Cell.{delayOf, figuresOf}
+use Rattle.cells.proofs.Laws.{figures-are, delay-is}
 use Rattle.matching.specs.Inside.Found.{inputPlace, hitOf}
 use Rattle.matching.proofs.Written.{length-hit, hit-pin, hit-node}
 use Rattle.curves.specs.Inside.Words.{absent, pointLimit, matchLimit}
-use Rattle.curves.specs.Inside.Best.{hitCount, inputNode, inputBin, inputLoad, inputIntrinsic, inputDrive}
+use Rattle.curves.specs.Inside.Best.{hitCount, inputNode, inputFigures}
 use Rattle.curves.specs.Inside.Promises.{Worth}
 use Rattle.curves.proofs.Laws.{word-point}
 use Rattle.choosing.specs.declared.Goal.{Goal}
@@ -64,33 +65,31 @@ module _ (l : Library) (pattern hit : List ℕ) (m : Match) (holds : HitHolds l 
   unfolding hitOf
   crossing-at = holds .words 1 (omega arith)
 
-  goal-read : (load t k x : ℕ) → k < length (m .inputs) → x ≡ t - (inputIntrinsic pattern hit k + inputDrive pattern hit k * load) →
-      record { node = inputNode pattern hit k; load = inputLoad pattern hit k; bin = inputBin pattern hit k; time = x } ≡ goalOf l m load t (getD (m .inputs) k noInput)
-  unfolding inputDelay delay feeds
-  goal-read load t k x h e =
-      let i = getD (m .inputs) k noInput in
-      let pin-is : getD hit (inputPlace k) 0 ≡ i .pin = holds .words (inputPlace k) (omega (arith, length-hit m)) ∙ hit-pin m k h in
-      let node-is : getD hit (inputPlace k + 1) 0 ≡ i .node = holds .words (inputPlace k + 1) (omega (arith, length-hit m)) ∙ hit-node m k h in
-      let p = pinAt (m .pattern .cell) (i .pin) in
-      let f : PinStored l pattern (figuresAt + pinWords * getD hit (inputPlace k) 0) p =
-      subst (λ y. PinStored l pattern (figuresAt + pinWords * y) p) (sym pin-is) (holds .stored .pins-are (i .pin) (holds .pinned i (at-mem (m .inputs) k noInput h))) in
-      goal-path node-is (f .load-is) (f .bin-is) (e ∙ ap₂ (λ (a b : ℕ). t - (a + b * load)) (f .intrinsic-is) (f .drive-is))
+  -- Input k, from its pin's figures and what they leave of the time.
+  module _ (load t k x : ℕ) (pin : PinFigures) (pin-read : pin ≡ inputFigures pattern hit k) (e : x ≡ t - delayOf pin load) where
+    goal-read : k < length (m .inputs) → record { node = inputNode pattern hit k; load = pin .load; bin = pin .bin; time = x } ≡ goalOf l m load t (getD (m .inputs) k noInput)
+    unfolding figuresOf
+    goal-read h =
+        let i = getD (m .inputs) k noInput in
+        let pin-is : getD hit (inputPlace k) 0 ≡ i .pin = holds .words (inputPlace k) (omega (arith, length-hit m)) ∙ hit-pin m k h in
+        let node-is : getD hit (inputPlace k + 1) 0 ≡ i .node = holds .words (inputPlace k + 1) (omega (arith, length-hit m)) ∙ hit-node m k h in
+        let f : pin ≡ figuresOf l (feeds (m .pattern .cell) i) = pin-read ∙ figures-are (holds .stored) i (holds .pinned i (at-mem (m .inputs) k noInput h)) pin-is in
+        goal-path node-is (ap (λ (q : PinFigures). q .load) f) (ap (λ (q : PinFigures). q .bin) f) (e ∙ ap (λ (q : PinFigures). t - delayOf q load) f ∙ ap (λ (d : ℕ). t - d) (delay-is l (m .pattern .cell) load i))
 
-  -- One input more.
-  pub inputs-turn : (load t k x : ℕ) (nodes loads bins times : List ℕ) → k < hitCount hit → length nodes ≡ 6 → length loads ≡ 6 → length bins ≡ 6 → length times ≡ 6 →
-      x ≡ t - (inputIntrinsic pattern hit k + inputDrive pattern hit k * load) →
-      ((i : ℕ) → i < k → goalIn nodes loads bins times i ≡ goalOf l m load t (getD (m .inputs) i noInput)) →
-      (i : ℕ) → i < k + 1 →
-      goalIn (set nodes k (inputNode pattern hit k)) (set loads k (inputLoad pattern hit k)) (set bins k (inputBin pattern hit k)) (set times k x) i ≡ goalOf l m load t (getD (m .inputs) i noInput)
-  inputs-turn load t k x nodes loads bins times h ln ll lb lt e old i g = go (lt-or-le i k)
-    where
-      go : (i < k) ⊎ (k ≤ i) →
-          goalIn (set nodes k (inputNode pattern hit k)) (set loads k (inputLoad pattern hit k)) (set bins k (inputBin pattern hit k)) (set times k x) i ≡ goalOf l m load t (getD (m .inputs) i noInput)
-      go (inl z) =
-          let ne : i ≡ k → ⊥ = λ q. omega arith in
-          goal-path (getD-set-other nodes k i _ 0 ne) (getD-set-other loads k i _ 0 ne) (getD-set-other bins k i _ 0 ne) (getD-set-other times k i _ 0 ne) ∙ old i z
-      go (inr z) =
-          let same : i ≡ k = omega arith in
-          let few : k < 6 = omega (arith, holds .few, count-at) in
-          rw same (goal-path (getD-set-same nodes k _ 0 (omega arith)) (getD-set-same loads k _ 0 (omega arith)) (getD-set-same bins k _ 0 (omega arith)) (getD-set-same times k _ 0 (omega arith))
-          ∙ goal-read load t k x (omega (arith, count-at)) e)
+    -- One input more.
+    pub inputs-turn : (nodes loads bins times : List ℕ) → k < hitCount hit → length nodes ≡ 6 → length loads ≡ 6 → length bins ≡ 6 → length times ≡ 6 →
+        ((i : ℕ) → i < k → goalIn nodes loads bins times i ≡ goalOf l m load t (getD (m .inputs) i noInput)) →
+        (i : ℕ) → i < k + 1 →
+        goalIn (set nodes k (inputNode pattern hit k)) (set loads k (pin .load)) (set bins k (pin .bin)) (set times k x) i ≡ goalOf l m load t (getD (m .inputs) i noInput)
+    inputs-turn nodes loads bins times h ln ll lb lt old i g = go (lt-or-le i k)
+      where
+        go : (i < k) ⊎ (k ≤ i) →
+            goalIn (set nodes k (inputNode pattern hit k)) (set loads k (pin .load)) (set bins k (pin .bin)) (set times k x) i ≡ goalOf l m load t (getD (m .inputs) i noInput)
+        go (inl z) =
+            let ne : i ≡ k → ⊥ = λ q. omega arith in
+            goal-path (getD-set-other nodes k i _ 0 ne) (getD-set-other loads k i _ 0 ne) (getD-set-other bins k i _ 0 ne) (getD-set-other times k i _ 0 ne) ∙ old i z
+        go (inr z) =
+            let same : i ≡ k = omega arith in
+            let few : k < 6 = omega (arith, holds .few, count-at) in
+            rw same (goal-path (getD-set-same nodes k _ 0 (omega arith)) (getD-set-same loads k _ 0 (omega arith)) (getD-set-same bins k _ 0 (omega arith)) (getD-set-same times k _ 0 (omega arith))
+            ∙ goal-read (omega (arith, count-at)))

@@ -2,23 +2,20 @@
 use curves::Words;
 use matching::Hit;
 use result_sheets::CoverRecord;
+use shapes_rules::Packed;
 use sheets_rules::Limits;
 use sheets_rules::PatternRow;
+use sheets_rules::Slots;
 ghost use mathlib.Core.Path.{_≡_};
 ghost use mathlib.Core.List.{[], _∷_};
-ghost use mathlib.Core.Option.{some};
-ghost use Prim.Native.Nat.{suc, _+_, _-_, _*_, _<_, _≤_};
+ghost use Prim.Native.Nat.{_-_, _<_, _≤_};
 ghost use lib.ListN.{length, getD};
 ghost use Rattle.sheets_rules.specs.Model.{Shape, Library, Tree};
 ghost use Rattle.sheets_rules.specs.Inside.Layout.{rowWords};
-ghost use Rattle.covers.specs.Match.{Match};
-ghost use Rattle.covers.specs.Cover.{Point, Cover};
-ghost use Rattle.covers.specs.Enumeration.{covers};
-ghost use Rattle.covers.specs.Choice.{least, firstReaching, choice};
 ghost use Rattle.curves.specs.Inside.Words.{pointLimit};
 ghost use Rattle.curves.specs.Inside.Best.{HitSafe, Matches};
 ghost use Rattle.matching.specs.Inside.Found.{matchBytes};
-ghost use Rattle.choosing.specs.Inside.Promises.{FirstHit, HitHolds, goalAt, InputsAre, Prepared, Driven, Chooses, appended};
+ghost use Rattle.choosing.specs.Inside.Promises.{FirstHit, InputsRead, goalAt, Prepared, Driven, MatchChosen, Chooses, appended, CoverChosen};
 
 // What is asked of a node: the load that it drives, the bin of that load and the time by which it is to arrive. At the root, whose load need
 // not be that of a bin, bin 0 has the curve.
@@ -34,10 +31,10 @@ pub struct Inputs {
     pub pattern: u8,
     pub crossing: u8,
     pub count: usize,
-    pub nodes: [u8; 6],
-    pub loads: [u8; 6],
-    pub bins: [u8; 6],
-    pub times: [u32; 6],
+    pub nodes: [u8; Slots::PINS],
+    pub loads: [u8; Slots::PINS],
+    pub bins: [u8; Slots::PINS],
+    pub times: [u32; Slots::PINS],
 }
 
 // The first match, in the order of pattern numbers and then of crossing numbers, that reaches the area and the arrival of `w`.
@@ -75,12 +72,10 @@ fn first_reaching(
     j
 }
 
-// What is left of a time for an input of a pin, under the load that its match drives.
-fn time_left(time: u32, intrinsic: u32, drive: u32, load: u32) -> u32
-    requires { ⌜ (intrinsic ≤ 65535) × (drive ≤ 255) × (load ≤ 255) ⌝ }
-    ensures { λ r. ⌜ r ≡ time - (intrinsic + drive * load) ⌝ }
+// What is left of a time for an input whose pin adds a delay.
+fn time_left(time: u32, delay: u32) -> u32
+    ensures { λ r. ⌜ r ≡ time - delay ⌝ }
 {
-    let delay = intrinsic + drive * load;
     if time < delay {
         return 0;
     }
@@ -90,26 +85,21 @@ fn time_left(time: u32, intrinsic: u32, drive: u32, load: u32) -> u32
 // The inputs of a hit, which drives a load and is to arrive by `time`, with its pattern's row.
 fn read_inputs<'a>(pattern: &'a [u32], hit: &'a [u8], load: u32, time: u32) -> Inputs
     requires { ⌜ HitSafe (now pattern) (now hit) × (length (now pattern) ≡ rowWords) × (length (now hit) ≡ matchBytes) × (load ≤ 255) ⌝ }
-    ensures { λ r. ⌜ ((l : Library) (m : Match) → HitHolds l (now (pattern .entry)) (now (hit .entry)) m → InputsAre l m load time r) ⌝ }
+    ensures { λ r. ⌜ InputsRead (now (pattern .entry)) (now (hit .entry)) load time r ⌝ }
 {
-    let mut nodes = [0u8; 6];
-    let mut loads = [0u8; 6];
-    let mut bins = [0u8; 6];
-    let mut times = [0u32; 6];
+    let mut nodes = [0u8; Slots::PINS];
+    let mut loads = [0u8; Slots::PINS];
+    let mut bins = [0u8; Slots::PINS];
+    let mut times = [0u32; Slots::PINS];
     let count = hit[Hit::COUNT] as usize;
     let mut k: usize = 0;
     while k < count {
         let at = Hit::INPUTS + Hit::INPUT * k;
-        let figures = PatternRow::FIGURES + PatternRow::PIN * hit[at] as usize;
+        let pin = cells::pin_figures(pattern, hit[at] as usize);
         nodes[k] = hit[at + Hit::NODE];
-        loads[k] = pattern[figures + PatternRow::LOAD] as u8;
-        bins[k] = pattern[figures] as u8;
-        times[k] = time_left(
-            time,
-            pattern[figures + PatternRow::INTRINSIC],
-            pattern[figures + PatternRow::DRIVE],
-            load,
-        );
+        loads[k] = pin.load as u8;
+        bins[k] = pin.bin as u8;
+        times[k] = time_left(time, cells::delay(pin, load));
         k += 1;
     }
     Inputs {
@@ -134,8 +124,7 @@ fn choose_match<'a>(
     goal: Goal,
 ) -> Inputs
     requires { ⌜ ((l : Library) × ((t : Tree) × ((s : Shape) × (Prepared most l t (now rows) (now symbols) (now sizes) (length (now found)) (now work) × Driven l t goal s × (getD (now symbols) (goal .node) 0 < 2))))) ⌝ }
-    ensures { λ r. ⌜ ((l : Library) (t : Tree) (s : Shape) → Prepared most l t (now (rows .entry)) (now (symbols .entry)) (now (sizes .entry)) (length (now (found .entry))) (now (work .entry)) → Driven l t goal s →
-        (p : Point) → least (suc (goal .time)) (covers l (goal .load) (goal .node) s) ≡ some p → (m : Match) → firstReaching l (goal .load) (goal .node) s p ≡ some m → InputsAre l m (goal .load) (p .arrival) r) ⌝ }
+    ensures { λ r. ⌜ MatchChosen most (now (rows .entry)) (now (symbols .entry)) (now (sizes .entry)) (now (found .entry)) (now (work .entry)) goal r ⌝ }
 {
     let load = goal.load;
     let w = curves::look_up(
@@ -207,11 +196,10 @@ pub fn choose<'a>(
     cover: CoverRecord,
 ) -> CoverRecord
     requires { ⌜ ((l : Library) × ((t : Tree) × ((s : Shape) × Chooses most l t (now rows) (now symbols) (now sizes) (length (now found)) (now work) goal cover s))) ⌝ }
-    ensures { λ r. ⌜ ((l : Library) (t : Tree) (s : Shape) → Chooses most l t (now (rows .entry)) (now (symbols .entry)) (now (sizes .entry)) (length (now (found .entry))) (now (work .entry)) goal cover s →
-        (c : Cover) → choice l (goal .load) (goal .node) s (goal .time) ≡ some c → r ≡ appended cover (c .placed)) ⌝ }
+    ensures { λ r. ⌜ CoverChosen most (now (rows .entry)) (now (symbols .entry)) (now (sizes .entry)) (now (found .entry)) (now (work .entry)) goal cover r ⌝ }
 {
     let node = goal.node;
-    if 2 <= symbols[node] {
+    if Packed::LEAF <= symbols[node] {
         return cover;
     }
     let inputs = choose_match(rows, symbols, sizes, found, work, most, goal);

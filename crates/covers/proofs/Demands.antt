@@ -1,30 +1,27 @@
 -- Map and list meet the demands, from the bytes of the two sheets.
 use Prim.Native.Nat.{ℕ, _≤_, _<_}
-use mathlib.Core.Path.{_≡_, refl, sym, ap, ap₂, subst}
+use mathlib.Core.Path.{_≡_, refl, ap, subst, _∙_}
 use mathlib.Core.Logic.{⊎-elim}
 use mathlib.Core.List.{List, List·Memᴰ·head}
 use native.Mathlib.Omega.{arith}
 use lib.ListN.{length, drop}
 use lib.Seq.{take-at}
-use borrow.Author.Tests.{le-leb}
-use Rattle.bits.specs.declared.Cursor.{Cursor}
-use Rattle.fields.specs.declared.Scan.{Scan}
-use Rattle.fields.specs.declared.Scan.the-variants.{At}
-use Rattle.fields.specs.Reading.{Live, start}
-use Rattle.fields.specs.Answer.{Answer, refused, success, onSuccess}
+use Rattle.fields.specs.Answer.{Answer, refused, refusedIn, success, _>>=_, onSuccess}
+use Rattle.fields.proofs.Answer.{both-succeed, after-success}
 use Rattle.sheets_rules.specs.Model.{Library, Tree}
-use Rattle.sheets_rules.specs.LibrarySheet.{library}
-use Rattle.sheets_rules.specs.TreeSheet.{tree}
-use Rattle.sheets_rules.proofs.Sound.{library-limits, tree-limits}
-use Rattle.covers.specs.Capacity.{capacity, workWords}
+use Rattle.sheets_rules.specs.Report.{librarySaid, treeSaid}
+use Rattle.sheets_rules.proofs.Sound.{library-sound, tree-sound}
+use Rattle.covers.specs.Capacity.{capacity, workWords, allowed}
 use Rattle.covers.specs.Cover.{Point, Cover}
 use Rattle.covers.specs.Tradeoff.{Node, considered}
 use Rattle.covers.specs.CoverSheet.{coverSheet, listSheet, CoverReads, ListReads}
 use Rattle.covers.specs.Answer.{overfullNumber, mapAnswer, listAnswer}
-use Rattle.covers.specs.Outcome.{told, outputAfter, observed, withTree, withLibrary, lent, operation, mapBytes, listBytes, mapOutcome, listOutcome}
+use Rattle.covers.specs.Lending.{lent, told, outputAfter, observed}
+use Rattle.covers.specs.Outcome.{operation, mapBytes, listBytes, mapOutcome, listOutcome}
 use Rattle.covers.specs.Promise.{HighestTooMany, NoneTooMany, RootTradeoffs}
 use Rattle.covers.specs.Demands.{Demands, MapDemands, ListDemands, WhereSound}
 use Rattle.covers.proofs.Basics.{lt-or-le}
+use Rattle.covers.proofs.Lent.{allowed-is, lent-enough, enough-lent}
 use Rattle.covers.proofs.Nodes.{root-in}
 use Rattle.covers.proofs.ReadBack.{cover-reads, list-reads}
 use Rattle.covers.proofs.FromSheets.{cover-fits, list-fits}
@@ -32,7 +29,7 @@ use Rattle.covers.proofs.Promises.{Promise, too-many, none-wanted, righ
 
 -- Answers with different numbers differ; a success's is 0.
 number : {A : Type 0} → Answer A → ℕ
-number (refused n k) = n
+number (refusedIn i n k) = n
 number (success a) = 0
 
 module _ {most : ℕ} {l : Library} {t : Tree} where
@@ -79,24 +76,36 @@ few {most} {l} {t} {ps} n r = ⊎-elim (λ h. absurd (n root (root-in 0 (t .shap
     root : Node
     root = record { number = 0; shape = t .shape }
 
-sound : {s : Scan} {c : Cursor} → s ≡ At c → Live s
-sound e = subst Live (sym e) tt
-
 -- The caller sees the outcome.
 pub observed-is : (o : Answer (List ℕ)) (output : List ℕ) → observed (told o) (outputAfter o output) ≡ o
 unfolding observed told outputAfter onSuccess
-observed-is (refused n p) output = refl
+observed-is (refusedIn i n p) output = refl
 observed-is (success s) output = ap success (take-at s (drop (length s) output) (length s) refl)
 
 -- A sound library and a sound tree are answered, if what is lent is enough.
-answers : {A : Type 0} (least : ℕ) (f : ℕ → Library → Tree → Answer A) (ls ts : List ℕ) (output work : ℕ) (c c′ : Cursor) → least ≤ output → workWords capacity ≤ work → library ls start .1 ≡ At c → tree ts start .1 ≡ At c′ → operation least f ls ts output work ≡ f capacity (library ls start .0) (tree ts start .0)
-unfolding operation lent withLibrary withTree
-answers least f ls ts output work c c′ h g e e′ = rw (le-leb least output h, le-leb (workWords capacity) work g) (ap₂ (λ q r. withLibrary (f capacity) (library ls start .0, q) (tree ts start .0, r)) e e′)
+pub answers : {A : Type 0} (least : ℕ) (f : ℕ → Library → Tree → Answer A) (ls ts : List ℕ) (output work : ℕ) {l : Library} {t : Tree} → least ≤ output → workWords capacity ≤ work → librarySaid ls ≡ success l → treeSaid ts ≡ success t → operation least f ls ts output work ≡ f (allowed work) l t
+unfolding operation
+answers least f ls ts output work {l} {t} h g e e′ =
+    after-success (λ most. librarySaid ls >>= (λ l. treeSaid ts >>= (λ t. f most l t))) (lent-enough least output work h g)
+    ∙ after-success (λ l. treeSaid ts >>= (λ t. f (allowed work) l t)) e
+    ∙ after-success (λ t. f (allowed work) l t) e′
+
+-- Sheets that say the same tree are answered alike.
+pub operation-alike : {A : Type 0} (least : ℕ) (f : ℕ → Library → Tree → Answer A) (ls ts ts′ : List ℕ) (output work : ℕ) → treeSaid ts ≡ treeSaid ts′ → operation least f ls ts output work ≡ operation least f ls ts′ output work
+unfolding operation
+operation-alike least f ls ts ts′ output work e = ap (λ (o : Answer Tree). lent least output work >>= (λ most. librarySaid ls >>= (λ l. o >>= (λ t. f most l t)))) e
 
 pub map-demands : (ls ts : List ℕ) (output work : ℕ) → WhereSound MapDemands mapBytes ls ts output work (mapOutcome ls ts output work)
 unfolding mapOutcome mapAnswer
-map-demands ls ts output work c c′ h g e e′ = rw (answers mapBytes mapAnswer ls ts output work c c′ h g e e′) (meets coverSheet CoverReads (λ c r. (c, (r .best .legal, r .best .intime))) (λ c n r. cover-reads (cover-fits (library-limits ls (sound e)) (tree-limits ts (sound e′)) (r .best .legal))) (map-promise capacity (library ls start .0) (tree ts start .0)))
+map-demands ls ts output work l t h g e e′ = rw (answers mapBytes mapAnswer ls ts output work h g e e′) (meets coverSheet CoverReads (λ c r. (c, (r .best .legal, r .best .intime))) (λ c n r. cover-reads (cover-fits (library-sound ls e) (tree-sound ts e′) (r .best .legal))) (map-promise (allowed work) l t))
+
+-- What map handed over was lent enough.
+pub map-lent : (ls ts : List ℕ) (output work : ℕ) {bytes : List ℕ} → mapOutcome ls ts output work ≡ success bytes → (mapBytes ≤ output) × (workWords capacity ≤ work)
+unfolding mapOutcome operation
+map-lent ls ts output work e =
+    let h = enough-lent mapBytes output work (both-succeed (lent mapBytes output work) (λ most. librarySaid ls >>= (λ l. treeSaid ts >>= (λ t. mapAnswer most l t))) e .1) in
+    (h .0, h .1)
 
 pub list-demands : (ls ts : List ℕ) (output work : ℕ) → WhereSound ListDemands listBytes ls ts output work (listOutcome ls ts output work)
 unfolding listOutcome listAnswer
-list-demands ls ts output work c c′ h g e e′ = rw (answers listBytes listAnswer ls ts output work c c′ h g e e′) (meets listSheet ListReads (λ ps r. let p = r .all (r .one .0) .0 (r .one .1) in (p .cover, p .among)) (λ ps n r. list-reads (list-fits (library-limits ls (sound e)) (tree-limits ts (sound e′)) (few n r) (λ p. r .all p .0))) (list-promise capacity (library ls start .0) (tree ts start .0)))
+list-demands ls ts output work l t h g e e′ = rw (answers listBytes listAnswer ls ts output work h g e e′) (meets listSheet ListReads (λ ps r. let p = r .all (r .one .0) .0 (r .one .1) in (p .cover, p .among)) (λ ps n r. list-reads (list-fits (library-sound ls e) (tree-sound ts e′) (omega (arith, few n r, allowed-is work .listed)) (λ p. r .all p .0))) (list-promise (allowed work) l t))

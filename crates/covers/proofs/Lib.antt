@@ -1,5 +1,6 @@
 -- The theorems about covers, in reading order.
 pub mod SpecimenTable
+pub mod Reached
 pub mod Basics
 pub mod Points
 pub mod Least
@@ -21,4 +22,5 @@ pub mod SheetLengths
 pub mod ReadBack
 pub mod Filling
 pub mod FromSheets
+pub mod Lent
 pub mod Demands

@@ -3,14 +3,10 @@ use Prim.Native.Nat.{ℕ, _≤_}
 use mathlib.Core.Path.{_≡_}
 use mathlib.Core.Logic.{_↔_}
 use mathlib.Core.List.{List, List·Memᴰ}
-use Rattle.bits.specs.declared.Cursor.{Cursor}
-use Rattle.fields.specs.declared.Scan.the-variants.{At}
-use Rattle.fields.specs.Reading.{start}
 use Rattle.fields.specs.Answer.{Answer, refused, success}
 use Rattle.sheets_rules.specs.Model.{Library, Tree}
-use Rattle.sheets_rules.specs.LibrarySheet.{library}
-use Rattle.sheets_rules.specs.TreeSheet.{tree}
-use Rattle.covers.specs.Capacity.{capacity, workWords}
+use Rattle.sheets_rules.specs.Report.{librarySaid, treeSaid}
+use Rattle.covers.specs.Capacity.{capacity, workWords, allowed}
 use Rattle.covers.specs.Cover.{Cover}
 use Rattle.covers.specs.Tradeoff.{Node, nodes, TooMany}
 use Rattle.covers.specs.CoverSheet.{coverSheet, listSheet, CoverReads, ListReads}
@@ -40,4 +36,4 @@ ListDemands most l t = Demands (RootCover l t) (RootTradeoffs l t) listSheet Lis
 
 -- An outcome meets the demands of the library and the tree on the two sheets, if enough is lent and both sheets are sound.
 abbrev pub WhereSound : (ℕ → Library → Tree → Answer (List ℕ) → Type 0) → ℕ → List ℕ → List ℕ → ℕ → ℕ → Answer (List ℕ) → Type 0
-WhereSound Demanded least ls ts output work o = (c c′ : Cursor) → least ≤ output → workWords capacity ≤ work → library ls start .1 ≡ At c → tree ts start .1 ≡ At c′ → Demanded capacity (library ls start .0) (tree ts start .0) o
+WhereSound Demanded least ls ts output work o = (l : Library) (t : Tree) → least ≤ output → workWords capacity ≤ work → librarySaid ls ≡ success l → treeSaid ts ≡ success t → Demanded (allowed work) l t o

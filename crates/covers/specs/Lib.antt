@@ -9,6 +9,7 @@ pub mod Tradeoff
 pub mod Choice
 pub mod CoverSheet
 pub mod Answer
+pub mod Lending
 pub mod Outcome
 pub mod Promise
 pub mod Demands

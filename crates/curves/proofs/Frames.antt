@@ -18,7 +18,8 @@ use Rattle.covers.specs.Choice.{before, lesser}
 use Rattle.covers.proofs.Basics.{lt-or-le}
 use Rattle.covers.specs.Inside.Curve.{base, both, byDeadline, chained, lookup, pointOf, wordOf}
 use Rattle.curves.specs.Inside.Words.{absent, pointLimit, matchLimit, stored, slot, curveAt, Small, AgreeFrom}
-use Rattle.curves.specs.Inside.Best.{hitAt, patternOf, rowArea, rowLegal, hitCount, inputNode, inputBin, inputLoad, hitDelay, inputBest, inputLate, inputsBest, hitBest, legalBest, hitsBest, Above}
+use Rattle.cells.specs.Inside.Cell.{rowLegal, delayOf}
+use Rattle.curves.specs.Inside.Best.{hitAt, patternOf, rowArea, hitCount, inputNode, inputFigures, inputBest, inputLate, inputsBest, hitBest, legalBest, hitsBest, Above}
 use Rattle.curves.specs.Inside.Promises.{Worth, matchBefore, AllRising, bestBefore, nodePoints, PointsFit, Kept, Least, CurveStored, Fit}
 use Rattle.curves.proofs.Laws.{word-point, point-word, apart, part-word}
 use Rattle.leaves.specs.Inside.Leaf.{leafOf}
@@ -58,9 +59,10 @@ module _ (most : ℕ) (symbols work work′ : List ℕ) (m : ℕ) (a : AgreeFrom
   unfolding inputsBest inputLate
   inputs-same pattern hit load end zero k h = refl
   inputs-same pattern hit load end (suc n) k h =
-      let d = hitDelay pattern hit k load in
+      let pin = inputFigures pattern hit k in
+      let d = delayOf pin load in
       ap₂ (λ (o o′ : Option Point). both (Option·map (late d) o) o′)
-      (input-same (inputNode pattern hit k) (inputBin pattern hit k) (inputLoad pattern hit k) (end - d) (h k (omega arith)))
+      (input-same (inputNode pattern hit k) (pin .bin) (pin .load) (end - d) (h k (omega arith)))
       (inputs-same pattern hit load end n (suc k) (λ i l. h i (omega arith)))
 
 -- What is read of later nodes' curves alone is the same where those are.

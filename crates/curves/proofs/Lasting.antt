@@ -16,7 +16,8 @@ use Rattle.covers.specs.Inside.Curve.{base, both, lookup, pointOf, wordOf}
 use Rattle.covers.proofs.Basics.{lt-or-le}
 use Rattle.covers.proofs.Points.{both-carries}
 use Rattle.curves.specs.Inside.Words.{absent, matchLimit, tableOf}
-use Rattle.curves.specs.Inside.Best.{hitAt, patternOf, rowArea, rowLegal, hitCount, inputNode, inputBin, inputLoad, hitDelay, inputBest, inputLate, inputsBest, hitBest, legalBest}
+use Rattle.cells.specs.Inside.Cell.{rowLegal, delayOf}
+use Rattle.curves.specs.Inside.Best.{hitAt, patternOf, rowArea, hitCount, inputNode, inputFigures, inputBest, inputLate, inputsBest, hitBest, legalBest}
 use Rattle.curves.specs.Inside.Promises.{Worth, matchBefore, Rising, Kept}
 use Rattle.curves.proofs.Laws.{word-point, point-word, word-arrival, worth-point, worth-none}
 use Rattle.curves.proofs.Frames.{set-each}
@@ -61,9 +62,10 @@ module _ (most : ℕ) (symbols work : List ℕ) where
     unfolding inputsBest inputLate before lookup late
     inputs-stay zero k = lookup-stays h (record { area = 0; arrival = 0 } ∷ [])
     inputs-stay (suc n) k =
-        let d = hitDelay pattern hit k load in
+        let pin = inputFigures pattern hit k in
+        let d = delayOf pin load in
         let less : end′ - d ≤ end - d = omega arith in
-        both-stays (map-stays (late d) (λ p t. omega arith) (input-stays less (inputNode pattern hit k) (inputBin pattern hit k) (inputLoad pattern hit k))) (inputs-stay n (suc k))
+        both-stays (map-stays (late d) (λ p t. omega arith) (input-stays less (inputNode pattern hit k) (pin .bin) (pin .load))) (inputs-stay n (suc k))
 
     match-stays : Stays end′ (legalBest most symbols work pattern hit load end) (legalBest most symbols work pattern hit load end′)
     unfolding legalBest hitBest raised

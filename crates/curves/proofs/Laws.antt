@@ -2,24 +2,27 @@
 use mathlib.Core.Path.{_≡_, refl, sym, ap, ap₂, subst, _∙_}
 use mathlib.Core.List.{List, [], _∷_}
 use mathlib.Core.Logic.{_⊎_, inl, inr}
+use mathlib.Core.Bool.{Bool, true, false}
 use native.Mathlib.Decide.{ℕ-discrete}
 use mathlib.Core.Option.{Option, none, some, Option·map}
 use Prim.Native.Nat.{ℕ, zero, suc, _+_, _-_, _*_, _/_, _%_, _≤_, _<_, min, max}
-use native.Mathlib.Nat.{add-zero, div-add-mod', mul-suc, mul-le-mul, mul-le-mul-left, mod-eq-of-lt, div-eq-of-lt}
+use native.Mathlib.Nat.{div-add-mod', mul-suc, mul-le-mul-left, mod-eq-of-lt, div-eq-of-lt}
 use native.Mathlib.Numerals.{add-one}
 use native.Mathlib.Omega.{arith}
 use lib.ListN.{length, getD, take, drop, length-drop, length-take, drop-of-length-le, List·getD-eq-default}
 use lib.Seq.{length-take-le, getD-take, getD-drop, drop-cons}
 use borrow.Author.Tests.{eq-eqb, ne-eqb, lt-ltb, le-ltb, le-leb, lt-leb}
-use Rattle.sheets_rules.specs.Inside.Layout.{figuresAt, pinWords, rowWords, heldAt, highestAt}
+use Rattle.sheets_rules.specs.Inside.Layout.{rowWords}
 use Rattle.covers.specs.Cover.{Point, late, raised, beside, leafArrival, leafPoint}
 use Rattle.covers.specs.Choice.{before, lesser}
 use Rattle.covers.specs.Inside.Curve.{base, both, lookup, pointOf, wordOf}
 use Rattle.covers.proofs.Points.{point-path, both-assoc, both-carries, Leq, smaller, earlier, pick-left, pick-right, lesser-none}
 use Rattle.covers.proofs.Basics.{lt-or-le}
 use Rattle.curves.specs.Inside.Words.{absent, areaLimit, pointLimit, matchLimit, stored, slot, tableOf, Small, ZeroBelow, WorkArea}
+use Rattle.cells.specs.declared.PinFigures.{PinFigures}
+use Rattle.cells.specs.Inside.Cell.{rowLegal, delayOf}
 use Rattle.matching.specs.Inside.Found.{matchBytes}
-use Rattle.curves.specs.Inside.Best.{hitAt, patternOf, rowArea, hitCount, rowLegal, inputPin, inputNode, hitDelay, inputBest, inputLate, inputsBest, hitBest, legalBest, hitsBest, Sources, Tables, HitKnown, Matches}
+use Rattle.curves.specs.Inside.Best.{hitAt, patternOf, rowArea, hitCount, inputNode, inputFigures, inputBest, inputLate, inputsBest, hitBest, legalBest, hitsBest, Sources, Tables, HitKnown, Matches}
 use Rattle.curves.specs.Inside.Promises.{Worth, matchBefore, Kept}
 use Rattle.leaves.specs.Inside.Leaf.{leafOf}
 
@@ -143,19 +146,6 @@ module _ (most : ℕ) (symbols work : List ℕ) (node bin load end : ℕ) where
 
 -- ---- an input as its match sees it
 
--- A pin's figures, in the part of a pattern's row that has them.
-abbrev pub pinPart : List ℕ → ℕ → List ℕ
-pinPart pattern at = take (at + 4 - at) (drop at pattern)
-
-pub figure-is : (pattern : List ℕ) (at j : ℕ) → j < 4 → getD (pinPart pattern at) j 0 ≡ getD pattern (at + j) 0
-figure-is pattern at j h = getD-take (at + 4 - at) (drop at pattern) j 0 (omega arith) ∙ getD-drop at pattern j 0
-
-pub bin-is : (pattern : List ℕ) (at : ℕ) → getD (pinPart pattern at) 0 0 ≡ getD pattern at 0
-bin-is pattern at = figure-is pattern at 0 (omega arith) ∙ ap (λ (i : ℕ). getD pattern i 0) (add-zero at)
-
-pub drive-bound : (d l : ℕ) → d ≤ 255 → l ≤ 255 → d * l ≤ 65025
-drive-bound d l h g = mul-le-mul h g
-
 pub worth-late : (end d w : ℕ) (o : Option Point) → end ≤ base → Worth pointLimit (end - d) w o → (w ≡ absent → ⊥) → Worth pointLimit end (w + d) (Option·map (late d) o)
 unfolding late pointOf
 worth-late end d w o h g n =
@@ -176,21 +166,15 @@ module _ {most : ℕ} {pattern hit symbols work : List ℕ} (t : Tables most pat
   abbrev all : Option Point
   all = hitBest most symbols work pattern hit load end
 
-  -- Input k, from its least point before what its pin leaves of the bound.
-  module _ (k d left w : ℕ) where
-    -- The pin's figures stand in a part of the pattern's row.
-    abbrev pin : List ℕ
-    pin = pinPart pattern (figuresAt + pinWords * inputPin pattern hit k)
-
+  -- Input k, from its pin's figures and its least point before what the pin leaves of the bound.
+  module _ (k : ℕ) (pin : PinFigures) (d left w : ℕ) where
     abbrev own : Option Point
-    own = inputBest most symbols work (inputNode pattern hit k) (getD pin 0 0) (getD pin 1 0) left
+    own = inputBest most symbols work (inputNode pattern hit k) (pin .bin) (pin .load) left
 
-    module _ (ed : d ≡ getD pin 2 0 + getD pin 3 0 * load) (el : left ≡ end - d) where
+    module _ (ep : pin ≡ inputFigures pattern hit k) (ed : d ≡ delayOf pin load) (el : left ≡ end - d) where
       seen : Option·map (late d) own ≡ one k
-      unfolding inputLate hitDelay
-      seen =
-          let at = figuresAt + pinWords * inputPin pattern hit k in
-          rw (el, ed, bin-is pattern at, figure-is pattern at 1 (omega arith), figure-is pattern at 2 (omega arith), figure-is pattern at 3 (omega arith))
+      unfolding inputLate
+      seen = rw (el, ed, ep)
 
       pub input-missing : Worth pointLimit left w own → w ≡ absent → Worth pointLimit end absent (one k)
       input-missing g z = worth-none pointLimit end (one k) (sym seen ∙ ap (Option·map (late d)) (g .missing z))
@@ -244,17 +228,14 @@ module _ {most : ℕ} {pattern hit symbols work : List ℕ} (t : Tables most pat
   abbrev allowed : Option Point
   allowed = legalBest most symbols work pattern hit load end
 
-  pub match-held : (getD pattern heldAt 0 ≡ 0 → ⊥) → Worth matchLimit end absent allowed
-  unfolding legalBest rowLegal
-  match-held n = worth-none matchLimit end allowed (rw (ne-eqb (getD pattern heldAt 0) 0 n))
+  module _ {b : Bool} (e : b ≡ rowLegal pattern load) where
+    pub match-illegal : b ≡ false → Worth matchLimit end absent allowed
+    unfolding legalBest
+    match-illegal f = worth-none matchLimit end allowed (rw (← e, f))
 
-  pub match-overloaded : getD pattern heldAt 0 ≡ 0 → getD pattern highestAt 0 < load → Worth matchLimit end absent allowed
-  unfolding legalBest rowLegal
-  match-overloaded e h = worth-none matchLimit end allowed (rw (eq-eqb (getD pattern heldAt 0) 0 e, lt-leb load (getD pattern highestAt 0) h))
-
-  pub match-legal : getD pattern heldAt 0 ≡ 0 → load ≤ getD pattern highestAt 0 → (r : ℕ) → Worth matchLimit end r all → Worth matchLimit end r allowed
-  unfolding legalBest rowLegal
-  match-legal e h r g = rw (eq-eqb (getD pattern heldAt 0) 0 e, le-leb load (getD pattern highestAt 0) h) g
+    pub match-legal : b ≡ true → (r : ℕ) → Worth matchLimit end r all → Worth matchLimit end r allowed
+    unfolding legalBest
+    match-legal f r g = rw (← e, f) g
 
 -- ---- the lesser of two
 

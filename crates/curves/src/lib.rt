@@ -1,14 +1,17 @@
 // Curves by deadline: the least point of a node before an instant, and the curve of a node under a load.
+use cells::PinFigures;
 use matching::Hit;
+use shapes_rules::Packed;
 use sheets_rules::Limits;
 use sheets_rules::PatternRow;
 ghost use mathlib.Core.Path.{_≡_};
 ghost use Prim.Native.Nat.{_+_, _-_, _*_, _<_, _≤_, min, max};
-ghost use lib.ListN.{length, getD, drop};
+ghost use lib.ListN.{length, drop};
 ghost use Rattle.covers.specs.Inside.Curve.{base, lookup};
+ghost use Rattle.cells.specs.Inside.Cell.{PinSafe};
 ghost use Rattle.matching.specs.Inside.Found.{matchBytes};
 ghost use Rattle.curves.specs.Inside.Words.{pointLimit, matchLimit, stored, curveAt, Small, WorkArea};
-ghost use Rattle.curves.specs.Inside.Best.{hitAt, patternOf, inputBest, inputLate, hitBest, legalBest, PinSafe, InputSafe, Sources, Tables, HitKnown, Matches, Above};
+ghost use Rattle.curves.specs.Inside.Best.{hitAt, patternOf, inputBest, inputLate, hitBest, legalBest, InputSafe, Sources, Tables, HitKnown, Matches, Above};
 ghost use Rattle.curves.specs.Inside.Promises.{Probed, Worth, AllRising, PointsFit, Kept, Least, CurveStored};
 
 // The word for no point; how many curves a node has: one for each load bin; and how many words of a curve are tested in a straight line.
@@ -90,14 +93,21 @@ pub fn look_up(work: &[u64], most: usize, at: usize, end: u64) -> u64
 }
 
 // The least point before `end` of an input at a pin with these figures.
-fn input_best(symbols: &[u32], work: &[u64], most: usize, node: usize, pin: &[u32], end: u64) -> u64
+fn input_best(
+    symbols: &[u32],
+    work: &[u64],
+    most: usize,
+    node: usize,
+    pin: PinFigures,
+    end: u64,
+) -> u64
     requires { ⌜ Sources most (now symbols) (now work) ⌝ }
-    requires { ⌜ (node < 64) × PinSafe (now pin) ⌝ }
-    ensures { λ r. ⌜ Worth pointLimit end r (inputBest most (now (symbols .entry)) (now (work .entry)) node (getD (now (pin .entry)) 0 0) (getD (now (pin .entry)) 1 0) end) ⌝ }
+    requires { ⌜ (node < 64) × PinSafe pin ⌝ }
+    ensures { λ r. ⌜ Worth pointLimit end r (inputBest most (now (symbols .entry)) (now (work .entry)) node (pin .bin) (pin .load) end) ⌝ }
 {
     let symbol = symbols[node];
-    if 2 <= symbol {
-        let arrival = leaves::leaf_arrival_at(symbol, pin, PatternRow::LOAD);
+    if Packed::LEAF <= symbol {
+        let arrival = leaves::leaf_arrival(symbol, pin.load);
         if arrival < end {
             return arrival;
         }
@@ -106,26 +116,13 @@ fn input_best(symbols: &[u32], work: &[u64], most: usize, node: usize, pin: &[u3
     if end == 0 {
         return Words::ABSENT;
     }
-    look_up(
-        work,
-        most,
-        Words::BINS * node + pin[PatternRow::BIN] as usize,
-        end,
-    )
+    look_up(work, most, Words::BINS * node + pin.bin as usize, end)
 }
 
 fn wide(x: u32) -> u64
     ensures { λ r. ⌜ r ≡ x ⌝ }
 {
     x as u64
-}
-
-// What a pin adds under a load.
-fn delay(intrinsic: u32, drive: u32, load: u32) -> u64
-    requires { ⌜ (intrinsic ≤ 65535) × (drive ≤ 255) × (load ≤ 255) ⌝ }
-    ensures { λ r. ⌜ (r ≡ intrinsic + drive * load) × (r ≤ 130560) ⌝ }
-{
-    wide(intrinsic) + wide(drive) * wide(load)
 }
 
 // What is left of a bound.
@@ -166,9 +163,8 @@ fn input_word(
     ensures { λ r. ⌜ Worth pointLimit end r (inputLate most (now (symbols .entry)) (now (work .entry)) (now (pattern .entry)) (now (hit .entry)) load end k) ⌝ }
 {
     let place = Hit::INPUTS + Hit::INPUT * k;
-    let figures = PatternRow::FIGURES + PatternRow::PIN * (hit[place] as usize);
-    let pin = &pattern[figures..figures + PatternRow::PIN];
-    let d = delay(pin[PatternRow::INTRINSIC], pin[PatternRow::DRIVE], load);
+    let pin = cells::pin_figures(pattern, hit[place] as usize);
+    let d = wide(cells::delay(pin, load));
     let node = hit[place + Hit::NODE] as usize;
     let w = input_best(symbols, work, most, node, pin, less(end, d));
     if w == Words::ABSENT {
@@ -234,10 +230,7 @@ fn legal_match(
     requires { ⌜ (load ≤ 255) × (end ≤ base) ⌝ }
     ensures { λ r. ⌜ Worth matchLimit end r (legalBest most (now (symbols .entry)) (now (work .entry)) (now (pattern .entry)) (now (hit .entry)) load end) ⌝ }
 {
-    if pattern[PatternRow::HELD] != 0 {
-        return Words::ABSENT;
-    }
-    if pattern[PatternRow::HIGHEST] < load {
+    if !cells::is_legal(pattern, load) {
         return Words::ABSENT;
     }
     best_match(pattern, hit, symbols, work, most, load, end)

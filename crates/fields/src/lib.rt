@@ -26,6 +26,19 @@ pub enum Scan {
     Refused(Fault, usize),
 }
 
+// A refusal: document 01's number and place, and the item that it is about: a tree of a part, or 0 where there is none.
+pub struct Refusal {
+    pub item: u32,
+    pub number: u32,
+    pub place: usize,
+}
+
+// What was found: a refusal, or that what was asked for is there.
+pub enum Finding {
+    Refused(Refusal),
+    Found,
+}
+
 // What is to be said of a field's value.
 pub enum Verdict {
     Sound,

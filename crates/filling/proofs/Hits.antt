@@ -1,20 +1,19 @@
 -- A hit says what its match says: the least point read from the tables is the least point of the match, and of all legal matches of the node.
-use mathlib.Core.Path.{_≡_, refl, sym, ap, ap₂, subst, _∙_}
+use mathlib.Core.Path.{_≡_, refl, sym, ap, ap₂, _∙_}
 use mathlib.Core.List.{List, [], _∷_, _++_, List·Memᴰ, List·Memᴰ·head, List·Memᴰ·tail}
-use mathlib.Core.Bool.{Bool, true, false, cond, _&&_, not}
+use mathlib.Core.Bool.{Bool, true, false, cond}
 use mathlib.Core.Option.{Option, none, Option·map}
-use Prim.Native.Nat.{ℕ, zero, suc, _+_, _-_, _*_, _≤_, _<_}
+use Prim.Native.Nat.{ℕ, zero, suc, _+_, _-_, _≤_, _<_}
 use native.Mathlib.Nat.{zero-add}
 use native.Mathlib.Omega.{arith}
 use lib.ListN.{length, getD, take}
-use lib.Dec.{leb, eqb}
+use lib.Dec.{leb}
 use lib.Seq.{take-suc, take-all}
 use borrow.Author.Tests.{le-leb, lt-leb}
 use Rattle.sheets_rules.specs.Model.{Leaf, Shape, leaf, inv, nand, Pin, Cell, Library}
 use Rattle.covers.proofs.Basics.{select-append}
 use Rattle.covers.specs.Lists.{keepIf, select}
-use Rattle.sheets_rules.specs.Inside.Layout.{pinWords, figuresAt}
-use Rattle.covers.specs.Match.{Input, Match, usable, legal, delay, pinAt, pinLoad}
+use Rattle.covers.specs.Match.{Input, Match, legal, pinLoad}
 use Rattle.covers.specs.Cover.{Point, late, raised, feeds, inputDelay, leafPoint}
 use Rattle.covers.specs.Choice.{before, lesser}
 use Rattle.covers.specs.Inside.Curve.{both, lookup}
@@ -22,12 +21,14 @@ use Rattle.covers.proofs.Points.{lesser-assoc, lesser-none}
 use Rattle.covers.proofs.Deadline.{bestInputs, bestMatch, bestOf}
 use Rattle.covers.proofs.Filling.{fromCurve, fromTable}
 use Rattle.leaves.specs.Inside.Leaf.{leafOf, Heads}
-use Rattle.overlay.specs.Inside.Promises.{PinStored, CellStored}
+use Rattle.cells.specs.declared.PinFigures.{PinFigures}
+use Rattle.cells.specs.Inside.Cell.{delayOf, figuresOf, CellStored}
+use Rattle.cells.proofs.Laws.{legal-is, figures-are, delay-is}
 use Rattle.overlay.proofs.Patterns.{noInput}
 use Rattle.matching.specs.Inside.Found.{inputPlace, hitOf}
 use Rattle.matching.proofs.Written.{length-hit, hit-pin, hit-node}
 use Rattle.curves.specs.Inside.Words.{tableOf}
-use Rattle.curves.specs.Inside.Best.{hitAt, patternOf, rowLegal, inputNode, inputBin, inputLoad, inputIntrinsic, inputDrive, inputBest, inputLate, hitDelay, inputsBest, hitBest, legalBest, hitsBest}
+use Rattle.curves.specs.Inside.Best.{hitAt, patternOf, inputBest, inputLate, inputsBest, hitBest, legalBest, hitsBest}
 use Rattle.leaves.proofs.Symbols.{leaf-told}
 
 -- What stands at an input's node is the head of its shape.
@@ -84,18 +85,14 @@ module _ (most : ℕ) (l : Library) (symbols work : List ℕ) where
 
   module _ (pattern hit : List ℕ) (c : Cell) (stored : CellStored l pattern c) (load end : ℕ) where
     inputs-are : (k : ℕ) (is : List Input) → Listed hit k is → Pinned c is → Headed symbols is → inputsBest most symbols work pattern hit load end k (length is) ≡ bestInputs (fromTable l table) c load end is
-    unfolding inputsBest bestInputs inputLate hitDelay inputDelay delay feeds
+    unfolding inputsBest bestInputs inputLate figuresOf
     inputs-are k [] w q h = refl
     inputs-are k (i ∷ is) w q h =
-        let p = pinAt c (i .pin) in
-        let f = subst (λ x. PinStored l pattern (figuresAt + pinWords * x) p) (sym (w .0)) (stored .pins-are (i .pin) (q i (List·Memᴰ·head refl))) in
-        let d : inputIntrinsic pattern hit k + inputDrive pattern hit k * load ≡ p .intrinsic + p .drive * load = ap₂ (λ (a b : ℕ). a + b * load) (f .intrinsic-is) (f .drive-is) in
-        let end′ = end - (p .intrinsic + p .drive * load) in
+        let p = feeds c i in
         ap₂ both
-        (ap (λ (x : ℕ). Option·map (late x) (inputBest most symbols work (inputNode pattern hit k) (inputBin pattern hit k) (inputLoad pattern hit k) (end - x))) d
-        ∙ ap (Option·map (late (p .intrinsic + p .drive * load)))
-        (ap₂ (λ (n b : ℕ). inputBest most symbols work n b (inputLoad pattern hit k) end′) (w .1) (f .bin-is) ∙ ap (λ (x : ℕ). inputBest most symbols work (i .node) (p .bin) x end′) (f .load-is)
-        ∙ input-is i p end′ (h i (List·Memᴰ·head refl))))
+        (ap₂ (λ (pin : PinFigures) (n : ℕ). Option·map (late (delayOf pin load)) (inputBest most symbols work n (pin .bin) (pin .load) (end - delayOf pin load))) (figures-are stored i (q i (List·Memᴰ·head refl)) (w .0)) (w .1)
+        ∙ ap (λ (d : ℕ). Option·map (late d) (inputBest most symbols work (i .node) (p .bin) (pinLoad l p) (end - d))) (delay-is l c load i)
+        ∙ ap (Option·map (late (inputDelay c load i))) (input-is i p (end - inputDelay c load i) (h i (List·Memᴰ·head refl))))
         (inputs-are (suc k) is (w .2) (λ j m. q j (List·Memᴰ·tail m)) (λ j m. h j (List·Memᴰ·tail m)))
 
   pub hit-is-match : (pattern hit : List ℕ) (m : Match) (load end : ℕ) → CellStored l pattern (m .pattern .cell) → Holds hit m → Pinned (m .pattern .cell) (m .inputs) → Headed symbols (m .inputs) →
@@ -104,15 +101,6 @@ module _ (most : ℕ) (l : Library) (symbols work : List ℕ) where
   hit-is-match pattern hit m load end stored w q h =
       ap₂ (λ (a n : ℕ). Option·map (raised a) (inputsBest most symbols work pattern hit load end 0 n)) (stored .area-is) (w 2 (omega arith))
       ∙ ap (Option·map (raised (m .pattern .cell .area))) (inputs-are pattern hit (m .pattern .cell) stored load end 0 (m .inputs) (holds-lists hit m w) q h)
-
--- A match is legal by its pattern's row if it is.
-pub legal-is : {l : Library} {pattern : List ℕ} {c : Cell} → CellStored l pattern c → (load : ℕ) → rowLegal pattern load ≡ legal c load
-unfolding rowLegal legal usable
-legal-is {pattern = pattern} {c = c} stored load = ap₂ (λ (a b : ℕ). eqb a 0 && leb load b) (stored .held-is) (stored .highest-is) ∙ go (c .held)
-  where
-    go : (b : Bool) → eqb (cond b 1 0) 0 && leb load (c .highest) ≡ (not b && leb load (c .highest))
-    go true = refl
-    go false = refl
 
 -- The matches one after another.
 best-more : (best : Pin → Input → ℕ → Option Point) (load end : ℕ) (xs ys : List Match) → bestOf best load end (xs ++ ys) ≡ lesser (bestOf best load end xs) (bestOf best load end ys)

@@ -7,16 +7,16 @@ use mathlib.Core.Option.{Option, none, some, Option·none-ne-some}
 use Prim.Native.Nat.{ℕ, suc, _+_, _*_, _≤_, _<_}
 use native.Mathlib.Omega.{arith}
 use lib.ListN.{length, getD, take, drop}
-use Rattle.sheets_rules.specs.Model.{plainLeaf, Shape, leaf, inv, nand, size, leaves, Pin, Cell, Library, Tree, patterns}
-use Rattle.sheets_rules.specs.Inside.Layout.{tableFrom, rowWords, figuresAt, pinWords}
-use Rattle.sheets_rules.specs.Inside.Sound.{SoundCell, SoundLibrary}
+use Rattle.sheets_rules.specs.Model.{plainLeaf, Shape, leaf, inv, nand, size, leaves, Library, Tree, patterns}
+use Rattle.sheets_rules.specs.Inside.Layout.{tableFrom, rowWords}
+use Rattle.sheets_rules.specs.Inside.Sound.{SoundLibrary}
 use Rattle.covers.specs.Crossing.{redrawn}
-use Rattle.covers.specs.Match.{Input, Match, legal, fitting, matches, pinAt, pinLoad}
+use Rattle.covers.specs.Match.{Input, Match, legal, fitting, matches}
 use Rattle.covers.specs.Cover.{Point, Cover, raised, topped, IsCover, bare, matching}
 use Rattle.covers.specs.Enumeration.{matchCovers, gateCovers, covers, allBelow}
 use Rattle.covers.specs.Choice.{least}
 use Rattle.covers.specs.Inside.Curve.{Filled, base, byDeadline, curve, gates, wordOf}
-use Rattle.covers.proofs.Basics.{at-below, at-value, at-all, in-select, in-flatMap}
+use Rattle.covers.proofs.Basics.{at-below, at-value, in-select, in-flatMap}
 use Rattle.covers.proofs.Least.{In, IsLeast, least-is, least-some, least-rises}
 use Rattle.covers.proofs.Matching.{size-pos, fitting-are, fits-inside, spread-in}
 use Rattle.covers.proofs.Nodes.{nodeOf, fits-in, nodes-within, leaves-within}
@@ -29,7 +29,8 @@ use Rattle.covers.proofs.Filling.{fromTable, best-from-table, match-from-table}
 use Rattle.covers.proofs.FromSheets.{limited, binned}
 use Rattle.fields.proofs.Lists.{at-mem}
 use Rattle.overlay.specs.Inside.Standing.{Stands, Subject}
-use Rattle.overlay.specs.Inside.Promises.{PinStored, CellStored}
+use Rattle.cells.specs.Inside.Cell.{PinSafe, CellStored}
+use Rattle.cells.proofs.Laws.{figures-are, pin-safe}
 use Rattle.overlay.proofs.Patterns.{noInput, noPattern, patternAt, rows-long, row-stored}
 use Rattle.overlay.proofs.Standing.{heads-everywhere, subject-everywhere}
 use Rattle.matching.specs.Inside.Found.{matchMost, matchBytes, inputPlace, hitOf}
@@ -157,31 +158,14 @@ module _ {l : Library} {t : Tree} {rows ss zs : List ℕ} {n : ℕ} {found₀ : 
     input-node : getD (hitAt found j) (inputPlace k + 1) 0 ≡ inputAt .node
     input-node = hit-holds j h (inputPlace k + 1) (omega (arith, length-hit (matchAt j))) ∙ hit-node (matchAt j) k hk
 
-    input-stored : PinStored l (patternOf rows (hitAt found j)) (figuresAt + pinWords * getD (hitAt found j) (inputPlace k) 0) (pinAt (matchAt j .pattern .cell) (inputAt .pin))
-    input-stored =
-        subst (λ x. PinStored l (patternOf rows (hitAt found j)) (figuresAt + pinWords * x) (pinAt (matchAt j .pattern .cell) (inputAt .pin))) (sym input-pin)
-        (pattern-stored j h .pins-are (inputAt .pin) (sound-match g (match-in j h) .pinned inputAt input-in))
-
     input-safe : InputSafe (patternOf rows (hitAt found j)) (hitAt found j) k
     input-safe =
         let sm = sound-match g (match-in j h) in
-        let c = matchAt j .pattern .cell in
-        let p = pinAt c (inputAt .pin) in
-        let pin = sound-pin (sm .cell) (inputAt .pin) in
         record {
           pin = omega (arith, input-pin, sm .pinned inputAt input-in, sm .cell .few-pins);
           node = rw input-node (place-of g (match-in j h) inputAt input-in .1);
-          bin = rw (input-stored .bin-is) (omega (arith, pin .0, sound .few-bins));
-          load = rw (input-stored .load-is) (light p);
-          intrinsic = rw (input-stored .intrinsic-is) (pin .1);
-          drive = rw (input-stored .drive-is) (pin .2);
+          figures = subst PinSafe (sym (figures-are (pattern-stored j h) inputAt (sm .pinned inputAt input-in) input-pin)) (pin-safe sound (sm .cell) inputAt);
         }
-      where
-        sound-pin : {c : Cell} → SoundCell (length (l .bins)) c → (x : ℕ) → (pinAt c x .bin < length (l .bins)) × (pinAt c x .intrinsic ≤ 65535) × (pinAt c x .drive ≤ 255)
-        sound-pin {c} sc x = unfold pinAt in at-all (λ p. (p .bin < length (l .bins)) × (p .intrinsic ≤ 65535) × (p .drive ≤ 255)) (c .pins) x (record { bin = 0; intrinsic = 0; drive = 0 }) (omega (arith, sound .some-bin), omega arith, omega arith) (sc .pins)
-
-        light : (p : Pin) → pinLoad l p ≤ 255
-        light p = unfold pinLoad in at-all (λ x. x ≤ 255) (l .bins) (p .bin) 0 (omega arith) (sound .loads)
 
   hit-known : (j : ℕ) → j < count → HitKnown rows (hitAt found j)
   hit-known j h =

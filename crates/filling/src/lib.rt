@@ -1,13 +1,15 @@
 // Every node's curves, filled from the highest number down.
 use curves::Target;
 use curves::Words;
+use shapes_rules::Packed;
 use sheets_rules::Bins;
+use sheets_rules::Slots;
 use sheets_rules::TreeRecord;
 ghost use Prim.Native.Nat.{_≤_};
 ghost use lib.ListN.{length};
 ghost use Rattle.sheets_rules.specs.Model.{Shape, Library, Tree};
 ghost use Rattle.matching.specs.Inside.Found.{matchMost};
-ghost use Rattle.filling.specs.Inside.Promises.{NodeReady, NodeFilled, FillReady, NodeDone, Exceeds, FillStart, FillingIs};
+ghost use Rattle.filling.specs.Inside.Promises.{NodeReady, NodeFilled, FillReady, FillsNode, Exceeds, FillStart, FillsTree};
 
 // A node, the loads considered there, and how many trade-offs it may have.
 pub struct Turn {
@@ -18,7 +20,7 @@ pub struct Turn {
 
 // How many points a node has under each load considered there; one more than it may have stands for any more.
 pub struct Counts {
-    pub points: [u8; 4],
+    pub points: [u8; Slots::BINS],
 }
 
 // Every curve is filled, or the highest-numbered node that has too many points under some load.
@@ -42,7 +44,7 @@ fn fill_node(
 {
     let bins = turn.bins;
     let loads = bins.loads;
-    let mut points = [0u8; 4];
+    let mut points = [0u8; Slots::BINS];
     let mut b = bins.count;
     while 0 < b {
         b -= 1;
@@ -67,12 +69,13 @@ fn fill_at<'a>(
     kept: &mut [u64],
 ) -> Counts
     requires { ⌜ ((l : Library) × ((t : Tree) × ((s : Shape) × FillReady l t (now rows) (now symbols) (now sizes) turn (now found) (now work) s))) × (matchMost ≤ length (now kept)) ⌝ }
-    ensures { λ r. ⌜ ((l : Library) (t : Tree) (s : Shape) → FillReady l t (now (rows .entry)) (now (symbols .entry)) (now (sizes .entry)) turn (now (found .entry)) (now (work .entry)) s →
-        NodeDone l s turn (now (work .entry)) (now (work .exit)) r) ⌝ }
+    ensures { λ r. ⌜ FillsNode (now (rows .entry)) (now (symbols .entry)) (now (sizes .entry)) turn (now (found .entry)) (now (work .entry)) (now (work .exit)) r ⌝ }
 {
     let node = turn.node;
-    if 2 <= symbols[node] {
-        return Counts { points: [0u8; 4] };
+    if Packed::LEAF <= symbols[node] {
+        return Counts {
+            points: [0u8; Slots::BINS],
+        };
     }
     let count = matching::find_matches(rows, symbols, sizes, node, found);
     fill_node(rows, found, count, symbols, work, kept, turn)
@@ -107,8 +110,7 @@ pub fn fill(
     kept: &mut [u64],
 ) -> Filling
     requires { ⌜ ((l : Library) × ((t : Tree) × FillStart l t (now rows) bins tree most (now found) (now work))) × (matchMost ≤ length (now kept)) ⌝ }
-    ensures { λ r. ⌜ ((l : Library) (t : Tree) → FillStart l t (now (rows .entry)) bins tree most (now (found .entry)) (now (work .entry)) →
-        FillingIs most l t (now (work .exit)) r) ⌝ }
+    ensures { λ r. ⌜ FillsTree (now (rows .entry)) bins tree most (now (found .entry)) (now (work .entry)) (now (work .exit)) r ⌝ }
 {
     let mut node = tree.count;
     while 1 < node {

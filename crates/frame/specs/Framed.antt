@@ -4,7 +4,7 @@ use mathlib.Core.Bool.{Bool, cond, _&&_, _||_}
 use mathlib.Core.List.{List, [], _∷_}
 use lib.Dec.{leb, ltb}
 use lib.ListN.{length, take, drop, getD}
-use Rattle.fields.specs.Answer.{Answer, refused, success}
+use Rattle.fields.specs.Answer.{Answer, refusedIn, success}
 use Rattle.text.specs.Text.{decimal, line, spaced}
 
 -- ---- an input
@@ -63,7 +63,7 @@ spoiledLine = line (spoiledWord ∷ [])
 -- An answer whose success is its text.
 unfoldable pub outcomeText : Answer (List ℕ) → List ℕ
 unfolding refusalLine
-outcomeText (refused number place) = refusalLine number place
+outcomeText (refusedIn item number place) = refusalLine number place
 outcomeText (success text) = text
 
 -- `spoiled`, or what is answered to the sheets.

@@ -1,4 +1,5 @@
 // The frame of the programs: an input that holds several sheets with their lengths in front, where the sheets stand in it, and the two lines by which any input may be refused.
+use fields::Refusal;
 use sheets_rules::Limits;
 ghost use mathlib.Core.Path.{_≡_};
 ghost use mathlib.Core.Bool.{_&&_, _||_};
@@ -114,12 +115,12 @@ pub fn split_input(input: &[u8], lengths: usize, exact: bool) -> Split
 }
 
 // The line of a refusal.
-pub fn put_refusal(text: &mut [u8], number: u32, place: usize) -> usize
-    requires { ⌜ length (refusalLine number place) ≤ length (now text) ⌝ }
-    ensures { λ r. ⌜ Appended (refusalLine number place) (now (text .entry)) 0 (now (text .exit)) r ⌝ }
+pub fn put_refusal(text: &mut [u8], refusal: Refusal) -> usize
+    requires { ⌜ length (refusalLine (refusal .number) (refusal .place)) ≤ length (now text) ⌝ }
+    ensures { λ r. ⌜ Appended (refusalLine (refusal .number) (refusal .place)) (now (text .entry)) 0 (now (text .exit)) r ⌝ }
 {
     let at = text::put_word(text, 0, b"refused");
-    text::put_last(text, at, number as u64, place as u64)
+    text::put_last(text, at, refusal.number as u64, refusal.place as u64)
 }
 
 // The line of an input that is not what its lengths say.

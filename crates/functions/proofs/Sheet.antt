@@ -1,5 +1,5 @@
 -- A library that was read, the function sheet that was read with its pin counts, and the answer.
-use Prim.Native.Nat.{ℕ, _+_, _*_, _<_}
+use Prim.Native.Nat.{ℕ, _+_, _*_, _<_, _≤_}
 use mathlib.Core.Path.{_≡_, sym, ap, subst, _∙_}
 use mathlib.Core.List.{List}
 use native.Mathlib.Omega.{arith}
@@ -10,24 +10,23 @@ use Rattle.fields.specs.declared.Fault.{Fault}
 use Rattle.fields.specs.declared.Scan.{Scan}
 use Rattle.fields.specs.declared.Scan.the-variants.{At, Refused}
 use Rattle.fields.specs.Reading.{start, place}
-use Rattle.fields.specs.Answer.{Answer, refused}
+use Rattle.fields.specs.declared.Refusal.{Refusal}
+use Rattle.fields.specs.Answer.{refused, refusal, onSuccess, Bounded}
 use Rattle.fields.proofs.Laws.{length-times}
 use Rattle.fields.proofs.Lists.{at-mem, at-map}
 use Rattle.sheets_rules.specs.Model.{Cell, Library, patterns}
 use Rattle.sheets_rules.specs.Inside.Layout.{rowWords}
 use Rattle.sheets_rules.specs.Inside.Sound.{SoundLibrary, LibraryStored}
 use Rattle.sheets_rules.specs.declared.LibraryRecord.{LibraryRecord}
-use Rattle.sheets_rules.specs.declared.LibraryRead.{LibraryRead}
-use Rattle.sheets_rules.specs.LibrarySheet.{library}
-use Rattle.sheets_rules.specs.Inside.Readers.{LibraryIs}
-use Rattle.sheets_rules.specs.Report.{LibraryCounts, libraryNumber, countsOf, afterLibrary}
+use Rattle.sheets_rules.specs.Report.{LibraryLimits, libraryNumber, countsOf}
 use Rattle.sheets_rules.proofs.Laid.{padded-at}
 use Rattle.sheets_rules.proofs.Patterns.{noCell}
+use Rattle.sheets_rules.specs.Reach.{libraryBits}
 use Rattle.sheets_rules.proofs.Report.{number-bounds}
 use Rattle.sheets_rules.proofs.Stored.{row-count, rows-filled}
 use Rattle.functions.specs.declared.FunctionsRead.{FunctionsRead}
 use Rattle.functions_rules.specs.FunctionSheet.{pinCounts, function, functionSheet}
-use Rattle.functions_rules.specs.Report.{drawingsJudged, functionsNumber, functionsJudged, sheetJudged, functionsReport}
+use Rattle.functions_rules.specs.Report.{drawingsJudged, functionsNumber, functionsJudged, sheetJudged}
 use Rattle.functions.specs.Inside.Promises.{RowsHold, PinsFew, FunctionsAre, Stated}
 use Rattle.functions_rules.proofs.Reading.{field-small}
 use Rattle.functions.proofs.Judged.{judged-same, InLimits, refusal-limits, drawings-limits}
@@ -89,18 +88,7 @@ module _ {l : Library} (sound : SoundLibrary l) where
     pub refused-limits : (f : Fault) (p n : ℕ) → r .scan ≡ Refused f p → n ≡ libraryNumber f → InLimits (refused (29 + n) p)
     refused-limits f p n e en = refusal-limits (29 + n) p (omega arith) (omega (arith, number-bounds f)) (omega (arith, h .near, ap place e))
 
--- What is said of a library that was read.
-module _ (ls fs : List ℕ) (read : LibraryRead) (h : LibraryIs ls read) where
-  abbrev said : Scan → Answer LibraryCounts
-  said q = afterLibrary (sheetJudged fs) (library ls start .0, q)
-
-  pub library-answered : (c : Cursor) → read .scan ≡ At c → (o : Answer LibraryCounts) → o ≡ sheetJudged fs (library ls start .0) → o ≡ functionsReport ls fs
-  unfolding functionsReport
-  library-answered c e o eo = eo ∙ ap said (sym e ∙ h .scan-is)
-
-  pub library-refused : (f : Fault) (p n : ℕ) → read .scan ≡ Refused f p → n ≡ libraryNumber f → (refused n p ≡ functionsReport ls fs) × InLimits (refused n p)
-  unfolding functionsReport
-  library-refused f p n e en = (
-    ap (λ (k : ℕ). refused k p) en ∙ ap said (sym e ∙ h .scan-is),
-    refusal-limits n p (omega (arith, number-bounds f)) (omega (arith, number-bounds f)) (omega (arith, h .near, ap place e)),
-  )
+-- A refusal of the library is within the limits.
+pub library-limited : (q : Refusal) → q .place ≤ libraryBits → Bounded (refusal q) → InLimits (refusal q)
+unfolding onSuccess LibraryLimits
+library-limited q near fits = (fits, near)

@@ -1,4 +1,6 @@
 // The judge of functions: whether each drawing of a library computes what the function sheet states of its cell. 64 settings are worked out at once, one in each bit of a word.
+use fields::Finding;
+use fields::Refusal;
 use fields::Scan;
 use shapes_rules::Packed;
 use sheets_rules::LibraryJudged;
@@ -6,17 +8,16 @@ use sheets_rules::LibraryRecord;
 use sheets_rules::Limits;
 use sheets_rules::PatternRow;
 ghost use mathlib.Core.Path.{_≡_};
-ghost use Prim.Native.Nat.{_*_, _≤_, _<_};
+ghost use Prim.Native.Nat.{_≤_, _<_};
 ghost use lib.ListN.{length, take};
 ghost use Rattle.fields.specs.Answer.{onSuccess, Bounded};
-ghost use Rattle.sheets_rules.specs.Model.{Shape, Library, Pattern, patterns};
+ghost use Rattle.sheets_rules.specs.Model.{Shape, Library, Pattern};
 ghost use Rattle.sheets_rules.specs.Inside.Sound.{LibraryStored};
-ghost use Rattle.sheets_rules.specs.Report.{ofLibraryJudged, LibraryLimits, libraryWord, countsOf};
+ghost use Rattle.sheets_rules.specs.Report.{ofLibraryJudged, LibraryLimits, libraryWord};
 ghost use Rattle.functions_rules.specs.Function.{settings as settingsOf, pinIn};
-ghost use Rattle.functions_rules.specs.FunctionSheet.{pinCounts};
-ghost use Rattle.functions_rules.specs.Report.{isRight, drawingsJudged, sheetJudged, functionsReport};
+ghost use Rattle.functions_rules.specs.Report.{functionsReport};
 ghost use Rattle.functions_rules.specs.Demands.{FunctionDemands};
-ghost use Rattle.functions.specs.Inside.Promises.{Tabulates, Standing, EvaluatedIs, RowHolds, FieldFits, RowsHold, PinsFew, FunctionsAre, Stated};
+ghost use Rattle.functions.specs.Inside.Promises.{Tabulates, Standing, ShapeEvaluated, RowHolds, DrawingJudged, RowsHold, PinsCounted, PinsFew, FunctionsAre, DrawingsJudged, SheetJudged};
 
 // Document 02's numbers: what is added to the numbers of a library's faults for those of a function sheet, and a drawing that computes another function.
 struct Numbers {}
@@ -67,7 +68,7 @@ fn column(pin: usize) -> u64
 // The shape that stands in a pattern's row from a place on, in 64 settings.
 fn evaluate(row: &[u32], at: usize) -> Evaluated
     requires { ⌜ ((d : Shape) × Standing (now row) at d) ⌝ }
-    ensures { λ r. ⌜ ((d : Shape) → Standing (now (row .entry)) at d → EvaluatedIs at d r) ⌝ }
+    ensures { λ r. ⌜ ShapeEvaluated (now (row .entry)) at r ⌝ }
 {
     let symbol = row[at];
     if Packed::LEAF <= symbol {
@@ -77,7 +78,7 @@ fn evaluate(row: &[u32], at: usize) -> Evaluated
         };
     }
     let first = evaluate(row, at + 1);
-    if symbol == 0 {
+    if symbol == Packed::INVERTER {
         return Evaluated {
             word: !first.word,
             next: first.next,
@@ -101,7 +102,7 @@ fn settings(pins: u32) -> usize
 // Whether the drawing in a pattern's row computes the function that is stated of its cell: the first bits of its word are that field.
 fn computes(row: &[u32], functions: &[u64]) -> bool
     requires { ⌜ (length (now functions) ≡ 64) × ((p : Pattern) × RowHolds (now row) p) ⌝ }
-    ensures { λ r. ⌜ ((p : Pattern) → RowHolds (now (row .entry)) p → FieldFits p (now (functions .entry)) → r ≡ isRight (now (functions .entry)) p) ⌝ }
+    ensures { λ r. ⌜ DrawingJudged (now (row .entry)) (now (functions .entry)) r ⌝ }
 {
     let function = functions[row[PatternRow::CELL] as usize];
     let count = settings(row[PatternRow::PINS]);
@@ -112,7 +113,7 @@ fn computes(row: &[u32], functions: &[u64]) -> bool
 // How many pins each cell has, by its number: every cell has a pattern, and each pattern's row says it.
 fn pin_counts(rows: &[u32], total: usize) -> [u8; Limits::CELLS as usize]
     requires { ⌜ ((l : Library) × RowsHold l (now rows) total) ⌝ }
-    ensures { λ r. ⌜ (length r ≡ 64) × ((l : Library) → RowsHold l (now (rows .entry)) total → take (length (l .cells)) r ≡ pinCounts l) ⌝ }
+    ensures { λ r. ⌜ (length r ≡ 64) × PinsCounted (now (rows .entry)) total r ⌝ }
 {
     let mut counts = [0u8; Limits::CELLS as usize];
     let mut k: usize = 0;
@@ -147,13 +148,17 @@ fn read_functions(s: &[u8], counts: [u8; Limits::CELLS as usize], cells: usize) 
 // Each drawing in turn, against the function of its cell.
 fn judge_drawings(rows: &[u32], total: usize, functions: &[u64], cells: usize) -> LibraryJudged
     requires { ⌜ (length (now functions) ≡ 64) × ((l : Library) × RowsHold l (now rows) total) ⌝ }
-    ensures { λ r. ⌜ ((l : Library) → RowsHold l (now (rows .entry)) total → Stated l (now (functions .entry)) → cells ≡ length (l .cells) → ofLibraryJudged r ≡ drawingsJudged (now (functions .entry)) (countsOf l) 0 (patterns l)) ⌝ }
+    ensures { λ r. ⌜ DrawingsJudged (now (rows .entry)) total (now (functions .entry)) cells r ⌝ }
 {
     let mut number: usize = 0;
     while number < total {
         let first = PatternRow::WORDS * number;
         if !computes(&rows[first..first + PatternRow::WORDS], functions) {
-            return LibraryJudged::Refused(Numbers::OTHER, number);
+            return LibraryJudged::Refused(Refusal {
+                item: 0,
+                number: Numbers::OTHER,
+                place: number,
+            });
         }
         number += 1;
     }
@@ -163,7 +168,7 @@ fn judge_drawings(rows: &[u32], total: usize, functions: &[u64], cells: usize) -
 // The function sheet of a sound library. All of it is read before a drawing is looked at.
 fn with_library(library: LibraryRecord, s: &[u8]) -> LibraryJudged
     requires { ⌜ ((l : Library) × LibraryStored l library) ⌝ }
-    ensures { λ r. ⌜ ((l : Library) → LibraryStored l library → ofLibraryJudged r ≡ sheetJudged (now (s .entry)) l) ⌝ }
+    ensures { λ r. ⌜ SheetJudged library (now (s .entry)) r ⌝ }
     ensures { λ r. ⌜ Bounded (onSuccess libraryWord (ofLibraryJudged r)) × LibraryLimits (ofLibraryJudged r) ⌝ }
 {
     let rows = library.rows;
@@ -177,7 +182,12 @@ fn with_library(library: LibraryRecord, s: &[u8]) -> LibraryJudged
     match scan {
         Scan::At(_) => judge_drawings(&rows[..words], total, &functions, cells),
         Scan::Refused(fault, place) => {
-            LibraryJudged::Refused(Numbers::SHEET + library::library_number(fault), place)
+            let number = Numbers::SHEET + library::library_number(fault);
+            LibraryJudged::Refused(Refusal {
+                item: 0,
+                number,
+                place,
+            })
         }
     }
 }
@@ -189,11 +199,9 @@ pub fn judge_functions(library: &[u8], functions: &[u8]) -> LibraryJudged
     ensures { λ r. ⌜ Bounded (onSuccess libraryWord (ofLibraryJudged r)) × LibraryLimits (ofLibraryJudged r) ⌝ }
 {
     let read = library::read_library(library);
-    let scan = read.scan;
-    match scan {
-        Scan::At(_) => with_library(read.library, functions),
-        Scan::Refused(fault, place) => {
-            LibraryJudged::Refused(library::library_number(fault), place)
-        }
+    let finding = read.finding;
+    match finding {
+        Finding::Refused(refusal) => LibraryJudged::Refused(refusal),
+        Finding::Found => with_library(read.library, functions),
     }
 }

@@ -12,11 +12,11 @@ use Rattle.bits.specs.Bits.{bitAt, valueAt, endsAt}
 use Rattle.fields.specs.declared.Scan.{Scan}
 use Rattle.fields.specs.declared.Scan.the-variants.{At, Refused}
 use Rattle.fields.specs.Reading.{start, Live}
-use Rattle.fields.specs.Answer.{Answer, refused, success}
+use Rattle.fields.specs.Answer.{Answer, refused, refusedIn, success, said, _>>=_, onSuccess}
 use Rattle.sheets_rules.specs.Model.{Library, Pattern, patterns}
 use Rattle.sheets_rules.specs.Inside.Sound.{SoundLibrary}
 use Rattle.sheets_rules.specs.LibrarySheet.{library}
-use Rattle.sheets_rules.specs.Report.{LibraryCounts, libraryNumber, countsOf, afterLibrary, libraryRead, libraryReport}
+use Rattle.sheets_rules.specs.Report.{LibraryCounts, libraryNumber, countsOf, libraryReport, librarySaid}
 use Rattle.sheets_rules.proofs.Patterns.{SoundPattern, sound-pattern}
 use Rattle.sheets_rules.proofs.Sound.{library-limits}
 use Rattle.sheets_rules.proofs.Report.{number-bounds}
@@ -143,10 +143,10 @@ module _ (ls fs : List ℕ) where
       go q (torn-at m h a b) = torn (firstBit (pinCounts l) m) live (record { cell = m; inside = h; first = refl; whole-before = a; torn = b })
 
   case : Case (functionsReport ls fs)
-  unfolding functionsReport
+  unfolding functionsReport librarySaid _>>=_
   case = go (library ls start .1) refl
     where
-      go : (q : Scan) → library ls start .1 ≡ q → Case (afterLibrary (sheetJudged fs) (l, q))
+      go : (q : Scan) → library ls start .1 ≡ q → Case (said libraryNumber (l, q) >>= sheetJudged fs)
       go (At c) e = sheet-case (subst Live (sym e) tt)
       go (Refused f p) e = unsound (libraryNumber f) p (number-bounds f .0) (number-bounds f .1) (λ h. subst Live e h)
 
@@ -184,15 +184,15 @@ module _ (ls fs : List ℕ) where
   -- ---- from an answer to its case
 
   abbrev numberOf : Answer LibraryCounts → ℕ
-  numberOf (refused n k) = n
+  numberOf (refusedIn i n k) = n
   numberOf (success c) = 0
 
   abbrev placeIn : Answer LibraryCounts → ℕ
-  placeIn (refused n k) = k
+  placeIn (refusedIn i n k) = k
   placeIn (success c) = 0
 
   abbrev countsIn : Answer LibraryCounts → LibraryCounts
-  countsIn (refused n k) = countsOf l
+  countsIn (refusedIn i n k) = countsOf l
   countsIn (success c) = c
 
   -- A refusal has a number above 0, and a library's is below those of a function sheet.
@@ -256,10 +256,10 @@ module _ (ls fs : List ℕ) where
 
   -- A library that its own judge refuses.
   library-said : (LibrarySound ls → ⊥) → functionsReport ls fs ≡ libraryReport ls
-  unfolding functionsReport libraryReport libraryRead
+  unfolding functionsReport libraryReport librarySaid _>>=_
   library-said bad = go (library ls start .1) bad
     where
-      go : (q : Scan) → (Live q → ⊥) → afterLibrary (sheetJudged fs) (l, q) ≡ afterLibrary (λ m. success (countsOf m)) (l, q)
+      go : (q : Scan) → (Live q → ⊥) → (said libraryNumber (l, q) >>= sheetJudged fs) ≡ onSuccess countsOf (said libraryNumber (l, q))
       go (At c) h = absurd (h tt)
       go (Refused f p) h = refl
 

@@ -1,2 +1,3 @@
--- What drawings compute, as examples.
+-- What drawings compute, and what the judge of functions answers, as examples.
 pub mod Drawings
+pub mod Reports

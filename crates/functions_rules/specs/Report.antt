@@ -5,12 +5,10 @@ use mathlib.Core.List.{List, [], _∷_}
 use lib.ListN.{length, getD}
 use Rattle.fields.specs.declared.Fault.{Fault}
 use Rattle.fields.specs.declared.Scan.{Scan}
-use Rattle.fields.specs.declared.Scan.the-variants.{At, Refused}
 use Rattle.fields.specs.Reading.{start}
-use Rattle.fields.specs.Answer.{Answer, refused, success}
+use Rattle.fields.specs.Answer.{Answer, refused, success, said, _>>=_}
 use Rattle.sheets_rules.specs.Model.{Library, Pattern, patterns}
-use Rattle.sheets_rules.specs.LibrarySheet.{library}
-use Rattle.sheets_rules.specs.Report.{libraryNumber, LibraryCounts, countsOf, afterLibrary}
+use Rattle.sheets_rules.specs.Report.{libraryNumber, LibraryCounts, countsOf, librarySaid}
 use Rattle.functions_rules.specs.Function.{computes}
 use Rattle.functions_rules.specs.FunctionSheet.{pinCounts, functionSheet}
 
@@ -41,9 +39,10 @@ drawingsJudged functions counts n (p ∷ ps) = cond (isRight functions p) (drawi
 
 -- A function sheet as it was read, for a sound library. All of it is read before a drawing is looked at.
 unfoldable pub functionsJudged : Library → List ℕ × Scan → Answer LibraryCounts
-unfolding drawingsJudged functionsNumber
-functionsJudged l (functions, At c) = drawingsJudged functions (countsOf l) 0 (patterns l)
-functionsJudged l (functions, Refused f p) = refused (functionsNumber f) p
+unfolding said _>>=_ drawingsJudged functionsNumber
+functionsJudged l x = do
+  functions ← said functionsNumber x
+  drawingsJudged functions (countsOf l) 0 (patterns l)
 
 -- The same by the sheet's bytes.
 abbrev pub sheetJudged : List ℕ → Library → Answer LibraryCounts
@@ -51,4 +50,4 @@ sheetJudged fs l = functionsJudged l (functionSheet fs (pinCounts l) start)
 
 -- The library's refusal, or what is said of the function sheet.
 unfoldable pub functionsReport : (ls fs : List ℕ) → Answer LibraryCounts
-functionsReport ls fs = afterLibrary (sheetJudged fs) (library ls start)
+functionsReport ls fs = librarySaid ls >>= sheetJudged fs

@@ -1,47 +1,43 @@
-// The C interface: see include/treecover.h. A refusal is number × 2^32 + place, and of a part tree × 2^40 above it.
+// The C interface: see include/treecover.h. A refusal is item × 2^40 + number × 2^32 + place, the item a tree of a part, or 0.
+use fields::Refusal;
 use judge_rules::CoverJudged;
 use map_rules::Reply;
-use part_rules::PartReply;
 use sheets_rules::LibraryJudged;
 use sheets_rules::Limits;
 use sheets_rules::TreeJudged;
 ghost use mathlib.Core.Path.{_≡_};
-ghost use Prim.Native.Nat.{_+_, _*_, _<_, _≤_};
-ghost use lib.ListN.{length};
-ghost use Rattle.fields.specs.Answer.{onSuccess, places, word, ofWord, Bounded};
+ghost use Prim.Native.Nat.{_<_};
+ghost use Rattle.fields.specs.Answer.{refusal as refusalOf, onSuccess, items, numbers, places, word, ofWord, Bounded};
 ghost use Rattle.sheets_rules.specs.Report.{ofLibraryJudged, libraryWord, ofLibraryWord, libraryReport, treeReport};
 ghost use Rattle.functions_rules.specs.Report.{functionsReport};
 ghost use Rattle.functions_rules.specs.Demands.{FunctionDemands};
-ghost use Rattle.covers.specs.Outcome.{mapBytes, listBytes, told, observed, mapOutcome, listOutcome};
-ghost use Rattle.covers.specs.Demands.{MapDemands, ListDemands, WhereSound};
-ghost use Rattle.map_rules.specs.Public.{ofReply, Leaves};
+ghost use Rattle.map_rules.specs.Public.{ofReply, Maps, Lists};
 ghost use Rattle.judge_rules.specs.Judgement.{judgement, pointWord, ofPointWord, PointBounded};
-ghost use Rattle.judge_rules.specs.Demands.{JudgedWhereSound};
-ghost use Rattle.judge_rules.specs.Public.{ofCoverJudged};
-ghost use Rattle.part_rules.specs.Answer.{partWord, ofPartWord, PartBounded};
-ghost use Rattle.part_rules.specs.Outcome.{partOutcome, partTold, partObserved};
-ghost use Rattle.part_rules.specs.Demands.{PartWhereSound};
-ghost use Rattle.part_rules.specs.Public.{ofPartReply, PartLeaves};
+ghost use Rattle.judge_rules.specs.Public.{ofCoverJudged, Judges};
+ghost use Rattle.part_rules.specs.Public.{MapsPart};
 
-// A word has the number above the places.
+// A word has the number above the places, and the item above the numbers.
 struct AnswerWord {}
 
 impl AnswerWord {
     const PLACES: u64 = 4294967296;
 
-    // How many numbers there are: a refusal of a part has its tree above them.
     const NUMBERS: u64 = 256;
+
+    // A power of two above the 128 patterns that a library may have: the cells are counted above them.
+    const PATTERNS: usize = 256;
 
     // The highest bit, which is set where a cover is accepted.
     const ACCEPTED: u64 = 9223372036854775808;
 }
 
 // A refusal in one word.
-fn refusal(number: u32, place: usize) -> u64
-    requires { ⌜ (number ≤ 255) × (place < places) ⌝ }
-    ensures { λ r. ⌜ r ≡ number * places + place ⌝ }
+fn refusal_word(refusal: Refusal) -> u64
+    requires { ⌜ (refusal .item < items) × (refusal .number < numbers) × (refusal .place < places) ⌝ }
+    ensures { λ r. ⌜ r ≡ word (refusalOf refusal) ⌝ }
 {
-    number as u64 * AnswerWord::PLACES + place as u64
+    let above = refusal.item as u64 * AnswerWord::NUMBERS + refusal.number as u64;
+    above * AnswerWord::PLACES + refusal.place as u64
 }
 
 // What is said of a library in one word: cells × 256 + patterns, or the refusal.
@@ -50,8 +46,8 @@ fn counts_word(judged: LibraryJudged) -> u64
     ensures { λ r. ⌜ r ≡ word (onSuccess libraryWord (ofLibraryJudged judged)) ⌝ }
 {
     match judged {
-        LibraryJudged::Sound(cells, patterns) => (cells * 256 + patterns) as u64,
-        LibraryJudged::Refused(number, place) => refusal(number, place),
+        LibraryJudged::Sound(cells, patterns) => (cells * AnswerWord::PATTERNS + patterns) as u64,
+        LibraryJudged::Refused(refusal) => refusal_word(refusal),
     }
 }
 
@@ -82,7 +78,7 @@ pub extern "C" fn treecover_judge_tree(tree: &[u8]) -> u64
     let judged = tree::judge_tree(tree);
     match judged {
         TreeJudged::Sound(nodes) => nodes as u64,
-        TreeJudged::Refused(number, place) => refusal(number, place),
+        TreeJudged::Refused(refusal) => refusal_word(refusal),
     }
 }
 
@@ -92,8 +88,8 @@ fn reply_word(reply: Reply) -> u64
     ensures { λ r. ⌜ r ≡ word (ofReply reply) ⌝ }
 {
     match reply {
-        Reply::Refused(number, place) => refusal(number, place),
-        Reply::Sheet(bytes) => bytes as u64,
+        Reply::Refused(refusal) => refusal_word(refusal),
+        Reply::Sheets(bytes) => bytes as u64,
     }
 }
 
@@ -105,9 +101,7 @@ pub extern "C" fn treecover_map(
     output: &mut [u8],
     work: &mut [u64],
 ) -> u64
-    ensures { λ r. ⌜ r ≡ word (told (mapOutcome (now (library .entry)) (now (tree .entry)) (length (now (output .entry))) (length (now (work .entry))))) ⌝ }
-    ensures { λ r. ⌜ Leaves (mapOutcome (now (library .entry)) (now (tree .entry)) (length (now (output .entry))) (length (now (work .entry)))) (now (output .entry)) (now (output .exit)) (now (work .entry)) (now (work .exit)) ⌝ }
-    ensures { λ r. ⌜ WhereSound MapDemands mapBytes (now (library .entry)) (now (tree .entry)) (length (now (output .entry))) (length (now (work .entry))) (observed (ofWord r) (now (output .exit))) ⌝ }
+    ensures { λ r. ⌜ Maps (now (library .entry)) (now (tree .entry)) (now (output .entry)) (now (output .exit)) (now (work .entry)) (now (work .exit)) (ofWord r) ⌝ }
 {
     let reply = map::map(library, tree, output, work);
     reply_word(reply)
@@ -121,9 +115,7 @@ pub extern "C" fn treecover_list(
     output: &mut [u8],
     work: &mut [u64],
 ) -> u64
-    ensures { λ r. ⌜ r ≡ word (told (listOutcome (now (library .entry)) (now (tree .entry)) (length (now (output .entry))) (length (now (work .entry))))) ⌝ }
-    ensures { λ r. ⌜ Leaves (listOutcome (now (library .entry)) (now (tree .entry)) (length (now (output .entry))) (length (now (work .entry)))) (now (output .entry)) (now (output .exit)) (now (work .entry)) (now (work .exit)) ⌝ }
-    ensures { λ r. ⌜ WhereSound ListDemands listBytes (now (library .entry)) (now (tree .entry)) (length (now (output .entry))) (length (now (work .entry))) (observed (ofWord r) (now (output .exit))) ⌝ }
+    ensures { λ r. ⌜ Lists (now (library .entry)) (now (tree .entry)) (now (output .entry)) (now (output .exit)) (now (work .entry)) (now (work .exit)) (ofWord r) ⌝ }
 {
     let reply = map::list(library, tree, output, work);
     reply_word(reply)
@@ -138,7 +130,7 @@ fn judged_word(judged: CoverJudged) -> u64
         CoverJudged::Accepted(area, arrival) => {
             AnswerWord::ACCEPTED + area as u64 * Limits::TIMES + arrival as u64
         }
-        CoverJudged::Refused(number, place) => refusal(number, place),
+        CoverJudged::Refused(refusal) => refusal_word(refusal),
     }
 }
 
@@ -146,23 +138,10 @@ fn judged_word(judged: CoverJudged) -> u64
 #[no_mangle]
 pub extern "C" fn treecover_judge_cover(library: &[u8], tree: &[u8], cover: &[u8]) -> u64
     ensures { λ r. ⌜ r ≡ pointWord (judgement (now (library .entry)) (now (tree .entry)) (now (cover .entry))) ⌝ }
-    ensures { λ r. ⌜ JudgedWhereSound (now (library .entry)) (now (tree .entry)) (now (cover .entry)) (ofPointWord r) ⌝ }
+    ensures { λ r. ⌜ Judges (now (library .entry)) (now (tree .entry)) (now (cover .entry)) (ofPointWord r) ⌝ }
 {
     let judged = judge::judge_cover(library, tree, cover);
     judged_word(judged)
-}
-
-// What is said of a part in one word.
-fn part_word(reply: PartReply) -> u64
-    requires { ⌜ PartBounded (ofPartReply reply) ⌝ }
-    ensures { λ r. ⌜ r ≡ partWord (ofPartReply reply) ⌝ }
-{
-    match reply {
-        PartReply::Refused(tree, number, place) => {
-            (tree as u64 * AnswerWord::NUMBERS + number as u64) * AnswerWord::PLACES + place as u64
-        }
-        PartReply::Sheets(bytes) => bytes as u64,
-    }
 }
 
 // Maps the trees of a part: the bytes of their cover sheets in the output, or the refusal with its tree.
@@ -173,10 +152,8 @@ pub extern "C" fn treecover_map_part(
     output: &mut [u8],
     work: &mut [u64],
 ) -> u64
-    ensures { λ r. ⌜ r ≡ partWord (partTold (partOutcome (now (library .entry)) (now (part .entry)) (length (now (output .entry))) (length (now (work .entry))))) ⌝ }
-    ensures { λ r. ⌜ PartLeaves (partOutcome (now (library .entry)) (now (part .entry)) (length (now (output .entry))) (length (now (work .entry)))) (now (output .entry)) (now (output .exit)) (now (work .entry)) (now (work .exit)) ⌝ }
-    ensures { λ r. ⌜ PartWhereSound (now (library .entry)) (now (part .entry)) (length (now (output .entry))) (length (now (work .entry))) (partObserved (ofPartWord r) (now (output .exit))) ⌝ }
+    ensures { λ r. ⌜ MapsPart (now (library .entry)) (now (part .entry)) (now (output .entry)) (now (output .exit)) (now (work .entry)) (now (work .exit)) (ofWord r) ⌝ }
 {
     let reply = part::map_part(library, part, output, work);
-    part_word(reply)
+    reply_word(reply)
 }

@@ -1,21 +1,21 @@
 -- A match's inputs, reached from the last to the first.
-use Prim.Native.Nat.{ℕ, _+_, _*_, _≤_, _<_}
+use Prim.Native.Nat.{ℕ, _+_, _≤_, _<_}
 use mathlib.Core.Path.{_≡_, sym, ap, subst, _∙_}
 use mathlib.Core.List.{List, _∷_, List·Memᴰ}
-use native.Mathlib.Nat.{mul-le-mul}
 use native.Mathlib.Numerals.{add-one}
 use native.Mathlib.Omega.{arith}
 use lib.ListN.{length, getD, drop}
 use lib.Seq.{drop-cons, drop-length}
 use Rattle.fields.proofs.Lists.{at-mem}
-use Rattle.sheets_rules.specs.Model.{Shape, Pin, Cell, Library}
-use Rattle.sheets_rules.specs.Inside.Layout.{pinWords, figuresAt, rowWords}
-use Rattle.covers.specs.Match.{Input, Match, pinAt, pinLoad, delay}
+use Rattle.sheets_rules.specs.Model.{Shape, Cell, Library}
+use Rattle.sheets_rules.specs.Inside.Layout.{rowWords}
+use Rattle.covers.specs.Match.{Input, Match, pinLoad}
 use Rattle.covers.specs.Cover.{feeds, inputDelay}
-use Rattle.covers.proofs.Basics.{at-all}
 use Rattle.overlay.specs.declared.Walked.{Walked}
 use Rattle.leaves.specs.Inside.Leaf.{symbolLimit, Heads}
-use Rattle.overlay.specs.Inside.Promises.{PinStored}
+use Rattle.cells.specs.declared.PinFigures.{PinFigures}
+use Rattle.cells.specs.Inside.Cell.{rowFigures, delayOf, PinSafe, figuresOf}
+use Rattle.cells.proofs.Laws.{figures-are, delay-is, pin-safe}
 use Rattle.overlay.proofs.Patterns.{noInput, noted}
 use Rattle.judge_rules.specs.Walk.{Walk, visited, inputsVisited}
 use Rattle.judge.specs.declared.WalkRecord.{WalkRecord}
@@ -34,8 +34,8 @@ module _ {l : Library} {row ss : List ℕ} {walked : Walked} {load delay₀ : �
   from-none = ap (λ (is : List Input). inputsVisited l cell load delay₀ is w) (ap (λ (i : ℕ). drop i (m .inputs)) (h .stored .walks .count-is) ∙ drop-length (m .inputs))
 
   -- What the loop reads of input k.
-  abbrev figures : ℕ → ℕ
-  figures k = figuresAt + pinWords * getD (walked .pins) k 0
+  abbrev figures : ℕ → PinFigures
+  figures k = rowFigures row (getD (walked .pins) k 0)
 
   abbrev node : ℕ → ℕ
   node k = getD (walked .nodes) k 0
@@ -46,17 +46,15 @@ module _ {l : Library} {row ss : List ℕ} {walked : Walked} {load delay₀ : �
     pub k-small : k < 6
     pub pin-small : getD (walked .pins) k 0 < 6
     pub node-small : node k < 64
-    pub load-small : getD row (figures k + 1) 0 ≤ 255
-    pub intrinsic-small : getD row (figures k + 2) 0 ≤ 65535
-    pub delay-small : getD row (figures k + 3) 0 * load ≤ 65025
+    pub safe : PinSafe (figures k)
     pub symbol-small : getD ss (node k) 0 ≤ symbolLimit
     pub room : length (from (k + 1) .left) < 64
     -- One input more.
-    pub kept : {a b : WalkRecord} → WalkStored (from (k + 1)) a →
-        ((v : Walk) (s : Shape) → WalkStored v a → Heads (getD ss (node k) 0) s → WalkStored (visited (getD row (figures k + 1) 0) (getD row (figures k + 2) 0 + getD row (figures k + 3) 0 * load + delay₀) (node k) s v) b) → WalkStored (from k) b
+    pub kept : {a b : WalkRecord} → WalkStored (from (k + 1)) a → {pin : PinFigures} {d : ℕ} → pin ≡ figures k → d ≡ delayOf pin load →
+        ((v : Walk) (s : Shape) → WalkStored v a → Heads (getD ss (node k) 0) s → WalkStored (visited (pin .load) (d + delay₀) (node k) s v) b) → WalkStored (from k) b
 
   pub input-read : (k : ℕ) → k < walked .count → InputRead k
-  unfolding inputsVisited inputDelay feeds delay pinLoad
+  unfolding inputsVisited figuresOf
   input-read k g =
       let is = m .inputs in
       let here : k < length is = omega (arith, h .stored .walks .count-is) in
@@ -64,24 +62,22 @@ module _ {l : Library} {row ss : List ℕ} {walked : Walked} {load delay₀ : �
       let among : List·Memᴰ i is = at-mem is k noInput here in
       let pin-is = noted (λ (j : Input). j .pin) (walked .pins) is k (h .stored .walks .pins-are) (h .stored .few) here in
       let node-is = noted (λ (j : Input). j .node) (walked .nodes) is k (h .stored .walks .nodes-are) (h .stored .few) here in
-      let pin = pinAt cell (i .pin) in
-      let stored : PinStored l row (figures k) pin = subst (λ (p : ℕ). PinStored l row (figuresAt + pinWords * p) pin) (sym pin-is) (h .stored .cell .pins-are (i .pin) (h .stored .pinned i among)) in
-      let limits : (pin .intrinsic ≤ 65535) × (pin .drive ≤ 255) = at-all (λ (q : Pin). (q .intrinsic ≤ 65535) × (q .drive ≤ 255)) (cell .pins) (i .pin) (record { bin = 0; intrinsic = 0; drive = 0 }) (omega arith, omega arith) (λ q j. (h .stored .sound .pins q j .1, h .stored .sound .pins q j .2)) in
+      let stored : figures k ≡ figuresOf l (feeds cell i) = figures-are (h .stored .cell) i (h .stored .pinned i among) pin-is in
       record {
         long = h .stored .cell .long;
         symbols-long = h .symbols-long;
         k-small = omega (arith, h .stored .few);
         pin-small = omega (arith, pin-is, h .stored .pinned i among, h .stored .sound .few-pins);
         node-small = omega (arith, node-is, h .heads i among .1);
-        load-small = omega (arith, stored .load-is, at-all (λ (x : ℕ). x ≤ 255) (l .bins) (pin .bin) 0 (omega arith) (h .loads-small));
-        intrinsic-small = omega (arith, stored .intrinsic-is, limits .0);
-        delay-small = subst (λ (d : ℕ). d * load ≤ 65025) (sym (stored .drive-is)) (mul-le-mul (limits .1) (h .light));
+        safe = subst PinSafe (sym stored) (pin-safe (h .library) (h .stored .sound) i);
         symbol-small = h .symbols-small (node k);
         room = h .room k here;
-        kept = λ {a} {b} was came.
+        kept = λ {a} {b} was {pin} {d} ep ed came.
             let step : from k ≡ visited (pinLoad l (feeds cell i)) (inputDelay cell load i + delay₀) (i .node) (i .shape) (from (k + 1)) =
             ap (λ (js : List Input). inputsVisited l cell load delay₀ js w) (drop-cons is k noInput here ∙ ap (λ (j : ℕ). i ∷ drop j is) (sym (add-one k))) in
-            let same : visited (getD row (figures k + 1) 0) (getD row (figures k + 2) 0 + getD row (figures k + 3) 0 * load + delay₀) (node k) (i .shape) (from (k + 1)) ≡ from k =
-            (λ j. visited (stored .load-is j) (stored .intrinsic-is j + stored .drive-is j * load + delay₀) (node-is j) (i .shape) (from (k + 1))) ∙ sym step in
+            let pin-read : pin ≡ figuresOf l (feeds cell i) = ep ∙ stored in
+            let delay-read : d ≡ inputDelay cell load i = ed ∙ ap (λ (q : PinFigures). delayOf q load) pin-read ∙ delay-is l cell load i in
+            let same : visited (pin .load) (d + delay₀) (node k) (i .shape) (from (k + 1)) ≡ from k =
+            (λ j. visited (pin-read j .load) (delay-read j + delay₀) (node-is j) (i .shape) (from (k + 1))) ∙ sym step in
             subst (λ (v : Walk). WalkStored v b) same (came (from (k + 1)) (i .shape) was (subst (λ (n : ℕ). Heads (getD ss n 0) (i .shape)) (sym node-is) (h .heads i among .0)));
       }

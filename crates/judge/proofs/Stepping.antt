@@ -122,7 +122,7 @@ module _ {l : Library} {t : Tree} {rows ss zs : List ℕ} {k : ℕ} {w : Walk} {
                   heads = heads-everywhere (h .decoded);
                   tree = h .decoded .tree;
                   symbols-small = symbols-small ss (t .shape) (h .decoded .symbols-are) (h .decoded .tree .leaves);
-                  loads-small = h .decoded .library .loads;
+                  library = h .decoded .library;
                 }
 
           pub made : (q : Stepped) → SteppedIs (matchTaken l w o (matchAt pattern crossing o (some (patternAt l pattern)))) q → Makes q

@@ -1,17 +1,16 @@
 -- A walk as it is kept: coming to a node, and taking the first of what is to be covered.
 use Prim.Native.Nat.{ℕ, zero, suc, _+_, _-_, _/_, _%_, _^_, _≤_, _<_, max}
 use mathlib.Core.Path.{_≡_, refl, sym, ap, _∙_}
-use mathlib.Core.Bool.{Bool, true, false, cond, _&&_, not}
+use mathlib.Core.Bool.{Bool, true, false, cond}
 use mathlib.Core.List.{List, [], _∷_}
 use native.Mathlib.Omega.{arith}
 use lib.ListN.{length, getD, set, length-set, length-replicate}
 use lib.Seq.{getD-set-same, getD-set-other}
-use lib.Dec.{leb, eqb}
+use lib.Dec.{eqb}
 use lib.Pow.{pow-pos}
 use borrow.Author.Tests.{lt-ltb, le-ltb}
-use Rattle.sheets_rules.specs.Model.{Leaf, Shape, leaf, inv, nand, nands, Cell}
+use Rattle.sheets_rules.specs.Model.{Leaf, Shape, leaf, inv, nand, nands}
 use Rattle.covers.specs.Crossing.{crossingLimit, isCrossing}
-use Rattle.covers.specs.Match.{usable, legal}
 use Rattle.covers.specs.Cover.{Point, beside, late, raised, leafArrival, leafPoint}
 use Rattle.fields.specs.Answer.{refused, success}
 use Rattle.covers.specs.Tradeoff.{same}
@@ -108,24 +107,6 @@ module _ {o : Uncovered} {os : List Uncovered} {q : Point} {r : WalkRecord} (k :
     loads-long = k .loads-long;
     delays-long = k .delays-long;
   }
-
--- ---- a cell's word for being held
-
-pub held-not : (load : ℕ) (c : Cell) → _≡_ {A = ℕ} (cond (c .held) 1 0) 1 → false ≡ legal c load
-unfolding legal usable
-held-not load c e = go (c .held) e
-  where
-    go : (h : Bool) → _≡_ {A = ℕ} (cond h 1 0) 1 → false ≡ not h && leb load (c .highest)
-    go true e = refl
-    go false e = absurd (omega arith)
-
-pub free-legal : (load : ℕ) (c : Cell) → (_≡_ {A = ℕ} (cond (c .held) 1 0) 1 → ⊥) → leb load (c .highest) ≡ legal c load
-unfolding legal usable
-free-legal load c e = go (c .held) e
-  where
-    go : (h : Bool) → (_≡_ {A = ℕ} (cond h 1 0) 1 → ⊥) → leb load (c .highest) ≡ not h && leb load (c .highest)
-    go true e = absurd (e refl)
-    go false e = refl
 
 -- ---- a crossing's bits
 

@@ -7,7 +7,7 @@ use mathlib.Core.Option.{Option, none, some, Option·map}
 use native.Mathlib.Numerals.{add-one}
 use native.Mathlib.Omega.{arith}
 use lib.ListN.{length, getD, drop}
-use Rattle.sheets_rules.specs.Model.{Shape, size, nands, Cell, Library, Pattern, Tree}
+use Rattle.sheets_rules.specs.Model.{Shape, size, nands, Library, Pattern, Tree}
 use Rattle.covers.specs.Crossing.{crossingLimit, redrawn, isCrossing}
 use Rattle.covers.specs.Match.{Input, Match, matched, legal}
 use Rattle.covers.specs.Cover.{raised}
@@ -18,7 +18,9 @@ use Rattle.covers.proofs.Matching as matching
 use Rattle.covers.proofs.Nodes.{nodeOf, root-in, fits-in, nodes-within, node-ends}
 use Rattle.overlay.specs.declared.Walked.{Walked}
 use Rattle.overlay.specs.Inside.Standing.{DrawingStored, extent, Measured}
-use Rattle.sheets_rules.specs.Inside.Layout.{heldAt, areaAt, highestAt}
+use Rattle.sheets_rules.specs.Inside.Layout.{areaAt}
+use Rattle.cells.specs.Inside.Cell.{rowLegal}
+use Rattle.cells.proofs.Laws.{legal-is}
 use Rattle.overlay.specs.Inside.Promises.{Walkable, Walks, WalkIs}
 use Rattle.overlay.proofs.Patterns.{redrawn-sound, missed, hit}
 use Rattle.judge_rules.specs.Walk.{Uncovered, Walk, inputsVisited, others, matchAt, matchTaken}
@@ -103,10 +105,10 @@ module _ {l : Library} {t : Tree} {row ss zs : List ℕ} {k : ℕ} {p : Pattern}
 
     -- What is_legal answers.
     abbrev LegalIs : Bool → Type 0
-    LegalIs b = (c : Cell) → getD row heldAt 0 ≡ cond (c .held) 1 0 → getD row highestAt 0 ≡ c .highest → b ≡ legal c (o .load)
+    LegalIs b = b ≡ rowLegal row (o .load)
 
     legal-read : {b : Bool} → LegalIs b → b ≡ legal (p .cell) (o .load)
-    legal-read e = e (p .cell) (h .cell .held-is) (h .cell .highest-is)
+    legal-read e = e ∙ legal-is (h .cell) (o .load)
 
     -- Not legal under the load.
     pub wrong-load : {b : Bool} → LegalIs b → b ≡ false → SteppedIs step refusal
@@ -181,7 +183,7 @@ module _ {l : Library} {t : Tree} {row ss zs : List ℕ} {k : ℕ} {p : Pattern}
           heads = λ i a. (h .heads (nodeOf i) (in-tree i a), omega (arith, node-ends 0 (t .shape) (in-tree i a), size-pos (i .shape), h .tree .size));
           symbols-long = h .walkable (measured measures) .subject .symbols-long;
           symbols-small = h .symbols-small;
-          loads-small = h .loads-small;
+          library = h .library;
           light = within .light;
           near = omega (arith, within .near, h .few);
           room = room;

@@ -4,17 +4,16 @@ use mathlib.Core.Path.{_≡_, refl, sym, ap, subst, _∙_}
 use mathlib.Core.Bool.{true, false, false≢true}
 use mathlib.Core.List.{List, [], _∷_, List·Memᴰ, List·Memᴰ·head, List·Memᴰ·tail, List·Memᴰ·not-nil}
 use mathlib.Core.Option.{Option, none, some, Option·none-ne-some, Option·some-injective}
-use native.Mathlib.Nat.{mul-le-mul}
 use native.Mathlib.Numerals.{add-one}
 use native.Mathlib.Omega.{arith}
 use lib.ListN.{length, getD, take, drop}
 use Rattle.fields.specs.Answer.{refused, success}
-use Rattle.sheets_rules.specs.Model.{Shape, leaf, inv, nand, size, Pin, Cell, Library, Tree}
+use Rattle.sheets_rules.specs.Model.{Shape, leaf, inv, nand, size, Cell, Library, Tree}
 use Rattle.sheets_rules.specs.Inside.Sound.{SoundLibrary, SoundTree}
-use Rattle.covers.specs.Match.{Input, Match, IsMatch, pinAt, pinLoad, delay}
+use Rattle.covers.specs.Match.{Input, Match, IsMatch, pinLoad}
 use Rattle.covers.specs.Cover.{Point, Placed, raised, beside, late, leafPoint, feeds, inputDelay}
 use Rattle.covers.specs.Tradeoff.{nodes}
-use Rattle.covers.proofs.Basics.{at-all, each}
+use Rattle.covers.proofs.Basics.{each}
 use Rattle.covers.proofs.Points.{point-path}
 use Rattle.result_sheets.specs.Public.{placedOf}
 use Rattle.covers.proofs.Nodes.{nodeOf, root-in, input-in, nodes-within}
@@ -22,6 +21,8 @@ use Rattle.covers.proofs.Bounds.{match-cell}
 use Rattle.sheets_rules.specs.declared.TreeRecord.{TreeRecord}
 use Rattle.sheets_rules.specs.Inside.Layout.{treeLaid}
 use Rattle.leaves.specs.Inside.Leaf.{symbolLimit, Heads}
+use Rattle.cells.specs.Inside.Cell.{slowest, figuresOf}
+use Rattle.cells.proofs.Laws.{delay-is, pin-safe, delay-small}
 use Rattle.overlay.specs.Inside.Standing.{Subject}
 use Rattle.overlay.proofs.Standing.{heads-everywhere, subject-everywhere}
 use Rattle.leaves.proofs.Symbols.{symbols-small}
@@ -31,7 +32,7 @@ use Rattle.judge_rules.proofs.Order.{after, StepIs, wrong, right, step-is, step
 use Rattle.judge_rules.proofs.Walking.{after-apart, started-apart}
 use Rattle.judge.specs.declared.WalkRecord.{WalkRecord}
 use Rattle.judge.specs.declared.Stepped.{Stepped}
-use Rattle.judge.specs.Inside.Promises.{slowest, nothingYet, WalkStored, SteppedIs, Within, Walking, Judging}
+use Rattle.judge.specs.Inside.Promises.{nothingYet, WalkStored, SteppedIs, Within, Walking, Judging}
 use Rattle.judge.proofs.Stored.{kept-nothing}
 
 -- ---- what is to be covered stays within bounds
@@ -75,16 +76,10 @@ started-walking {t} h = record {
 }
 
 module _ {l : Library} (sound : SoundLibrary l) where
-  -- What a pin presents and adds.
-  pin-load : (p : Pin) → pinLoad l p ≤ 255
-  unfolding pinLoad
-  pin-load p = at-all (λ (x : ℕ). x ≤ 255) (l .bins) (p .bin) 0 (omega arith) (sound .loads)
-
-  pin-delay : {c : Cell} {load : ℕ} → List·Memᴰ c (l .cells) → load ≤ 255 → (i : Input) → inputDelay c load i ≤ slowest
-  unfolding inputDelay feeds pinAt delay
-  pin-delay {c} {load} m h i =
-      let p = at-all (λ (p : Pin). (p .intrinsic ≤ 65535) × (p .drive ≤ 255)) (c .pins) (i .pin) (record { bin = 0; intrinsic = 0; drive = 0 }) (omega arith, omega arith) (λ q j. let s = sound .cells c m .pins q j in (s .1, s .2)) in
-      omega (arith, p .0, mul-le-mul (p .1) h)
+  -- What the pin of an input presents and adds.
+  fed-within : {c : Cell} {load : ℕ} → List·Memᴰ c (l .cells) → load ≤ 255 → (i : Input) → (pinLoad l (feeds c i) ≤ 255) × (inputDelay c load i ≤ slowest)
+  unfolding figuresOf
+  fed-within {c} {load} m h i = let safe = pin-safe sound (sound .cells c m) i in (safe .load, omega (arith, delay-is l c load i, delay-small safe load h))
 
   after-walking : {t : Tree} {k low : ℕ} {o : Uncovered} {os : List Uncovered} (q : Point) {m : Match} → Apart low (size (t .shape)) (o ∷ os) → ((u : Uncovered) → List·Memᴰ u (o ∷ os) → Within t k u) → q .area ≤ 65535 * k →
       IsMatch l (o .load) (o .node) (o .shape) m → Walking t (k + 1) (after l o os q m)
@@ -97,7 +92,7 @@ module _ {l : Library} (sound : SoundLibrary l) where
         low = suc (o .node);
         apart = after-apart l q r f;
         within = inputs-within t (k + 1) l cell (o .load) (o .delay) (m .inputs) w
-            (λ i j. (nodes-within 0 (t .shape) (here .node-in) (input-in f i j), pin-load (feeds cell i), omega (arith, pin-delay (match-cell f) (here .light) i, here .near)))
+            (λ i j. (nodes-within 0 (t .shape) (here .node-in) (input-in f i j), fed-within (match-cell f) (here .light) i .0, omega (arith, fed-within (match-cell f) (here .light) i .1, here .near)))
             (λ u j. let v = h u (List·Memᴰ·tail j) in record { node-in = v .node-in; light = v .light; near = omega (arith, v .near) });
         area = omega (arith, inputs-area l cell (o .load) (o .delay) (m .inputs) w, a, sound .cells cell (match-cell f) .area);
       }

@@ -1,33 +1,29 @@
 // The judge of covers that others hand in: the three sheets are read, the listed matches walked from the front, and the stated figures compared.
+use fields::Finding;
+use fields::Refusal;
 use fields::Scan;
 use judge_rules::CoverJudged;
 use overlay::Crossing;
 use overlay::Extents;
 use overlay::Walked;
 use result_sheets::CoverRecord;
+use shapes_rules::Packed;
 use sheets_rules::LibraryRecord;
+use sheets_rules::Limits;
 use sheets_rules::PatternRow;
 use sheets_rules::TreeRecord;
 ghost use mathlib.Core.Path.{_≡_};
-ghost use mathlib.Core.Bool.{cond};
-ghost use mathlib.Core.Option.{some};
 ghost use Prim.Native.Nat.{ℕ, _+_, _<_, _≤_};
-ghost use Rattle.fields.specs.Reading.{start};
-ghost use Rattle.sheets_rules.specs.Model.{Shape, nands as nandsOf, Cell, Library, Pattern, Tree};
-ghost use Rattle.sheets_rules.specs.TreeSheet.{tree as treeOf};
-ghost use Rattle.covers.specs.Crossing.{isCrossing};
-ghost use Rattle.covers.specs.Match.{Match, legal};
+ghost use Rattle.sheets_rules.specs.Model.{Shape, Library, Pattern, Tree};
+ghost use Rattle.sheets_rules.specs.Report.{treeSaid};
+ghost use Rattle.covers.specs.Match.{Match};
 ghost use Rattle.covers.specs.Inside.Curve.{base};
-ghost use Rattle.covers.specs.CoverSheet.{coverRead};
-ghost use Rattle.covers.specs.Outcome.{withTree};
-ghost use Rattle.result_sheets.specs.Public.{coverOf};
-ghost use Rattle.leaves.specs.Inside.Leaf.{Heads, symbolLimit};
+ghost use Rattle.leaves.specs.Inside.Leaf.{symbolLimit};
 ghost use Rattle.overlay.specs.Inside.Promises.{LibraryStored, SheetsStored};
-ghost use Rattle.judge_rules.specs.Walk.{Walk, visited, inputsVisited, matchAt, matchTaken, step as stepOf, started, walk as walkOf};
-ghost use Rattle.judge_rules.specs.Judgement.{figures, coverJudged, judgement, PointBounded};
-ghost use Rattle.judge_rules.specs.Demands.{JudgedWhereSound};
-ghost use Rattle.judge_rules.specs.Public.{ofCoverJudged};
-ghost use Rattle.judge.specs.Inside.Promises.{nothingYet, arrived, pushed, popped, lastOf, WalkStored, Entering, Taking, SteppedIs, Stepping, Judging};
+ghost use Rattle.judge_rules.specs.Walk.{Walk};
+ghost use Rattle.judge_rules.specs.Judgement.{figures};
+ghost use Rattle.judge_rules.specs.Public.{ofCoverJudged, Judges};
+ghost use Rattle.judge.specs.Inside.Promises.{nothingYet, arrived, pushed, popped, Reached, Entering, InputsReached, CrossingTold, Taking, MatchTaken, Stepping, StepTaken, Judging, CoverWalked, RecordJudged, SheetJudged, TreeJudged, Fitting};
 
 // Document 02's numbers: the cover sheet is torn or has a bad tail, a match stands wrongly or the list ends early, a stated figure is not true.
 pub struct Numbers {}
@@ -46,9 +42,9 @@ pub struct WalkRecord {
     pub area: u32,
     pub arrival: u32,
     pub count: usize,
-    pub nodes: [u8; 64],
-    pub loads: [u8; 64],
-    pub delays: [u32; 64],
+    pub nodes: [u8; Limits::TREE_NODES],
+    pub loads: [u8; Limits::TREE_NODES],
+    pub delays: [u32; Limits::TREE_NODES],
 }
 
 // The walk after a match, if it stands rightly.
@@ -65,9 +61,9 @@ fn begin() -> WalkRecord
         area: 0,
         arrival: 0,
         count: 0,
-        nodes: [0u8; 64],
-        loads: [0u8; 64],
-        delays: [0u32; 64],
+        nodes: [0u8; Limits::TREE_NODES],
+        loads: [0u8; Limits::TREE_NODES],
+        delays: [0u32; Limits::TREE_NODES],
     }
 }
 
@@ -111,9 +107,9 @@ fn pop(walk: WalkRecord, area: u32) -> WalkRecord
 // The walk reaches a node with a symbol, under a load and with a delay from there to the root.
 fn visit(walk: WalkRecord, symbol: u32, node: usize, load: u32, delay: u32) -> WalkRecord
     requires { ⌜ (symbol ≤ symbolLimit) × (walk .count < 64) × (node < 64) × (load ≤ 255) × (delay < base) ⌝ }
-    ensures { λ r. ⌜ ((w : Walk) (s : Shape) → WalkStored w walk → Heads symbol s → WalkStored (visited load delay node s w) r) ⌝ }
+    ensures { λ r. ⌜ Reached walk symbol node load delay r ⌝ }
 {
-    if 2 <= symbol {
+    if Packed::LEAF <= symbol {
         return arrive(walk, leaves::leaf_arrival(symbol, load) as u32 + delay);
     }
     push(walk, node, load, delay)
@@ -129,36 +125,24 @@ fn visit_inputs<'a>(
     delay: u32,
 ) -> WalkRecord
     requires { ⌜ ((l : Library) × ((m : Match) × ((w : Walk) × Entering l (now row) (now symbols) walked load delay walk m w))) ⌝ }
-    ensures { λ r. ⌜ ((l : Library) (m : Match) (w : Walk) → Entering l (now (row .entry)) (now (symbols .entry)) walked load delay walk m w →
-        WalkStored (inputsVisited l (m .pattern .cell) load delay (m .inputs) w) r) ⌝ }
+    ensures { λ r. ⌜ InputsReached walk walked (now (row .entry)) (now (symbols .entry)) load delay r ⌝ }
 {
     let mut next = walk;
     let mut k = walked.count;
     while 0 < k {
         k -= 1;
         let node = walked.nodes[k] as usize;
-        let figures = PatternRow::FIGURES + PatternRow::PIN * walked.pins[k] as usize;
-        let own = row[figures + PatternRow::LOAD];
-        let added = row[figures + PatternRow::INTRINSIC] + row[figures + PatternRow::DRIVE] * load;
-        next = visit(next, symbols[node], node, own, added + delay);
+        let pin = cells::pin_figures(row, walked.pins[k] as usize);
+        let later = cells::delay(pin, load) + delay;
+        next = visit(next, symbols[node], node, pin.load, later);
     }
     next
-}
-
-// Whether a match of a cell is legal under a load.
-fn is_legal(held: u32, highest: u32, load: u32) -> bool
-    ensures { λ r. ⌜ ((c : Cell) → held ≡ cond (c .held) 1 0 → highest ≡ c .highest → r ≡ legal c load) ⌝ }
-{
-    if held == 1 {
-        return false;
-    }
-    load <= highest
 }
 
 // Whether a number is a crossing of a drawing with `nands` NANDs: no bit of its five is set after theirs.
 fn is_crossing(nands: usize, crossing: u32) -> bool
     requires { ⌜ nands ≤ 5 ⌝ }
-    ensures { λ r. ⌜ ((d : Shape) → nands ≡ nandsOf d → r ≡ isCrossing d crossing) ⌝ }
+    ensures { λ r. ⌜ CrossingTold nands crossing r ⌝ }
 {
     if Crossing::NUMBERS <= crossing {
         return false;
@@ -175,14 +159,13 @@ fn take_match<'a>(
     sizes: &'a [u8],
 ) -> Stepped
     requires { ⌜ ((l : Library) × ((t : Tree) × ((k : ℕ) × ((p : Pattern) × ((s : Shape) × ((w : Walk) × Taking l t (now row) (now symbols) (now sizes) k p s w walk)))))) ⌝ }
-    ensures { λ r. ⌜ ((l : Library) (t : Tree) (k : ℕ) (p : Pattern) (s : Shape) (w : Walk) (number : ℕ) → Taking l t (now (row .entry)) (now (symbols .entry)) (now (sizes .entry)) k p s w walk →
-        SteppedIs (matchTaken l w (lastOf walk s) (matchAt number crossing (lastOf walk s) (some p))) r) ⌝ }
+    ensures { λ r. ⌜ MatchTaken walk (now (row .entry)) crossing (now (symbols .entry)) (now (sizes .entry)) r ⌝ }
 {
     let top = walk.count - 1;
     let node = walk.nodes[top] as usize;
     let load = walk.loads[top] as u32;
     let delay = walk.delays[top];
-    if !is_legal(row[PatternRow::HELD], row[PatternRow::HIGHEST], load) {
+    if !cells::is_legal(row, load) {
         return Stepped { right: false, walk };
     }
     let extents = overlay::measure(row);
@@ -212,8 +195,7 @@ fn step<'a>(
     crossing: u8,
 ) -> Stepped
     requires { ⌜ ((l : Library) × ((t : Tree) × ((k : ℕ) × ((w : Walk) × Stepping l t (now rows) (now symbols) (now sizes) k w walk)))) ⌝ }
-    ensures { λ r. ⌜ ((l : Library) (t : Tree) (k : ℕ) (w : Walk) → Stepping l t (now (rows .entry)) (now (symbols .entry)) (now (sizes .entry)) k w walk →
-        SteppedIs (stepOf l w (record { node = node; pattern = pattern; crossing = crossing })) r) ⌝ }
+    ensures { λ r. ⌜ StepTaken walk (now (rows .entry)) (now (symbols .entry)) (now (sizes .entry)) node pattern crossing r ⌝ }
 {
     let count = walk.count;
     if count == 0 {
@@ -238,7 +220,7 @@ fn step<'a>(
 // The walk over a cover's matches: its figures, or the first match that stands wrongly, or that the list ends early.
 fn walk_cover(rows: &[u32], tree: TreeRecord, cover: CoverRecord) -> CoverJudged
     requires { ⌜ (cover .count < 64) × ((l : Library) × ((t : Tree) × Judging l t (now rows) tree)) ⌝ }
-    ensures { λ r. ⌜ ((l : Library) (t : Tree) → Judging l t (now (rows .entry)) tree → ofCoverJudged r ≡ walkOf l 0 (coverOf cover .placed) (started t)) ⌝ }
+    ensures { λ r. ⌜ CoverWalked (now (rows .entry)) tree cover r ⌝ }
 {
     let symbols = tree.symbols;
     let sizes = tree.sizes;
@@ -259,13 +241,21 @@ fn walk_cover(rows: &[u32], tree: TreeRecord, cover: CoverRecord) -> CoverJudged
             crossings[k],
         );
         if !stepped.right {
-            return CoverJudged::Refused(Numbers::MATCH, k);
+            return CoverJudged::Refused(Refusal {
+                item: 0,
+                number: Numbers::MATCH,
+                place: k,
+            });
         }
         walk = stepped.walk;
         k += 1;
     }
     if 0 < walk.count {
-        return CoverJudged::Refused(Numbers::MATCH, count);
+        return CoverJudged::Refused(Refusal {
+            item: 0,
+            number: Numbers::MATCH,
+            place: count,
+        });
     }
     CoverJudged::Accepted(walk.area, walk.arrival)
 }
@@ -278,10 +268,18 @@ fn compare(judged: CoverJudged, area: u32, arrival: u32) -> CoverJudged
         return judged;
     };
     if a != area {
-        return CoverJudged::Refused(Numbers::FIGURES, 0);
+        return CoverJudged::Refused(Refusal {
+            item: 0,
+            number: Numbers::FIGURES,
+            place: 0,
+        });
     }
     if t != arrival {
-        return CoverJudged::Refused(Numbers::FIGURES, 0);
+        return CoverJudged::Refused(Refusal {
+            item: 0,
+            number: Numbers::FIGURES,
+            place: 0,
+        });
     }
     judged
 }
@@ -289,7 +287,7 @@ fn compare(judged: CoverJudged, area: u32, arrival: u32) -> CoverJudged
 // A cover as it was read, with a sound library and a sound tree.
 fn with_records(library: LibraryRecord, tree: TreeRecord, cover: CoverRecord) -> CoverJudged
     requires { ⌜ (cover .count < 64) × ((l : Library) × ((t : Tree) × SheetsStored l t library tree)) ⌝ }
-    ensures { λ r. ⌜ ((l : Library) (t : Tree) → SheetsStored l t library tree → ofCoverJudged r ≡ figures (coverOf cover .point) (walkOf l 0 (coverOf cover .placed) (started t))) ⌝ }
+    ensures { λ r. ⌜ RecordJudged library tree cover r ⌝ }
 {
     let rows = library.rows;
     let words = PatternRow::WORDS * library.total;
@@ -301,43 +299,42 @@ fn with_records(library: LibraryRecord, tree: TreeRecord, cover: CoverRecord) ->
 // A cover sheet, with a sound library and a sound tree.
 fn with_tree(library: LibraryRecord, tree: TreeRecord, cover: &[u8]) -> CoverJudged
     requires { ⌜ ((l : Library) × ((t : Tree) × SheetsStored l t library tree)) ⌝ }
-    ensures { λ r. ⌜ ((l : Library) (t : Tree) → SheetsStored l t library tree → ofCoverJudged r ≡ coverJudged (coverRead (now (cover .entry)) start) l t) ⌝ }
-    ensures { λ r. ⌜ PointBounded (ofCoverJudged r) ⌝ }
+    ensures { λ r. ⌜ SheetJudged library tree (now (cover .entry)) r ⌝ }
 {
     let read = result_sheets::read_cover(cover);
     let scan = read.scan;
     match scan {
         Scan::At(_) => with_records(library, tree, read.cover),
-        Scan::Refused(_, place) => CoverJudged::Refused(Numbers::SHEET, place),
+        Scan::Refused(_, place) => CoverJudged::Refused(Refusal {
+            item: 0,
+            number: Numbers::SHEET,
+            place,
+        }),
     }
 }
 
 // Any tree and any cover sheet, with a sound library.
 fn with_library(library: LibraryRecord, tree: &[u8], cover: &[u8]) -> CoverJudged
     requires { ⌜ ((l : Library) × LibraryStored l library) ⌝ }
-    ensures { λ r. ⌜ ((l : Library) → LibraryStored l library → ofCoverJudged r ≡ withTree (coverJudged (coverRead (now (cover .entry)) start) l) (treeOf (now (tree .entry)) start)) ⌝ }
-    ensures { λ r. ⌜ PointBounded (ofCoverJudged r) ⌝ }
+    ensures { λ r. ⌜ TreeJudged library (now (tree .entry)) (now (cover .entry)) r ⌝ }
+    ensures { λ r. ⌜ Fitting (treeSaid (now (tree .entry))) ⌝ }
 {
     let read = tree::read_tree(tree);
-    let scan = read.scan;
-    match scan {
-        Scan::At(_) => with_tree(library, read.tree, cover),
-        Scan::Refused(fault, place) => { CoverJudged::Refused(tree::tree_number(fault), place) }
+    let finding = read.finding;
+    match finding {
+        Finding::Refused(refusal) => CoverJudged::Refused(refusal),
+        Finding::Found => with_tree(library, read.tree, cover),
     }
 }
 
 // Whether a cover sheet is that of a legal cover of the tree by the library's cells, with its true figures.
 pub fn judge_cover(library: &[u8], tree: &[u8], cover: &[u8]) -> CoverJudged
-    ensures { λ r. ⌜ ofCoverJudged r ≡ judgement (now (library .entry)) (now (tree .entry)) (now (cover .entry)) ⌝ }
-    ensures { λ r. ⌜ JudgedWhereSound (now (library .entry)) (now (tree .entry)) (now (cover .entry)) (ofCoverJudged r) ⌝ }
-    ensures { λ r. ⌜ PointBounded (ofCoverJudged r) ⌝ }
+    ensures { λ r. ⌜ Judges (now (library .entry)) (now (tree .entry)) (now (cover .entry)) (ofCoverJudged r) ⌝ }
 {
     let read = library::read_library(library);
-    let scan = read.scan;
-    match scan {
-        Scan::At(_) => with_library(read.library, tree, cover),
-        Scan::Refused(fault, place) => {
-            CoverJudged::Refused(library::library_number(fault), place)
-        }
+    let finding = read.finding;
+    match finding {
+        Finding::Refused(refusal) => CoverJudged::Refused(refusal),
+        Finding::Found => with_library(read.library, tree, cover),
     }
 }

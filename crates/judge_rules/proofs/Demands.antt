@@ -1,67 +1,55 @@
 -- The judge's answers meet the demands, from the bytes of the three sheets; and a word says its answer.
-use Prim.Native.Nat.{ℕ, suc, _+_, _*_, _^_, _≤_}
+use Prim.Native.Nat.{ℕ, suc, _+_, _*_, _/_, _%_, _^_, _≤_}
 use mathlib.Core.Path.{_≡_, refl, sym, ap, ap₂, subst, _∙_}
+use mathlib.Core.Logic.{_⊎_}
 use mathlib.Core.Bool.{Bool, true, false, false≢true, _&&_, cond}
-use mathlib.Core.List.{List, [], _∷_}
-use mathlib.Core.Option.{Option, none, some}
+use mathlib.Core.List.{List, _∷_}
+use mathlib.Core.Option.{none}
 use native.Mathlib.Omega.{arith}
 use lib.Dec.{leb}
-use lib.ListN.{length}
+use lib.ListN.{take, drop, take-append-drop, length-drop}
+use lib.Seq.{length-take-le}
 use borrow.Author.Tests.{lt-ltb, le-ltb, leb-true}
 use Rattle.bits.specs.declared.Cursor.{Cursor}
+use Rattle.fields.specs.declared.Fault.{Fault}
 use Rattle.fields.specs.declared.Scan.{Scan}
 use Rattle.fields.specs.declared.Scan.the-variants.{At, Refused}
 use Rattle.fields.specs.Reading.{Live, start}
-use Rattle.fields.specs.Answer.{Answer, refused, success, places}
+use Rattle.fields.specs.Answer.{Answer, refused, refusedIn, success, _>>=_, places, numbers}
+use Rattle.fields.proofs.Answer.{after-success}
 use Rattle.sheets_rules.specs.Model.{Library, Tree}
-use Rattle.sheets_rules.specs.LibrarySheet.{library}
-use Rattle.sheets_rules.specs.TreeSheet.{tree}
-use Rattle.sheets_rules.proofs.Sound.{library-limits, tree-limits}
-use Rattle.covers.specs.Capacity.{capacity, workWords}
-use Rattle.covers.specs.Cover.{Point, Placed, Cover}
+use Rattle.sheets_rules.specs.Report.{librarySaid, treeSaid}
+use Rattle.sheets_rules.proofs.Sound.{library-sound, tree-sound}
+use Rattle.covers.specs.Cover.{Point, Cover}
 use Rattle.covers.specs.Tradeoff.{same}
 use Rattle.covers.specs.CoverSheet.{arrivalWidth, coverRead, CoverReads}
-use Rattle.covers.specs.Outcome.{mapBytes, lent, withLibrary, withTree, operation, mapOutcome}
-use Rattle.covers.specs.Answer.{mapAnswer}
 use Rattle.covers.specs.Promise.{RootCover}
 use Rattle.covers.proofs.Points.{point-path, same-true, same-refl}
 use Rattle.covers.proofs.Determined.{placed-determines}
 use Rattle.covers.proofs.ReadBack.{cover-reads}
 use Rattle.covers.proofs.FromSheets.{cover-fits}
-use Rattle.covers.proofs.Demands.{map-demands}
-use Rattle.judge_rules.specs.Walk.{Uncovered, Walk, matchNumber, started, step, listEnded, onward, walk}
+use Rattle.covers.proofs.Demands.{map-lent, map-demands}
+use Rattle.judge_rules.specs.Walk.{matchNumber, started, walk}
+use Rattle.judge_rules.specs.Places.{Torn, BadTail}
 use Rattle.judge_rules.specs.Judgement.{sheetNumber, figuresNumber, figures, coverJudged, judgement, accepted, pointWord, ofPointWord, PointBounded}
-use Rattle.judge_rules.specs.Demands.{Listing, SaidExactly, JudgedWhereSound}
+use Rattle.judge_rules.specs.Demands.{Listing, SaidExactly, SaidWhere, JudgedWhereSound}
 use Rattle.judge_rules.proofs.Walking.{answer-none, walk-legal}
+use Rattle.judge_rules.proofs.Fronts.{walk-refused, walked, listing-walked, walked-late, walked-early, walked-alike}
+use Rattle.judge_rules.proofs.Places.{place-refused, refused-place}
 use Rattle.judge_rules.proofs.Sheet as Sheet
 
 -- ---- a word says its answer
 
 pub point-word-reads : (a : Answer Point) → PointBounded a → ofPointWord (pointWord a) ≡ a
 unfolding pointWord ofPointWord PointBounded
-point-word-reads (refused number place) h = rw (lt-ltb (number * places + place) accepted (omega arith)) (ap₂ (λ (n p : ℕ). refused n p) (omega arith) (omega arith))
+point-word-reads (refusedIn item number place) h =
+    let w = (item * numbers + number) * places + place in
+    let about : w / places / numbers ≡ item = omega arith in
+    let said : w / places % numbers ≡ number = omega arith in
+    let at : w % places ≡ place = omega arith in
+    rw (lt-ltb w accepted (omega arith)) (cc)
 point-word-reads (success p) h =
     rw (le-ltb (accepted + p .area * 2 ^ arrivalWidth + p .arrival) accepted (omega arith)) (ap success (point-path (omega arith) (omega arith)))
-
--- ---- what a walk refuses
-
--- A walk's refusal is 23, at a position of the list or at its end.
-pub record WalkRefused (k : ℕ) (xs : List Placed) (number place : ℕ) : Type 0 where
-  pub number-is : number ≡ matchNumber
-  pub place-in : place ≤ k + length xs
-
-pub walk-refused : (l : Library) (k : ℕ) (xs : List Placed) (w : Walk) {number place : ℕ} → walk l k xs w ≡ refused number place → WalkRefused k xs number place
-unfolding walk
-walk-refused l k [] w {number} {place} e = go (w .left) e
-  where
-    go : (os : List Uncovered) → listEnded k os (w .point) ≡ refused number place → WalkRefused k [] number place
-    go [] e = unfold listEnded in absurd (answer-none (sym e))
-    go (o ∷ os) e = unfold listEnded in record { number-is = cc; place-in = let same : place ≡ k = cc in omega arith }
-walk-refused l k (x ∷ xs) w {number} {place} e = go (step l w x) e (λ v. walk-refused l (suc k) xs v)
-  where
-    go : (o : Option Walk) → onward k (walk l (suc k) xs) o ≡ refused number place → ((v : Walk) → walk l (suc k) xs v ≡ refused number place → WalkRefused (suc k) xs number place) → WalkRefused k (x ∷ xs) number place
-    go none e later = unfold onward in record { number-is = cc; place-in = let same : place ≡ k = cc in omega arith }
-    go (some v) e later = unfold onward in let r = later v e in record { number-is = r .number-is; place-in = omega (arith, r .place-in) }
 
 -- ---- what is said of a sheet
 
@@ -77,10 +65,10 @@ unfolding coverJudged figures
 judged cs l t = read (coverRead cs start) refl
   where
     figured : (c : Cover) → CoverReads c cs → (a : Answer Point) → walk l 0 (c .placed) (started t) ≡ a → Judged cs l t (figures (c .point) a)
-    figured c h (refused n k) e = unfold figures in subst (λ (i : ℕ). Judged cs l t (refused i k)) (sym (walk-refused l 0 (c .placed) (started t) e .number-is)) (unlisted c h none)
+    figured c h (refusedIn i n k) e = unfold figures in let r = walk-refused l 0 (c .placed) (started t) e in rw (r .item-is, r .number-is) (unlisted c h none)
       where
         none : (d : Cover) → Listing l t (c .placed) d → ⊥
-        none d m = answer-none (sym e ∙ walk-legal l t (c .placed) (d .point) .1 (subst (RootCover l t) (λ i. record { point = d .point; placed = m .1 i }) (m .0)))
+        none d m = answer-none (sym e ∙ listing-walked l t d m)
     figured c h (success p) e = unfold figures in go (same p (c .point)) refl
       where
         legal : RootCover l t (record { point = p; placed = c .placed })
@@ -101,7 +89,7 @@ judged cs l t = read (coverRead cs start) refl
 
 -- Answers with different numbers differ; a success's is 0.
 number : {A : Type 0} → Answer A → ℕ
-number (refused n k) = n
+number (refusedIn i n k) = n
 number (success a) = 0
 
 reads-same : {cs : List ℕ} {c d : Cover} → CoverReads c cs → CoverReads d cs → c ≡ d
@@ -134,38 +122,72 @@ worth {cs} {l} {t} (true-figures c h legal) = record {
   sheet-exactly = (λ e. absurd (answer-none (sym (e .1))), λ r. absurd (r c h));
 }
 
--- What was handed over was lent enough.
-lent-enough : {A : Type 0} (least output work : ℕ) (r : Answer A) {a : A} → lent least output work r ≡ success a → (least ≤ output) × (workWords capacity ≤ work)
-unfolding lent
-lent-enough least output work r {a} e = go (leb least output) refl (leb (workWords capacity) work) refl e
-  where
-    go : (b : Bool) → leb least output ≡ b → (d : Bool) → leb (workWords capacity) work ≡ d → cond (b && d) r (refused 1 0) ≡ success a → (least ≤ output) × (workWords capacity ≤ work)
-    go true f true g e = (leb-true least output f, leb-true (workWords capacity) work g)
-    go true f false g e = absurd (answer-none e)
-    go false f d g e = absurd (answer-none e)
-
-sound : {s : Scan} {c : Cursor} → s ≡ At c → Live s
-sound e = subst Live (sym e) tt
-
 -- A sound library and a sound tree: what is said of the cover.
-judged-cover : (ls ts cs : List ℕ) (c c′ : Cursor) → library ls start .1 ≡ At c → tree ts start .1 ≡ At c′ → judgement ls ts cs ≡ coverJudged (coverRead cs start) (library ls start .0) (tree ts start .0)
-unfolding judgement withLibrary withTree
-judged-cover ls ts cs c c′ e e′ = ap₂ (λ (q r : Scan). withLibrary (coverJudged (coverRead cs start)) (library ls start .0, q) (tree ts start .0, r)) e e′
+pub judged-cover : (ls ts cs : List ℕ) {l : Library} {t : Tree} → librarySaid ls ≡ success l → treeSaid ts ≡ success t → judgement ls ts cs ≡ coverJudged (coverRead cs start) l t
+unfolding judgement
+judged-cover ls ts cs {l} e e′ = after-success (λ l. treeSaid ts >>= (λ t. coverJudged (coverRead cs start) l t)) e ∙ after-success (λ t. coverJudged (coverRead cs start) l t) e′
+
+-- Where it is said.
+module _ (ls ts cs : List ℕ) (l : Library) (t : Tree) (sheets : (ds : List ℕ) → judgement ls ts ds ≡ coverJudged (coverRead ds start) l t) where
+  -- What is said of a cover that was read.
+  read-judged : {c : Cover} {ds : List ℕ} → CoverReads c ds → judgement ls ts ds ≡ figures (c .point) (walked l t (c .placed))
+  unfolding coverJudged
+  read-judged {ds = ds} h = sheets ds ∙ ap (λ (r : Cover × Scan). coverJudged r l t) (h .reads)
+
+  stopped : {c : Cover} {k : ℕ} → CoverReads c cs → judgement ls ts cs ≡ refused matchNumber k → walked l t (c .placed) ≡ refused matchNumber k
+  unfolding figures
+  stopped {c} {k} h e = go (walked l t (c .placed)) (sym (read-judged h) ∙ e)
+    where
+      go : (a : Answer Point) → figures (c .point) a ≡ refused matchNumber k → a ≡ refused matchNumber k
+      go (refusedIn j n i) e = unfold figures in e
+      go (success p) e = unfold figures in figured (same p (c .point)) e
+        where
+          figured : (b : Bool) → cond b (success p) (refused figuresNumber 0) ≡ refused matchNumber k → success p ≡ refused matchNumber k
+          figured true e = e
+          figured false e = unfold number in absurd (omega (arith, ap number e))
+
+  unread-said : {f : Fault} {p : ℕ} → coverRead cs start .1 ≡ Refused f p → judgement ls ts cs ≡ refused sheetNumber p
+  unfolding coverJudged
+  unread-said g = sheets cs ∙ ap (λ (r : Scan). coverJudged (coverRead cs start .0, r) l t) g
+
+  stops-at : {c : Cover} {ds : List ℕ} {k : ℕ} → CoverReads c ds → walked l t (c .placed) ≡ refused matchNumber k → judgement ls ts ds ≡ refused matchNumber k
+  unfolding figures
+  stops-at {c} h e = read-judged h ∙ ap (figures (c .point)) e
+
+  unread-at : {k : ℕ} → SaidExactly cs l t (judgement ls ts cs) → judgement ls ts cs ≡ refused sheetNumber k → Torn cs k ⊎ BadTail cs k
+  unread-at {k} said e = go (coverRead cs start .1) refl
+    where
+      go : (q : Scan) → coverRead cs start .1 ≡ q → Torn cs k ⊎ BadTail cs k
+      go (At q) g = absurd (said .sheet-exactly .0 (k, e) (coverRead cs start .0) (Sheet.reads-whole cs (coverRead cs start .0) q (ap (λ (r : Scan). (coverRead cs start .0, r)) g)))
+      go (Refused f p) g =
+          let there : refused sheetNumber p ≡ refused sheetNumber k = sym (unread-said g) ∙ e in
+          let same : p ≡ k = cc in
+          refused-place cs (g ∙ ap (Refused f) same)
+
+  said-where : SaidExactly cs l t (judgement ls ts cs) → SaidWhere ls ts cs l t (judgement ls ts cs)
+  said-where said = record {
+    sheet-place = λ k. (unread-at said, λ r. unread-said (place-refused cs r .1));
+    match-place = λ c k h e. omega (arith, walk-refused l 0 (c .placed) (started t) (stopped h e) .place-in);
+    ends-late = λ c d k h m less.
+        let late = walked-late l t (take k (c .placed)) (drop k (c .placed)) (listing-walked l t d m) (omega (arith, length-drop k (c .placed))) in
+        stops-at h (ap (walked l t) (sym (take-append-drop k (c .placed))) ∙ late ∙ ap (refused matchNumber) (length-take-le k (c .placed) (omega arith)));
+    ends-early = λ c d x xs h m. stops-at h (walked-early l t (c .placed) (x ∷ xs) (listing-walked l t d m) (omega arith));
+    match-wrong = λ c d k h e less legal alike. answer-none (sym (walked-alike l t (c .placed) (d .placed) k (stopped h e) less alike) ∙ listing-walked l t d (legal, refl));
+    match-first = λ c d k ds h e less g alike. stops-at g (walked-alike l t (c .placed) (d .placed) k (stopped h e) less alike);
+  }
 
 pub judge-demands : (ls ts cs : List ℕ) → JudgedWhereSound ls ts cs (judgement ls ts cs)
-unfolding mapOutcome operation
-judge-demands ls ts cs c c′ e e′ =
-    let l = library ls start .0 in
-    let t = tree ts start .0 in
-    let said : SaidExactly cs l t (judgement ls ts cs) = subst (SaidExactly cs l t) (sym (judged-cover ls ts cs c c′ e e′)) (worth (judged cs l t)) in
+judge-demands ls ts cs l t e e′ =
+    let said : SaidExactly cs l t (judgement ls ts cs) = subst (SaidExactly cs l t) (sym (judged-cover ls ts cs e e′)) (worth (judged cs l t)) in
     record {
       exactly = said;
+      where-said = said-where ls ts cs l t (λ ds. judged-cover ls ts ds e e′) said;
       sheets-exactly = λ bytes p. (
         λ e. let r = said .accepted-exactly p .0 e in (r .0, Sheet.one-sheet cs (r .0) (r .1) bytes, r .2, r .3),
-        λ r. let reads = cover-reads (cover-fits (library-limits ls (sound e)) (tree-limits ts (sound e′)) (r .2)) in said .accepted-exactly p .1 (r .0, subst (CoverReads (r .0)) (sym (r .1)) reads, r .2, r .3),
+        λ r. let reads = cover-reads (cover-fits (library-sound ls e) (tree-sound ts e′) (r .2)) in said .accepted-exactly p .1 (r .0, subst (CoverReads (r .0)) (sym (r .1)) reads, r .2, r .3),
       );
       from-map = λ output work h.
-          let enough = lent-enough mapBytes output work (withLibrary (mapAnswer capacity) (library ls start) (tree ts start)) h in
-          let best = map-demands ls ts output work c c′ (enough .0) (enough .1) e e′ .sheet-is cs h in
+          let enough = map-lent ls ts output work h in
+          let best = map-demands ls ts output work l t (enough .0) (enough .1) e e′ .sheet-is cs h in
           (best .0, best .2, best .3, said .accepted-exactly (best .0 .point) .1 (best .0, best .2, best .3 .best .legal, refl));
     }

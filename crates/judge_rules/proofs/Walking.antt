@@ -7,7 +7,8 @@ use mathlib.Core.Option.{Option, none, some, Option·none-ne-some}
 use native.Mathlib.Nat.{le-refl}
 use native.Mathlib.Omega.{arith}
 use lib.ListN.{length, length-append}
-use Rattle.fields.specs.Answer.{Answer, refused, success}
+use Rattle.fields.specs.Answer.{Answer, refusedIn, success}
+use Rattle.fields.proofs.Answer.{answer-apart}
 use Rattle.sheets_rules.specs.Model.{Leaf, pinOf, Shape, leaf, inv, nand, size, Cell, Library, Tree}
 use Rattle.covers.specs.Crossing.{redrawn}
 use Rattle.covers.specs.Match.{Input, Match, IsMatch, joined, laid, matched, pinLoad}
@@ -259,8 +260,8 @@ after-apart l {o = o} {os} q {m} (next a g r) f = inputs-apart l (m .pattern .ce
 is-gate : {low high : ℕ} {o : Uncovered} {os : List Uncovered} → Apart low high (o ∷ os) → 0 < gates (o .shape)
 is-gate (next a g r) = g
 
-pub answer-none : {A : Type 0} {n k : ℕ} {a : A} → _≡_ {A = Answer A} (refused n k) (success a) → ⊥
-answer-none e = let z : _≡_ {A = ℕ} 0 1 = cc in omega arith
+pub answer-none : {A : Type 0} {i n k : ℕ} {a : A} → _≡_ {A = Answer A} (refusedIn i n k) (success a) → ⊥
+answer-none e = answer-apart (sym e)
 
 module _ (l : Library) (p : Point) where
   -- What a walk ends with is covered by what it walked over.

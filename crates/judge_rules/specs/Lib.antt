@@ -1,5 +1,6 @@
 -- The judge of covers, in reading order.
 pub mod Walk
+pub mod Places
 pub mod Judgement
 pub mod Demands
 pub mod DriveZero

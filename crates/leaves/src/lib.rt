@@ -2,7 +2,6 @@
 use shapes_rules::Packed;
 ghost use mathlib.Core.Path.{_≡_};
 ghost use Prim.Native.Nat.{_+_, _-_, _<_, _≤_};
-ghost use lib.ListN.{length, getD};
 ghost use Rattle.shapes_rules.specs.Shape.{leafSymbol};
 ghost use Rattle.covers.specs.Cover.{leafArrival};
 ghost use Rattle.covers.specs.Inside.Curve.{base};
@@ -15,18 +14,6 @@ pub fn leaf_arrival(symbol: u32, load: u32) -> u64
 {
     let packed = symbol - Packed::LEAF;
     (packed % Packed::DRIVE + packed / Packed::DRIVE * load) as u64
-}
-
-// The same where the load stands among figures: a leaf with no drive does not look at it.
-pub fn leaf_arrival_at(symbol: u32, figures: &[u32], load: usize) -> u64
-    requires { ⌜ (2 ≤ symbol) × (symbol ≤ symbolLimit) × (load < length (now figures)) × (getD (now figures) load 0 ≤ 255) ⌝ }
-    ensures { λ r. ⌜ (r ≡ leafArrival (leafOf symbol) (getD (now (figures .entry)) load 0)) × (r < base) ⌝ }
-{
-    let whole = symbol - Packed::LEAF;
-    if whole < Packed::DRIVE {
-        return whole as u64;
-    }
-    leaf_arrival(symbol, figures[load])
 }
 
 // The symbol of a leaf with another arrival and the same drive.

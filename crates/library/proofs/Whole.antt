@@ -1,31 +1,37 @@
 -- Laws about the whole of each sheet.
-use mathlib.Core.Path.{_≡_, sym, ap, ap₂, subst, _∙_}
+use mathlib.Core.Path.{_≡_, refl, sym, ap, ap₂, subst, _∙_}
 use mathlib.Core.List.{List, map}
 use Prim.Native.Nat.{ℕ, _+_, _≤_}
 use native.Mathlib.Omega.{arith}
 use lib.ListN.{length, replicate}
-use Rattle.bits.specs.declared.Cursor.{Cursor}
 use Rattle.bits.specs.Bits.{endsAt}
-use Rattle.fields.specs.declared.Fault.{Fault}
-use Rattle.fields.specs.Answer.{refused, success, Bounded}
+use Rattle.fields.specs.declared.Finding.{Finding}
+use Rattle.fields.specs.declared.Refusal.{Refusal}
+use Rattle.fields.specs.declared.Finding.the-variants as Finding
+use Rattle.fields.specs.Answer.{refusal, success, onSuccess, said, Bounded}
 use Rattle.fields.specs.declared.Got.{Got}
 use Rattle.fields.specs.declared.Scan.{Scan}
 use Rattle.fields.specs.declared.Scan.the-variants.{At, Refused}
 use Rattle.fields.specs.Reading.{start, place, times, field, within, ended, Live}
-use Rattle.fields.specs.Inside.Promises.{Reads}
+use Rattle.fields.specs.Inside.Promises.{findingOf, Says, Reads}
+use Rattle.fields.proofs.Answer.{scan-says}
 use Rattle.fields.proofs.Laws.{start-place, value-at, scan-at, length-times, tailed-live, tailed-place}
 use Rattle.sheets_rules.specs.declared.Bins.{Bins}
+use Rattle.sheets_rules.specs.declared.LibraryRecord.{LibraryRecord}
 use Rattle.library.specs.declared.BinsRead.{BinsRead}
 use Rattle.library.specs.declared.CellsRead.{CellsRead}
 use Rattle.sheets_rules.specs.Model.{Pin, binLoadOf, Cell, Pattern, patterns, patternsFrom, pinsMost}
 use Rattle.sheets_rules.specs.LibrarySheet.{binLoad, bins, cells, library, cellAfter}
-use Rattle.sheets_rules.specs.Report.{LibraryLimits, libraryNumber, LibraryCounts, libraryWord, libraryRead, libraryReport}
+use Rattle.sheets_rules.specs.Report.{LibraryLimits, libraryNumber, LibraryCounts, countsOf, libraryWord, librarySaid, libraryReport}
 use Rattle.library.specs.declared.SheetRead.{SheetRead}
 use Rattle.sheets_rules.specs.Inside.Layout.{padded, cellLaid, rowWords, tableWords, row, tableFrom, patternRow, patternRows, libraryLaid}
 use Rattle.sheets_rules.specs.Inside.Readers.{LibraryIs}
 use Rattle.library.specs.Inside.Promises.{BinsAre, CellsAre, SheetIs}
 use Rattle.sheets_rules.proofs.Laid.{padded-at}
-use Rattle.sheets_rules.proofs.Report.{number-bounds}
+use Rattle.sheets_rules.specs.Inside.Sound.{LibraryStored}
+use Rattle.sheets_rules.specs.Reach.{libraryBits}
+use Rattle.sheets_rules.proofs.Report.{number-bounds, library-number-fits}
+use Rattle.sheets_rules.proofs.Sound.{library-limits}
 
 -- The bin loads in their array, and in the rows of patterns.
 bins-padded : (xs : List ℕ) → length xs ≤ 4 → binLoadOf (padded 4 0 xs) ≡ binLoadOf xs
@@ -84,35 +90,43 @@ sheet-is s c nb lb nc rc l l′ res ec hnb hlb hnc hrc er =
     }
 
 -- With its rows laid out in a table of zeros the library is whole.
-pub library-is : (s l′ : List ℕ) (r : SheetRead) → SheetIs s (replicate tableWords 0) l′ r →
-    LibraryIs s (record { scan = r .scan; library = record { bins = r .bins; count = r .count; total = r .total; rows = l′ } })
-unfolding libraryLaid
-library-is s l′ r h = record {
-  scan-is = h .scan-is;
-  laid = λ q i. record { bins = h .bins-are q i; count = h .counted q i; total = h .totalled q i; rows = h .laid q i };
-  bins-few = h .bins-few;
-  cells-few = h .cells-few;
-  patterns-few = h .patterns-few;
-  near = h .near;
-}
+pub library-is : (s l′ : List ℕ) (r : SheetRead) (found : Finding) → SheetIs s (replicate tableWords 0) l′ r → found ≡ findingOf libraryNumber (r .scan) →
+    LibraryIs s (record { finding = found; library = record { bins = r .bins; count = r .count; total = r .total; rows = l′ } })
+unfolding libraryLaid librarySaid
+library-is s l′ r found h e = record { said = subst (λ (q : Finding). Says LibraryStored (librarySaid s) q record-is) (ap (findingOf libraryNumber) (sym (h .scan-is)) ∙ sym e) said; near = λ q g. near (r .scan) refl (sym g ∙ e) }
+  where
+    record-is : LibraryRecord
+    record-is = record { bins = r .bins; count = r .count; total = r .total; rows = l′ }
 
--- ---- what the judges say
+    said : Says LibraryStored (librarySaid s) (findingOf libraryNumber (library s start .1)) record-is
+    said =
+        scan-says LibraryStored libraryNumber (library s start) record-is library-number-fits (omega (arith, h .near, ap place (h .scan-is)))
+        (λ live. let q : Live (r .scan) = subst Live (sym (h .scan-is)) live in
+        record { sound = library-limits s live; library-is = λ i. record { bins = h .bins-are q i; count = h .counted q i; total = h .totalled q i; rows = h .laid q i } })
+
+    near : {q : Refusal} (z : Scan) → r .scan ≡ z → Finding.Refused q ≡ findingOf libraryNumber z → q .place ≤ libraryBits
+    near (At c) k g = let z : _≡_ {A = ℕ} 0 1 = cc in absurd (omega arith)
+    near {q} (Refused f p) k g = let is : q ≡ record { item = 0; number = libraryNumber f; place = p } = cc in omega (arith, h .near, ap place k, ap (λ (x : Refusal). x .place) is)
+
+-- ---- what the judge says
 
 module _ (s l l′ : List ℕ) (r : SheetRead) (h : SheetIs s l l′ r) where
-  pub library-sound : (c : Cursor) → r .scan ≡ At c →
-      let n : LibraryCounts = record { cells = r .count; patterns = r .total } in
-      (success n ≡ libraryReport s) × (Bounded (success (libraryWord n)) × LibraryLimits (success n))
-  unfolding libraryReport libraryRead libraryLaid libraryWord Bounded LibraryLimits
-  library-sound c e =
-      let live : Live (r .scan) = subst Live (sym e) tt in (
-        ap₂ (λ (n m : ℕ). success (record { cells = n; patterns = m })) (h .counted live) (h .totalled live)
-            ∙ ap (λ (q : Scan). libraryRead (library s start .0, q)) (sym e ∙ h .scan-is),
-        (omega (arith, h .cells-few, h .patterns-few), (h .cells-few, h .patterns-few)),
-      )
+  abbrev counts : LibraryCounts
+  counts = record { cells = r .count; patterns = r .total }
 
-  pub library-refused : (f : Fault) (n p : ℕ) → r .scan ≡ Refused f p → n ≡ libraryNumber f → (refused n p ≡ libraryReport s) × (Bounded (refused n p) × LibraryLimits (refused n p))
-  unfolding libraryReport libraryRead Bounded LibraryLimits
-  library-refused f n p e en = (
-    ap (λ (k : ℕ). refused k p) en ∙ ap (λ (q : Scan). libraryRead (library s start .0, q)) (sym e ∙ h .scan-is),
-    (omega (arith, h .near, ap place e, number-bounds f), omega (arith, h .near, ap place e)),
-  )
+  abbrev Judged : Finding → Type 0
+  Judged Finding.Found = (success counts ≡ libraryReport s) × (Bounded (success (libraryWord counts)) × LibraryLimits (success counts))
+  Judged (Finding.Refused q) = (refusal q ≡ libraryReport s) × (Bounded (refusal q) × LibraryLimits (refusal q))
+
+  pub library-judged : (f : Finding) → f ≡ findingOf libraryNumber (r .scan) → Judged f
+  unfolding libraryReport libraryLaid libraryWord Bounded LibraryLimits
+  library-judged f e = subst Judged (sym e) (go (r .scan) refl)
+    where
+      report : (q : Scan) → r .scan ≡ q → onSuccess countsOf (said libraryNumber (library s start .0, q)) ≡ libraryReport s
+      report q e = ap (λ (z : Scan). onSuccess countsOf (said libraryNumber (library s start .0, z))) (sym e ∙ h .scan-is)
+
+      go : (q : Scan) → r .scan ≡ q → Judged (findingOf libraryNumber q)
+      go (At c) e =
+          let live : Live (r .scan) = subst Live (sym e) tt in
+          (ap₂ (λ (n m : ℕ). success (record { cells = n; patterns = m })) (h .counted live) (h .totalled live) ∙ report (At c) e, (omega (arith, h .cells-few, h .patterns-few), (h .cells-few, h .patterns-few)))
+      go (Refused f p) e = (report (Refused f p) e, (omega (arith, h .near, ap place e, number-bounds f), omega (arith, h .near, ap place e)))

@@ -1,5 +1,7 @@
 // The library sheet: what is decoded from it, and its judge.
 use fields::Fault;
+use fields::Finding;
+use fields::Refusal;
 use fields::Scan;
 use fields::Verdict;
 use shapes_rules::Rules;
@@ -10,6 +12,7 @@ use sheets_rules::LibraryRead;
 use sheets_rules::LibraryRecord;
 use sheets_rules::Limits;
 use sheets_rules::PatternRow;
+use sheets_rules::Slots;
 ghost use mathlib.Core.Path.{_≡_};
 ghost use mathlib.Core.Bool.{cond, _||_};
 ghost use lib.Dec.{eqb};
@@ -18,6 +21,7 @@ ghost use Prim.Native.Nat.{_+_, _-_, _*_, _≤_, _<_};
 ghost use lib.ListN.{length, take};
 ghost use lib.Seq.{sets};
 ghost use Rattle.fields.specs.Answer.{onSuccess, Bounded};
+ghost use Rattle.fields.specs.Inside.Promises.{findingOf};
 ghost use Rattle.sheets_rules.specs.LibrarySheet.{complete, countVerdict};
 ghost use Rattle.sheets_rules.specs.Inside.Layout.{rowWords, figuresAt, figures, cellWords};
 ghost use Rattle.sheets_rules.specs.Model.{pinsMost};
@@ -25,6 +29,34 @@ ghost use Rattle.library.specs.Inside.Promises.{InReach, Tabled, BinsAre
 ghost use Rattle.sheets_rules.specs.Reach.{binBits, headBits, pinBits, patternBits, countBits, drawingsBits, cellBits};
 ghost use Rattle.sheets_rules.specs.Inside.Readers.{LibraryIs};
 ghost use Rattle.sheets_rules.specs.Report.{ofLibraryJudged, LibraryLimits, libraryWord, libraryReport, libraryNumber};
+
+// The widths of the library sheet's fields.
+struct Width {}
+
+impl Width {
+    const BIN_COUNT: usize = 3;
+
+    const LOAD: usize = 8;
+
+    const CELL_COUNT: usize = 7;
+
+    const HELD: usize = 1;
+
+    const AREA: usize = 16;
+
+    const PIN_COUNT: usize = 3;
+
+    const BIN: usize = 2;
+
+    const INTRINSIC: usize = 16;
+
+    const DRIVE: usize = 8;
+
+    const DRAWING_COUNT: usize = 3;
+
+    // A pin's number in a drawing.
+    const PIN: usize = 3;
+}
 
 // A cell with its number in the library.
 pub struct NumberedCell {
@@ -35,7 +67,7 @@ pub struct NumberedCell {
 // The bin loads, and the scan after them.
 pub struct BinsRead {
     pub scan: Scan,
-    pub loads: [u8; 4],
+    pub loads: [u8; Slots::BINS],
 }
 
 // A cell's first fields, and the scan after them.
@@ -59,10 +91,10 @@ pub struct PinRead {
 // A cell's pins, and the scan after them.
 pub struct PinsRead {
     pub scan: Scan,
-    pub bins: [u8; 6],
-    pub loads: [u8; 6],
-    pub intrinsics: [u16; 6],
-    pub drives: [u8; 6],
+    pub bins: [u8; Slots::PINS],
+    pub loads: [u8; Slots::PINS],
+    pub intrinsics: [u16; Slots::PINS],
+    pub drives: [u8; Slots::PINS],
 }
 
 // The bin loads: each above the one before.
@@ -70,12 +102,12 @@ fn read_bins(scan: Scan, s: &[u8], count: u32) -> BinsRead
     requires { ⌜ (count ≤ 4) × InReach scan (binBits * count) ⌝ }
     ensures { λ r. ⌜ BinsAre (now (s .entry)) count scan r ⌝ }
 {
-    let mut loads = [0u8; 4];
+    let mut loads = [0u8; Slots::BINS];
     let mut at = scan;
     let mut before: u32 = 0;
     let mut k: u32 = 0;
     while k < count {
-        let got = fields::ranged(at, s, 8, before + 1, Limits::LOAD);
+        let got = fields::ranged(at, s, Width::LOAD, before + 1, Limits::LOAD);
         at = got.scan;
         before = got.value;
         loads[k as usize] = before as u8;
@@ -89,13 +121,13 @@ fn read_head(scan: Scan, s: &[u8]) -> HeadRead
     requires { ⌜ InReach scan headBits ⌝ }
     ensures { λ r. ⌜ HeadIs (now (s .entry)) scan r ⌝ }
 {
-    let held = fields::ranged(scan, s, 1, 0, 1);
+    let held = fields::ranged(scan, s, Width::HELD, 0, 1);
     let at = held.scan;
-    let area = fields::ranged(at, s, 16, 1, Limits::AREA);
+    let area = fields::ranged(at, s, Width::AREA, 1, Limits::AREA);
     let at = area.scan;
-    let highest = fields::ranged(at, s, 8, 0, Limits::LOAD);
+    let highest = fields::ranged(at, s, Width::LOAD, 0, Limits::LOAD);
     let at = highest.scan;
-    let pins = fields::ranged(at, s, 3, 1, Limits::PINS);
+    let pins = fields::ranged(at, s, Width::PIN_COUNT, 1, Limits::PINS);
     let at = pins.scan;
     HeadRead {
         scan: at,
@@ -122,11 +154,11 @@ fn read_pin(scan: Scan, s: &[u8], bins: Bins) -> PinRead
     ensures { λ r. ⌜ PinIs (now (s .entry)) bins scan r ⌝ }
 {
     let loads = bins.loads;
-    let bin = fields::ranged(scan, s, 2, 0, last_of(bins.count as u32));
+    let bin = fields::ranged(scan, s, Width::BIN, 0, last_of(bins.count as u32));
     let at = bin.scan;
-    let intrinsic = fields::ranged(at, s, 16, 0, Limits::INTRINSIC);
+    let intrinsic = fields::ranged(at, s, Width::INTRINSIC, 0, Limits::INTRINSIC);
     let at = intrinsic.scan;
-    let drive = fields::ranged(at, s, 8, 0, Limits::DRIVE);
+    let drive = fields::ranged(at, s, Width::DRIVE, 0, Limits::DRIVE);
     let at = drive.scan;
     PinRead {
         scan: at,
@@ -142,10 +174,10 @@ fn read_pins(scan: Scan, s: &[u8], bins: Bins, count: u32) -> PinsRead
     requires { ⌜ (bins .count ≤ 4) × (count ≤ 6) × InReach scan (pinBits * count) ⌝ }
     ensures { λ r. ⌜ PinsAre (now (s .entry)) bins count scan r ⌝ }
 {
-    let mut numbers = [0u8; 6];
-    let mut loads = [0u8; 6];
-    let mut intrinsics = [0u16; 6];
-    let mut drives = [0u8; 6];
+    let mut numbers = [0u8; Slots::PINS];
+    let mut loads = [0u8; Slots::PINS];
+    let mut intrinsics = [0u16; Slots::PINS];
+    let mut drives = [0u8; Slots::PINS];
     let mut at = scan;
     let mut k: u32 = 0;
     while k < count {
@@ -225,7 +257,7 @@ fn read_pattern(scan: Scan, s: &[u8], pins: u32, symbols: &mut [u32]) -> Pattern
     ensures { λ r. ⌜ PatternIs (now (s .entry)) pins scan (now (symbols .entry)) (now (symbols .exit)) r ⌝ }
 {
     let rules = Rules {
-        width: 3,
+        width: Width::PIN,
         most: last_of(pins),
         nodes: Limits::PATTERN_NODES,
         pattern: true,
@@ -368,7 +400,7 @@ fn read_count(scan: Scan, s: &[u8], total: usize) -> fields::Got
     requires { ⌜ (total ≤ 128) × InReach scan countBits ⌝ }
     ensures { λ r. ⌜ CountIs (now (s .entry)) total scan r ⌝ }
 {
-    let got = fields::raw(scan, s, 3);
+    let got = fields::raw(scan, s, Width::DRAWING_COUNT);
     fields::settle(scan, got, count_verdict(total, got.value))
 }
 
@@ -456,7 +488,7 @@ fn read_sheet(s: &[u8], rows: &mut [u32]) -> SheetRead
     ensures { λ r. ⌜ SheetIs (now (s .entry)) (now (rows .entry)) (now (rows .exit)) r ⌝ }
 {
     let start = fields::begin();
-    let bin_count = fields::ranged(start, s, 3, 1, Limits::BINS);
+    let bin_count = fields::ranged(start, s, Width::BIN_COUNT, 1, Limits::BINS);
     let at = bin_count.scan;
     let read = read_bins(at, s, bin_count.value);
     let at = read.scan;
@@ -465,7 +497,7 @@ fn read_sheet(s: &[u8], rows: &mut [u32]) -> SheetRead
         count: bin_count.value as usize,
         loads,
     };
-    let count = fields::ranged(at, s, 7, 1, Limits::CELLS);
+    let count = fields::ranged(at, s, Width::CELL_COUNT, 1, Limits::CELLS);
     let at = count.scan;
     let cells = read_cells(at, s, bins, count.value, rows);
     let at = cells.scan;
@@ -486,7 +518,7 @@ pub fn read_library(s: &[u8]) -> LibraryRead
     let scan = read.scan;
     let bins = read.bins;
     LibraryRead {
-        scan,
+        finding: finding_of(scan),
         library: LibraryRecord {
             bins,
             count: read.count,
@@ -504,9 +536,26 @@ pub fn judge_library(s: &[u8]) -> LibraryJudged
     let mut none = [0u32; 0];
     let read = read_sheet(s, &mut none);
     let scan = read.scan;
+    match finding_of(scan) {
+        Finding::Found => LibraryJudged::Sound(read.count, read.total),
+        Finding::Refused(refusal) => LibraryJudged::Refused(refusal),
+    }
+}
+
+// What is found of a library by the scan after its sheet.
+fn finding_of(scan: Scan) -> Finding
+    ensures { λ r. ⌜ r ≡ findingOf libraryNumber scan ⌝ }
+{
     match scan {
-        Scan::At(_) => LibraryJudged::Sound(read.count, read.total),
-        Scan::Refused(fault, place) => LibraryJudged::Refused(library_number(fault), place),
+        Scan::At(_) => Finding::Found,
+        Scan::Refused(fault, place) => {
+            let number = library_number(fault);
+            Finding::Refused(Refusal {
+                item: 0,
+                number,
+                place,
+            })
+        }
     }
 }
 

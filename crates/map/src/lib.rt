@@ -1,9 +1,7 @@
 // Map and list from the bytes of a library and a tree. What the core finds is written here, and nowhere below.
-use fields::Scan;
-use map_core::Finding;
-use map_core::Numbers;
+use fields::Finding;
+use map_core::Task;
 use map_rules::Reply;
-use matching::Hit;
 use sheets_rules::Bins;
 use sheets_rules::LibraryRecord;
 use sheets_rules::Limits;
@@ -11,25 +9,14 @@ use sheets_rules::PatternRow;
 use sheets_rules::TreeRecord;
 ghost use mathlib.Core.Path.{_≡_};
 ghost use Prim.Native.Nat.{_≤_};
-ghost use lib.ListN.{length, replicate};
-ghost use Rattle.fields.specs.Reading.{start};
+ghost use lib.ListN.{length};
 ghost use Rattle.sheets_rules.specs.Model.{Library, Tree};
-ghost use Rattle.sheets_rules.specs.TreeSheet.{tree as treeOf};
-ghost use Rattle.covers.specs.Capacity.{capacity, workWords};
-ghost use Rattle.covers.specs.Answer.{mapAnswer, listAnswer};
-ghost use Rattle.covers.specs.Outcome.{mapBytes, listBytes, observed, cleared, withTree, operation, mapOutcome, listOutcome};
-ghost use Rattle.covers.specs.Demands.{MapDemands, ListDemands, WhereSound};
+ghost use Rattle.covers.specs.Capacity.{workWords, allowed};
+ghost use Rattle.covers.specs.Lending.{cleared};
+ghost use Rattle.covers.specs.Outcome.{operation};
 ghost use Rattle.overlay.specs.Inside.Promises.{LibraryStored, SheetsStored};
-ghost use Rattle.matching.specs.Inside.Found.{matchTable};
-ghost use Rattle.filling.specs.Inside.Promises.{FillStart};
-ghost use Rattle.map_rules.specs.Public.{ofReply, Operated};
-ghost use Rattle.map.specs.Inside.Promises.{leastOutput, taskAnswer, Replied};
-
-// What is asked for: the cover that map hands over, or the list of the root's trade-offs, for which the required time does not count.
-pub enum Task {
-    Cover,
-    Tradeoffs,
-}
+ghost use Rattle.map_rules.specs.Public.{ofReply, Operated, Maps, Lists};
+ghost use Rattle.map.specs.Inside.Promises.{leastOutput, taskAnswer, sheetsAnswer, Allows, Starts, RepliesStarted, RepliesStored, OperatesAny};
 
 // The least output that is lent for a task.
 fn least_output(task: Task) -> usize
@@ -41,68 +28,32 @@ fn least_output(task: Task) -> usize
     }
 }
 
-// The cover that the core finds, on its sheet.
-fn write_mapped(
-    rows: &[u32],
-    bins: Bins,
-    tree: TreeRecord,
-    output: &mut [u8],
-    work: &mut [u64],
-) -> Reply
-    requires { ⌜ (mapBytes ≤ length (now output)) × ((l : Library) × ((t : Tree) × FillStart l t (now rows) bins tree capacity (replicate matchTable 0) (now work))) ⌝ }
-    ensures { λ r. ⌜ ((l : Library) (t : Tree) → FillStart l t (now (rows .entry)) bins tree capacity (replicate matchTable 0) (now (work .entry)) →
-        Replied (mapAnswer capacity l t) (now (output .entry)) (now (output .exit)) r) ⌝ }
-{
-    let mut found = [0u8; Hit::TABLE];
-    let mut kept = [0u64; Hit::MATCHES];
-    let most = Limits::POINTS;
-    let mapped = map_core::map_tree(rows, bins, tree, most, &mut found, work, &mut kept);
-    let finding = mapped.finding;
-    match finding {
-        Finding::Refused(number, place) => Reply::Refused(number, place),
-        Finding::Found => Reply::Sheet(result_sheets::write_cover(output, mapped.cover)),
-    }
-}
-
-// The trade-offs that the core finds, on their sheet.
-fn write_listed(
-    rows: &[u32],
-    bins: Bins,
-    tree: TreeRecord,
-    output: &mut [u8],
-    work: &mut [u64],
-) -> Reply
-    requires { ⌜ (listBytes ≤ length (now output)) × ((l : Library) × ((t : Tree) × FillStart l t (now rows) bins tree capacity (replicate matchTable 0) (now work))) ⌝ }
-    ensures { λ r. ⌜ ((l : Library) (t : Tree) → FillStart l t (now (rows .entry)) bins tree capacity (replicate matchTable 0) (now (work .entry)) →
-        Replied (listAnswer capacity l t) (now (output .entry)) (now (output .exit)) r) ⌝ }
-{
-    let mut found = [0u8; Hit::TABLE];
-    let mut kept = [0u64; Hit::MATCHES];
-    let most = Limits::POINTS;
-    let listed = map_core::list_tree(rows, bins, tree, most, &mut found, work, &mut kept);
-    let finding = listed.finding;
-    match finding {
-        Finding::Refused(number, place) => Reply::Refused(number, place),
-        Finding::Found => Reply::Sheet(result_sheets::write_list(output, work, listed.count)),
-    }
-}
-
-// A task with a sound library and a sound tree, in a work area of zeros.
-fn write_task(
+// What the core finds for a task, on its sheet, in a work area of zeros.
+fn write_solved(
     task: Task,
     rows: &[u32],
     bins: Bins,
     tree: TreeRecord,
+    most: usize,
     output: &mut [u8],
     work: &mut [u64],
 ) -> Reply
-    requires { ⌜ (leastOutput task ≤ length (now output)) × ((l : Library) × ((t : Tree) × FillStart l t (now rows) bins tree capacity (replicate matchTable 0) (now work))) ⌝ }
-    ensures { λ r. ⌜ ((l : Library) (t : Tree) → FillStart l t (now (rows .entry)) bins tree capacity (replicate matchTable 0) (now (work .entry)) →
-        Replied (taskAnswer task capacity l t) (now (output .entry)) (now (output .exit)) r) ⌝ }
+    requires { ⌜ Allows task most (length (now output)) × ((l : Library) × ((t : Tree) × Starts l t (now rows) bins tree most (now work))) ⌝ }
+    ensures { λ r. ⌜ RepliesStarted task (now (rows .entry)) bins tree most (now (work .entry)) (now (output .entry)) (now (output .exit)) (ofReply r) ⌝ }
 {
-    match task {
-        Task::Cover => write_mapped(rows, bins, tree, output, work),
-        Task::Tradeoffs => write_listed(rows, bins, tree, output, work),
+    let solved = map_core::solve(task, rows, bins, tree, most, work);
+    let finding = solved.finding;
+    match finding {
+        Finding::Refused(refusal) => Reply::Refused(refusal),
+        Finding::Found => match task {
+            Task::Cover => {
+                let cover = solved.cover;
+                Reply::Sheets(result_sheets::write_cover(output, cover))
+            }
+            Task::Tradeoffs => {
+                Reply::Sheets(result_sheets::write_list(output, work, solved.count))
+            }
+        },
     }
 }
 
@@ -111,26 +62,29 @@ fn with_records(
     task: Task,
     library: LibraryRecord,
     tree: TreeRecord,
+    most: usize,
     output: &mut [u8],
     work: &mut [u64],
 ) -> Reply
-    requires { ⌜ (leastOutput task ≤ length (now output)) × (workWords capacity ≤ length (now work)) × ((l : Library) × ((t : Tree) × SheetsStored l t library tree)) ⌝ }
-    ensures { λ r. ⌜ now (work .exit) ≡ cleared (workWords capacity) (now (work .entry)) ⌝ }
-    ensures { λ r. ⌜ ((l : Library) (t : Tree) → SheetsStored l t library tree → Replied (taskAnswer task capacity l t) (now (output .entry)) (now (output .exit)) r) ⌝ }
+    requires { ⌜ Allows task most (length (now output)) × (workWords most ≤ length (now work)) × ((l : Library) × ((t : Tree) × SheetsStored l t library tree)) ⌝ }
+    ensures { λ r. ⌜ now (work .exit) ≡ cleared (workWords most) (now (work .entry)) ⌝ }
+    ensures { λ r. ⌜ RepliesStored task library tree most (now (output .entry)) (now (output .exit)) (ofReply r) ⌝ }
 {
     let rows = library.rows;
-    let words = PatternRow::WORDS * library.total;
+    let filled = PatternRow::WORDS * library.total;
     let bins = library.bins;
-    result_sheets::clear_work(work, Limits::WORK);
-    let reply = write_task(
+    let words = lending::words(most);
+    lending::clear(work, most);
+    let reply = write_solved(
         task,
-        &rows[..words],
+        &rows[..filled],
         bins,
         tree,
+        most,
         output,
-        &mut work[0..Limits::WORK],
+        &mut work[0..words],
     );
-    result_sheets::clear_work(work, Limits::WORK);
+    lending::clear(work, most);
     reply
 }
 
@@ -139,54 +93,64 @@ fn with_library(
     task: Task,
     library: LibraryRecord,
     tree: &[u8],
+    most: usize,
     output: &mut [u8],
     work: &mut [u64],
 ) -> Reply
-    requires { ⌜ (leastOutput task ≤ length (now output)) × (workWords capacity ≤ length (now work)) × ((l : Library) × LibraryStored l library) ⌝ }
-    ensures { λ r. ⌜ ((l : Library) → LibraryStored l library →
-        Operated (withTree (taskAnswer task capacity l) (treeOf (now (tree .entry)) start)) (now (output .entry)) (now (output .exit)) (now (work .entry)) (now (work .exit)) r) ⌝ }
+    requires { ⌜ Allows task most (length (now output)) × (workWords most ≤ length (now work)) × ((l : Library) × LibraryStored l library) ⌝ }
+    ensures { λ r. ⌜ OperatesAny task library (now (tree .entry)) most (now (output .entry)) (now (output .exit)) (now (work .entry)) (now (work .exit)) (ofReply r) ⌝ }
 {
     let read = tree::read_tree(tree);
-    let scan = read.scan;
-    match scan {
-        Scan::At(_) => with_records(task, library, read.tree, output, work),
-        Scan::Refused(fault, place) => Reply::Refused(tree::tree_number(fault), place),
+    let finding = read.finding;
+    match finding {
+        Finding::Refused(refusal) => Reply::Refused(refusal),
+        Finding::Found => with_records(task, library, read.tree, most, output, work),
+    }
+}
+
+// A task with any library and any tree, lent enough.
+fn with_lent(
+    task: Task,
+    library: &[u8],
+    tree: &[u8],
+    most: usize,
+    output: &mut [u8],
+    work: &mut [u64],
+) -> Reply
+    requires { ⌜ Allows task most (length (now output)) × (workWords most ≤ length (now work)) ⌝ }
+    ensures { λ r. ⌜ (most ≡ allowed (length (now (work .entry))) →
+        Operated (sheetsAnswer task most (now (library .entry)) (now (tree .entry))) (now (output .entry)) (now (output .exit)) (now (work .entry)) (now (work .exit)) (ofReply r)) ⌝ }
+{
+    let read = library::read_library(library);
+    let finding = read.finding;
+    match finding {
+        Finding::Refused(refusal) => Reply::Refused(refusal),
+        Finding::Found => with_library(task, read.library, tree, most, output, work),
     }
 }
 
 // A task with any library and any tree, lent anything.
 fn operate(task: Task, library: &[u8], tree: &[u8], output: &mut [u8], work: &mut [u64]) -> Reply
-    ensures { λ r. ⌜ Operated (operation (leastOutput task) (taskAnswer task) (now (library .entry)) (now (tree .entry)) (length (now (output .entry))) (length (now (work .entry)))) (now (output .entry)) (now (output .exit)) (now (work .entry)) (now (work .exit)) r ⌝ }
+    ensures { λ r. ⌜ Operated (operation (leastOutput task) (taskAnswer task) (now (library .entry)) (now (tree .entry)) (length (now (output .entry))) (length (now (work .entry)))) (now (output .entry)) (now (output .exit)) (now (work .entry)) (now (work .exit)) (ofReply r) ⌝ }
 {
-    if output.len() < least_output(task) {
-        return Reply::Refused(Numbers::SHORT, 0);
-    }
-    if work.len() < Limits::WORK {
-        return Reply::Refused(Numbers::SHORT, 0);
-    }
-    let read = library::read_library(library);
-    let scan = read.scan;
-    match scan {
-        Scan::At(_) => with_library(task, read.library, tree, output, work),
-        Scan::Refused(fault, place) => {
-            let number = library::library_number(fault);
-            Reply::Refused(number, place)
-        }
+    let lent = lending::lend(least_output(task), output.len(), work.len());
+    let finding = lent.finding;
+    match finding {
+        Finding::Refused(refusal) => Reply::Refused(refusal),
+        Finding::Found => with_lent(task, library, tree, lent.most, output, work),
     }
 }
 
 // The cover of a tree by a library's cells: the smallest that meets the required time, then the earliest.
 pub fn map(library: &[u8], tree: &[u8], output: &mut [u8], work: &mut [u64]) -> Reply
-    ensures { λ r. ⌜ Operated (mapOutcome (now (library .entry)) (now (tree .entry)) (length (now (output .entry))) (length (now (work .entry)))) (now (output .entry)) (now (output .exit)) (now (work .entry)) (now (work .exit)) r ⌝ }
-    ensures { λ r. ⌜ WhereSound MapDemands mapBytes (now (library .entry)) (now (tree .entry)) (length (now (output .entry))) (length (now (work .entry))) (observed (ofReply r) (now (output .exit))) ⌝ }
+    ensures { λ r. ⌜ Maps (now (library .entry)) (now (tree .entry)) (now (output .entry)) (now (output .exit)) (now (work .entry)) (now (work .exit)) (ofReply r) ⌝ }
 {
     operate(Task::Cover, library, tree, output, work)
 }
 
 // Every trade-off of a tree's root, earliest first.
 pub fn list(library: &[u8], tree: &[u8], output: &mut [u8], work: &mut [u64]) -> Reply
-    ensures { λ r. ⌜ Operated (listOutcome (now (library .entry)) (now (tree .entry)) (length (now (output .entry))) (length (now (work .entry)))) (now (output .entry)) (now (output .exit)) (now (work .entry)) (now (work .exit)) r ⌝ }
-    ensures { λ r. ⌜ WhereSound ListDemands listBytes (now (library .entry)) (now (tree .entry)) (length (now (output .entry))) (length (now (work .entry))) (observed (ofReply r) (now (output .exit))) ⌝ }
+    ensures { λ r. ⌜ Lists (now (library .entry)) (now (tree .entry)) (now (output .entry)) (now (output .exit)) (now (work .entry)) (now (work .exit)) (ofReply r) ⌝ }
 {
     operate(Task::Tradeoffs, library, tree, output, work)
 }

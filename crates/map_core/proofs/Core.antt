@@ -13,7 +13,7 @@ use Rattle.covers.specs.Tradeoff.{tradeoffs}
 use Rattle.covers.specs.Answer.{answered, mapped, nonempty, listed}
 use Rattle.filling.specs.declared.Filling.the-variants.{Whole, Overfull}
 use Rattle.filling.specs.Inside.Promises.{FillStart, FillingIs}
-use Rattle.map_core.specs.declared.Finding.the-variants.{Refused}
+use Rattle.fields.specs.declared.Finding.the-variants.{Refused}
 use Rattle.map_core.specs.Inside.Found.{ofFinding, ofMapped, ofListed, bareCover, refusedWith}
 use Rattle.map_core.specs.Inside.Promises.{Curved, MappedIs, ListedIs}
 
@@ -37,6 +37,6 @@ module _ (most : ℕ) (l : Library) (t : Tree) (work : List ℕ) (n : ℕ) (e : 
   unfolding ofMapped ofFinding refusedWith bareCover mapped answered
   map-overfull = record { answer-is = sym (ap (λ (o : Option ℕ). answered o (choice l (t .load) 0 (t .shape) (t .required))) e); few = omega arith }
 
-  pub list-overfull : ListedIs most l t work (record { finding = Refused 7 n; count = 0 })
+  pub list-overfull : ListedIs most l t work (record { finding = Refused (record { item = 0; number = 7; place = n }); count = 0 })
   unfolding ofListed ofFinding listed answered
   list-overfull = record { answer-is = sym (ap (λ (o : Option ℕ). answered o (nonempty (tradeoffs l (t .load) 0 (t .shape)))) e); few = omega arith; small = λ k h. absurd (omega arith) }

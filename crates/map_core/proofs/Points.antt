@@ -24,7 +24,7 @@ use Rattle.covers.proofs.Points.{point-path}
 use Rattle.curves.specs.Inside.Words.{pointLimit, stored}
 use Rattle.curves.proofs.Laws.{stored-end, stored-more}
 use Rattle.result_sheets.specs.Inside.Promises.{pointsOf}
-use Rattle.map_core.specs.declared.Finding.the-variants.{Refused, Found}
+use Rattle.fields.specs.declared.Finding.the-variants.{Refused, Found}
 use Rattle.map_core.specs.Inside.Found.{ofFinding, ofListed}
 use Rattle.map_core.specs.Inside.Promises.{Curved, ListedIs}
 use Rattle.map_core.proofs.Root.{load-is, gate-root, leaf-root}
@@ -119,7 +119,7 @@ module _ {most : ℕ} {l : Library} {t : Tree} {rows : List ℕ} {tree : TreeRec
     many : count ≡ length all
     many = sym (length-take-le count work (omega (arith, within, first-words, given .prepared .area .room))) ∙ sym (length-map (take count work) pointOf) ∙ ap length words-are ∙ length-reverse all
 
-    pub gate-empty : count ≡ 0 → ListedIs most l t work (record { finding = Refused 8 0; count = count })
+    pub gate-empty : count ≡ 0 → ListedIs most l t work (record { finding = Refused (record { item = 0; number = 8; place = 0 }); count = count })
     unfolding ofListed ofFinding answered nonempty
     gate-empty e = record { answer-is = listed-is none (go all (omega (arith, many))); few = omega (arith, e); small = λ k h. absurd (omega (arith, e)) }
       where

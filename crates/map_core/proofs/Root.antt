@@ -34,7 +34,7 @@ use Rattle.choosing.proofs.Gate.{chosen-there}
 use Rattle.choosing.proofs.Below.{appended-cover}
 use Rattle.result_sheets.specs.declared.CoverRecord.{CoverRecord}
 use Rattle.result_sheets.specs.Public.{placedOf, coverOf}
-use Rattle.map_core.specs.declared.Finding.the-variants.{Found}
+use Rattle.fields.specs.declared.Finding.the-variants.{Found}
 use Rattle.map_core.specs.declared.Mapped.{Mapped}
 use Rattle.map_core.specs.Inside.Found.{ofFinding, ofMapped, bareCover, refusedWith}
 use Rattle.map_core.specs.Inside.Promises.{Curved, MappedIs}

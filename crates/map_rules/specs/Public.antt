@@ -1,24 +1,33 @@
--- What map and list reply, and what they leave in what they are lent.
+-- What an operation replies, what it leaves in what it is lent, and the whole contracts of map and list.
 use mathlib.Core.Path.{_≡_}
 use mathlib.Core.List.{List}
 use Prim.Native.Nat.{ℕ}
-use Rattle.fields.specs.Answer.{Answer, refused, success, Bounded}
-use Rattle.covers.specs.Outcome.{told, outputAfter, workAfter}
+use lib.ListN.{length}
+use Rattle.fields.specs.Answer.{Answer, refusal, success, Bounded}
+use Rattle.covers.specs.Lending.{told, outputAfter, observed, workAfter}
+use Rattle.covers.specs.Outcome.{mapBytes, listBytes, mapOutcome, listOutcome}
+use Rattle.covers.specs.Demands.{MapDemands, ListDemands, WhereSound}
 use Rattle.map_rules.specs.declared.Reply.{Reply}
-use Rattle.map_rules.specs.declared.Reply.the-variants.{Refused, Sheet}
+use Rattle.map_rules.specs.declared.Reply.the-variants.{Refused, Sheets}
 
--- What each case of the reply says: document 01's number and place, or how many bytes the sheet takes.
+-- What each case of the reply says: the refusal, or how many bytes the sheets take.
 unfoldable pub ofReply : Reply → Answer ℕ
-ofReply (Refused number place) = refused number place
-ofReply (Sheet n) = success n
+ofReply (Refused r) = refusal r
+ofReply (Sheets n) = success n
 
--- What an outcome leaves in the output and in the work area that were lent.
-pub record Leaves (o : Answer (List ℕ)) (output output′ work work′ : List ℕ) : Type 0 where
+-- What the caller is told is the outcome's, within the bounds of a word, and output and work area are what the outcome leaves.
+pub record Operated (o : Answer (List ℕ)) (output output′ work work′ : List ℕ) (a : Answer ℕ) : Type 0 where
+  pub told-is : a ≡ told o
   pub output-is : output′ ≡ outputAfter o output
   pub work-is : work′ ≡ workAfter o work
+  pub bounded : Bounded a
 
--- The whole contract: the reply says what the outcome tells, within the bounds of a word, and output and work area are what the outcome leaves.
-pub record Operated (o : Answer (List ℕ)) (output output′ work work′ : List ℕ) (r : Reply) : Type 0 where
-  pub reply-is : ofReply r ≡ told o
-  pub leaves : Leaves o output output′ work work′
-  pub bounded : Bounded (ofReply r)
+-- Map: its outcome, and what that is worth among all legal covers.
+pub record Maps (ls ts output output′ work work′ : List ℕ) (a : Answer ℕ) : Type 0 where
+  pub operated : Operated (mapOutcome ls ts (length output) (length work)) output output′ work work′ a
+  pub demands : WhereSound MapDemands mapBytes ls ts (length output) (length work) (observed a output′)
+
+-- List.
+pub record Lists (ls ts output output′ work work′ : List ℕ) (a : Answer ℕ) : Type 0 where
+  pub operated : Operated (listOutcome ls ts (length output) (length work)) output output′ work work′ a
+  pub demands : WhereSound ListDemands listBytes ls ts (length output) (length work) (observed a output′)

@@ -1,7 +1,8 @@
-// What map and list reply: the type that their contracts speak of.
+// What map, list and the part operation reply: a type, definitions and theorems, with no code.
+use fields::Refusal;
 
-// A refusal's number and place, or how many bytes of the output the sheet takes.
+// A refusal, or how many bytes of the output the sheets take.
 pub enum Reply {
-    Refused(u32, usize),
-    Sheet(usize),
+    Refused(Refusal),
+    Sheets(usize),
 }

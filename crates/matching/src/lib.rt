@@ -6,18 +6,16 @@ use overlay::Walked;
 use sheets_rules::PatternRow;
 ghost use mathlib.Core.Path.{_≡_};
 ghost use mathlib.Core.Bool.{cond};
-ghost use mathlib.Core.List.{List, [], map};
+ghost use mathlib.Core.List.{List};
 ghost use mathlib.Core.Option.{Option};
-ghost use Prim.Native.Nat.{ℕ, _+_, _-_, _*_, _/_, _^_, _<_, _≤_};
+ghost use Prim.Native.Nat.{_+_, _-_, _*_, _/_, _^_, _<_, _≤_};
 ghost use lib.ListN.{length};
-ghost use lib.Seq.{sets};
 ghost use Rattle.sheets_rules.specs.Model.{Shape, Library, Pattern, Tree};
-ghost use Rattle.sheets_rules.specs.Inside.Layout.{tableFrom};
-ghost use Rattle.covers.specs.Crossing.{crossingLimit, crossings};
-ghost use Rattle.covers.specs.Match.{Input, putFirst, fittingUnder, fitting};
-ghost use Rattle.overlay.specs.Inside.Promises.{Walks, WalkedIs};
-ghost use Rattle.matching.specs.Inside.Found.{matchBytes, inputsAt, inputsBytes, hitOf};
-ghost use Rattle.matching.specs.Inside.Promises.{Writable, Trying, Ready};
+ghost use Rattle.covers.specs.Crossing.{crossingLimit};
+ghost use Rattle.covers.specs.Match.{Input};
+ghost use Rattle.overlay.specs.Inside.Promises.{Walks};
+ghost use Rattle.matching.specs.Inside.Found.{matchBytes};
+ghost use Rattle.matching.specs.Inside.Promises.{InputsWritten, Writable, MatchWritten, Trying, CrossingsFound, Ready, MatchesFound};
 
 // A hit, which is a match as it is found: its pattern, its crossing and how many inputs it has, then two bytes for each input: the pin that it feeds, and its node.
 pub struct Hit {}
@@ -46,7 +44,7 @@ impl Hit {
 // The bytes of a match's inputs.
 fn write_inputs(table: &mut [u8], walked: Walked)
     requires { ⌜ (length (now table) ≡ matchBytes) × ((is : List Input) × (Walks is walked × (length is ≤ 6))) ⌝ }
-    ensures { λ r. ⌜ ((is : List Input) → Walks is walked → length is ≤ 6 → now (table .exit) ≡ sets (now (table .entry)) inputsAt (inputsBytes is)) ⌝ }
+    ensures { λ r. ⌜ InputsWritten walked (now (table .entry)) (now (table .exit)) ⌝ }
 {
     let count = walked.count;
     let mut k: usize = 0;
@@ -61,9 +59,7 @@ fn write_inputs(table: &mut [u8], walked: Walked)
 // The hit of a pattern that was walked, if it matched. Answers how many hits were written.
 fn write_match(table: &mut [u8], walked: Walked, pattern: usize, crossing: u32) -> usize
     requires { ⌜ (length (now table) ≡ matchBytes) × (pattern < 128) × (crossing < crossingLimit) × ((o : Option (List Input)) × Writable o walked) ⌝ }
-    ensures { λ r. ⌜ ((o : Option (List Input)) → Writable o walked → (p : Pattern) →
-        (r ≡ length (putFirst pattern p crossing o []))
-        × (now (table .exit) ≡ tableFrom matchBytes (now (table .entry)) 0 (map hitOf (putFirst pattern p crossing o [])))) ⌝ }
+    ensures { λ r. ⌜ MatchWritten walked pattern crossing (now (table .entry)) (now (table .exit)) r ⌝ }
 {
     if !walked.matched {
         return 0;
@@ -106,9 +102,7 @@ fn find_crossings<'a>(
     count: usize,
 ) -> usize
     requires { ⌜ ((p : Pattern) × ((s : Shape) × Trying (now row) (now symbols) (now sizes) n pattern (length (now table)) count p s)) ⌝ }
-    ensures { λ r. ⌜ ((p : Pattern) (s : Shape) → Trying (now (row .entry)) (now (symbols .entry)) (now (sizes .entry)) n pattern (length (now (table .entry))) count p s →
-        (r ≡ count + length (fittingUnder n s pattern p (crossings (p .drawing))))
-        × (now (table .exit) ≡ tableFrom matchBytes (now (table .entry)) count (map hitOf (fittingUnder n s pattern p (crossings (p .drawing)))))) ⌝ }
+    ensures { λ r. ⌜ CrossingsFound (now (row .entry)) (now (symbols .entry)) (now (sizes .entry)) n pattern count (now (table .entry)) (now (table .exit)) r ⌝ }
 {
     let extents = overlay::measure(row);
     let words = extents.words;
@@ -133,9 +127,7 @@ pub fn find_matches<'a>(
     table: &mut [u8],
 ) -> usize
     requires { ⌜ ((l : Library) × ((t : Tree) × ((s : Shape) × Ready l t (now rows) (now symbols) (now sizes) n (length (now table)) s))) ⌝ }
-    ensures { λ r. ⌜ ((l : Library) (t : Tree) (s : Shape) → Ready l t (now (rows .entry)) (now (symbols .entry)) (now (sizes .entry)) n (length (now (table .entry))) s →
-        (r ≡ length (fitting l n s))
-        × (now (table .exit) ≡ tableFrom matchBytes (now (table .entry)) 0 (map hitOf (fitting l n s)))) ⌝ }
+    ensures { λ r. ⌜ MatchesFound (now (rows .entry)) (now (symbols .entry)) (now (sizes .entry)) n (now (table .entry)) (now (table .exit)) r ⌝ }
 {
     let total = rows.len() / PatternRow::WORDS;
     let mut count: usize = 0;

@@ -5,7 +5,6 @@ use mathlib.Core.Logic.{_⊎_, inl, inr, ⊎-elim}
 use mathlib.Core.Bool.{Bool, true, false, false≢true}
 use mathlib.Core.List.{List, [], _∷_, _++_, map, List·Memᴰ, List·Memᴰ·head, List·Memᴰ·append-cases, List·Memᴰ·eq-of-singleton, Memᴰ·append-left, Memᴰ·append-right}
 use mathlib.Core.Option.{Option, none, some}
-use native.Mathlib.Nat.{add-zero}
 use native.Mathlib.Omega.{arith}
 use lib.ListN.{length, getD, take, drop, length-append, length-map}
 use Rattle.fields.proofs.Lists.{at-mem, at-map}
@@ -19,6 +18,7 @@ use Rattle.covers.specs.Crossing.{exchanged, ordered, redrawnFrom, redrawn}
 use Rattle.covers.specs.Match.{Input, joined, laid, matched, pinAt, pinLoad}
 use Rattle.covers.specs.Tradeoff.{nodes}
 use Rattle.covers.proofs.Matching.{Whenever, never, holds, whenever}
+use Rattle.cells.specs.Inside.Cell.{rowFigures, figuresOf}
 use Rattle.overlay.specs.Inside.Promises.{PatternStored, Walkable, Walks, WalkedIs, Decoded}
 use Rattle.overlay.specs.declared.Walked.{Walked}
 use Rattle.overlay.specs.Inside.Standing.{Measured}
@@ -169,7 +169,7 @@ patternAt l j = getD (patterns l) j noPattern
 
 -- A row that tells of a pattern holds it.
 holds-pattern : (l : Library) (p : Pattern) {r : List ℕ} → length (p .cell .pins) ≤ pinsMost → Told (l .bins) p r → PatternStored l r p
-unfolding pinAt pinLoad
+unfolding pinAt pinLoad rowFigures figuresOf
 holds-pattern l p {r} few t = record {
   drawing = record { long = t .long; size-is = t .nodes; symbols-are = t .symbol };
   cell = record {
@@ -178,16 +178,10 @@ holds-pattern l p {r} few t = record {
     area-is = t .area;
     highest-is = t .highest;
     pins-are = λ k h.
-        let at = figuresAt + pinWords * k in
         let pin = pinAt (p .cell) k in
-        let word : (q : ℕ) → q < pinWords → getD r (at + q) 0 ≡ getD (pin .bin ∷ (pinLoad l pin ∷ (pin .intrinsic ∷ (pin .drive ∷ [])))) q 0 =
+        let word : (q : ℕ) → q < pinWords → getD r (figuresAt + pinWords * k + q) 0 ≡ getD (pin .bin ∷ (pinLoad l pin ∷ (pin .intrinsic ∷ (pin .drive ∷ [])))) q 0 =
         λ q g. t .figure k q (omega arith) g ∙ ap (λ (ws : List ℕ). getD ws q 0) (pin-laid (l .bins) (p .cell) (record { bin = 0; intrinsic = 0; drive = 0 }) k few h) in
-        record {
-          bin-is = ap (λ (i : ℕ). getD r i 0) (sym (add-zero at)) ∙ word 0 (omega arith);
-          load-is = word 1 (omega arith);
-          intrinsic-is = word 2 (omega arith);
-          drive-is = word 3 (omega arith);
-        };
+        (λ i. record { bin = word 0 (omega arith) i; load = word 1 (omega arith) i; intrinsic = word 2 (omega arith) i; drive = word 3 (omega arith) i });
   };
 }
 

@@ -1,28 +1,19 @@
 -- From the records that the readers hand over to the tables of a decoded library and tree.
-use mathlib.Core.Path.{_≡_, sym, ap, subst, _∙_}
-use mathlib.Core.List.{List}
-use Prim.Native.Nat.{ℕ, _*_, _≤_}
+use mathlib.Core.Path.{_≡_, ap}
+use Prim.Native.Nat.{_*_, _≤_}
 use lib.ListN.{length, take}
-use Rattle.bits.specs.declared.Cursor.{Cursor}
-use Rattle.fields.specs.declared.Scan.the-variants.{At}
-use Rattle.fields.specs.Reading.{start, Live}
 use Rattle.sheets_rules.specs.declared.LibraryRecord.{LibraryRecord}
 use Rattle.sheets_rules.specs.declared.TreeRecord.{TreeRecord}
-use Rattle.sheets_rules.specs.declared.TreeRead.{TreeRead}
 use Rattle.sheets_rules.specs.Model.{Library, Tree}
 use Rattle.sheets_rules.specs.Inside.Layout.{rowWords, tableWords, treeLaid}
-use Rattle.sheets_rules.specs.TreeSheet.{tree as treeOf}
-use Rattle.sheets_rules.specs.Inside.Readers.{TreeIs}
 use Rattle.sheets_rules.proofs.Stored.{table-whole, few-rows, rows-filled}
-pub use Rattle.sheets_rules.proofs.Stored.{library-laid}
-use Rattle.sheets_rules.proofs.Sound.{tree-limits}
+use Rattle.sheets_rules.specs.Inside.Sound.{TreeStored}
 use Rattle.overlay.specs.Inside.Promises.{LibraryStored, SheetsStored, Decoded}
 
 -- ---- a library and a tree that were read
 
-module _ (ts : List ℕ) (read : TreeRead) (h : TreeIs ts read) where
-  pub tree-laid : {l : Library} {library : LibraryRecord} → LibraryStored l library → (c : Cursor) → read .scan ≡ At c → SheetsStored l (treeOf ts start .0) library (read .tree)
-  tree-laid g c e = record { read = g; tree-sound = tree-limits ts (subst Live (sym e ∙ h .scan-is) tt); tree-is = h .laid (subst Live (sym e) tt) }
+pub sheets-stored : {l : Library} {t : Tree} {library : LibraryRecord} {tree : TreeRecord} → LibraryStored l library → TreeStored t tree → SheetsStored l t library tree
+sheets-stored g h = record { read = g; tree-sound = h .sound; tree-is = h .tree-is }
 
 -- ---- what their records hold
 

@@ -1,11 +1,14 @@
 // A pattern laid over a node of the subject tree under a crossing: the inputs that it finds there.
+use shapes_rules::Packed;
+use sheets_rules::Limits;
 use sheets_rules::PatternRow;
+use sheets_rules::Slots;
 ghost use mathlib.Core.Path.{_≡_};
-ghost use Prim.Native.Nat.{_+_, _-_, _<_, _≤_, max};
+ghost use Prim.Native.Nat.{_<_, _≤_, max};
 ghost use Rattle.sheets_rules.specs.Model.{Shape, size};
 ghost use Rattle.covers.specs.Crossing.{exchanged, crossingLimit};
-ghost use Rattle.overlay.specs.Inside.Standing.{extent, Extending, DrawingStored, Measured};
-ghost use Rattle.overlay.specs.Inside.Promises.{Passable, passed, resumed, Walkable, WalkIs};
+ghost use Rattle.overlay.specs.Inside.Standing.{Extending, ExtentFound, DrawingStored, DrawingMeasured};
+ghost use Rattle.overlay.specs.Inside.Promises.{Passable, passed, resumed, Walkable, DrawingWalked};
 
 // How many crossing numbers there are: five bits, the first the highest.
 pub struct Crossing {}
@@ -16,14 +19,14 @@ impl Crossing {
 
 // How far each node of a drawing reaches, in preorder: how many nodes stand under it, itself included, and 32 times how many of them are NANDs.
 pub struct Extents {
-    pub words: [u8; 16],
+    pub words: [u8; Limits::PATTERN_NODES],
 }
 
 impl Extents {
     pub const NAND: usize = 32;
 
     // From a NAND to its first branch: a node and a NAND more.
-    pub const FIRST: usize = 33;
+    pub const FIRST: usize = Extents::NAND + 1;
 }
 
 // Where a walk stands in a drawing: at a spot, with the branches that wait to be laid, the first `depth` of an array, the next one last;
@@ -31,7 +34,7 @@ impl Extents {
 pub struct Left {
     pub spot: usize,
     pub depth: usize,
-    pub waiting: [u8; 6],
+    pub waiting: [u8; Slots::PINS],
     pub used: usize,
 }
 
@@ -41,20 +44,20 @@ pub struct Walked {
     pub matched: bool,
     pub used: usize,
     pub count: usize,
-    pub pins: [u8; 6],
-    pub nodes: [u8; 6],
+    pub pins: [u8; Slots::PINS],
+    pub nodes: [u8; Slots::PINS],
 }
 
 // The extent of the node numbered k, from its symbol and the extents of the nodes after it.
-fn extent_from(symbol: u32, words: [u8; 16], k: usize) -> usize
+fn extent_from(symbol: u32, words: [u8; Limits::PATTERN_NODES], k: usize) -> usize
     requires { ⌜ ((s : Shape) × Extending symbol words k s) ⌝ }
-    ensures { λ r. ⌜ ((s : Shape) → Extending symbol words k s → r ≡ extent s) ⌝ }
+    ensures { λ r. ⌜ ExtentFound symbol words k r ⌝ }
 {
-    if 2 <= symbol {
+    if Packed::LEAF <= symbol {
         return 1;
     }
     let first = words[k + 1] as usize;
-    if symbol == 0 {
+    if symbol == Packed::INVERTER {
         return 1 + first;
     }
     Extents::FIRST + first + words[k + 1 + first % Extents::NAND] as usize
@@ -63,9 +66,9 @@ fn extent_from(symbol: u32, words: [u8; 16], k: usize) -> usize
 // The extents of the drawing in a pattern's row, from the last node to the first.
 pub fn measure(row: &[u32]) -> Extents
     requires { ⌜ ((d : Shape) × (DrawingStored (now row) d × (size d ≤ 16))) ⌝ }
-    ensures { λ r. ⌜ ((d : Shape) → DrawingStored (now (row .entry)) d → size d ≤ 16 → Measured d (r .words)) ⌝ }
+    ensures { λ r. ⌜ DrawingMeasured (now (row .entry)) r ⌝ }
 {
-    let mut words = [0u8; 16];
+    let mut words = [0u8; Limits::PATTERN_NODES];
     let mut k = row[PatternRow::SIZE] as usize;
     while 0 < k {
         k -= 1;
@@ -101,7 +104,7 @@ fn pass_gate(left: Left, symbol: u32, extents: Extents, crossing: u32) -> Left
     let depth = left.depth;
     let words = extents.words;
     let mut next = left;
-    if symbol == 0 {
+    if symbol == Packed::INVERTER {
         next.spot = spot + 1;
         return next;
     }
@@ -144,21 +147,21 @@ pub fn walk<'a>(
     n: usize,
 ) -> Walked
     requires { ⌜ (crossing < crossingLimit) × ((d : Shape) × ((s : Shape) × Walkable (now row) (extents .words) (now symbols) (now sizes) n d s)) ⌝ }
-    ensures { λ r. ⌜ ((d s : Shape) → Walkable (now (row .entry)) (extents .words) (now (symbols .entry)) (now (sizes .entry)) n d s → WalkIs d s n crossing r) ⌝ }
+    ensures { λ r. ⌜ DrawingWalked (now (row .entry)) (extents .words) crossing (now (symbols .entry)) (now (sizes .entry)) n r ⌝ }
 {
-    let mut pins = [0u8; 6];
-    let mut nodes = [0u8; 6];
+    let mut pins = [0u8; Slots::PINS];
+    let mut nodes = [0u8; Slots::PINS];
     let mut count: usize = 0;
     let mut left = Left {
         spot: 0,
         depth: 0,
-        waiting: [0u8; 6],
+        waiting: [0u8; Slots::PINS],
         used: 0,
     };
     let mut at = n;
     loop {
         let symbol = row[PatternRow::SYMBOLS + left.spot % Extents::NAND];
-        if symbol < 2 {
+        if symbol < Packed::LEAF {
             if symbols[at] != symbol {
                 return Walked {
                     matched: false,

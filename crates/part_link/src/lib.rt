@@ -3,14 +3,13 @@ use shapes_rules::Packed;
 use sheets_rules::Limits;
 use sheets_rules::TreeRecord;
 ghost use mathlib.Core.Path.{_≡_};
-ghost use mathlib.Core.Option.{Option};
-ghost use Prim.Native.Nat.{ℕ, _-_, _<_, _≤_};
+ghost use Prim.Native.Nat.{ℕ, _≤_};
 ghost use lib.ListN.{length, getD};
 ghost use Rattle.sheets_rules.specs.Model.{Tree};
 ghost use Rattle.sheets_rules.specs.Inside.Sound.{SoundTree};
 ghost use Rattle.sheets_rules.specs.Inside.Layout.{treeLaid};
 ghost use Rattle.leaves.specs.Inside.Leaf.{symbolLimit};
-ghost use Rattle.part_link.specs.Inside.Promises.{brought, LinkedIs, symbolLinked};
+ghost use Rattle.part_link.specs.Inside.Promises.{brought, LinksTree, symbolLinked};
 
 // A node's symbol with the arrival that a link brings, or that this arrival is too late.
 pub enum Symbol {
@@ -51,7 +50,7 @@ fn link_symbol(symbol: u32, driver: u8, arrivals: &[u32]) -> Symbol
 // A tree with the arrivals that the drivers of its nodes bring; or the lowest leaf at which one is too late.
 pub fn link_tree(tree: TreeRecord, drivers: &[u8], arrivals: &[u32]) -> Linked
     requires { ⌜ (length (now drivers) ≡ 64) × ((j : ℕ) → getD (now drivers) j 0 ≤ length (now arrivals)) × ((t : Tree) × SoundTree t × (tree ≡ treeLaid t)) ⌝ }
-    ensures { λ r. ⌜ ((t : Tree) (f : ℕ → Option ℕ) → SoundTree t → tree ≡ treeLaid t → ((n : ℕ) → n < 64 → f n ≡ brought (now (arrivals .entry)) (getD (now (drivers .entry)) n 0)) → LinkedIs f t (r .lateness) (r .tree)) ⌝ }
+    ensures { λ r. ⌜ LinksTree tree (now (drivers .entry)) (now (arrivals .entry)) r ⌝ }
 {
     let count = tree.count;
     let mut symbols = tree.symbols;

@@ -18,7 +18,7 @@ use Rattle.fields.specs.declared.Got.{Got}
 use Rattle.fields.specs.Reading.{start, place, times, free, within, field, filled}
 use Rattle.fields.specs.Inside.Promises.{Reads}
 use Rattle.fields.proofs.Laws.{start-place, value-at, scan-at, length-times, tailed-place, tailed-wanted}
-use Rattle.sheets_rules.specs.declared.TreeRead.{TreeRead}
+use Rattle.sheets_rules.specs.declared.TreeScanned.{TreeScanned}
 use Rattle.sheets_rules.specs.declared.TreeRecord.{TreeRecord}
 use Rattle.sheets_rules.specs.Model.{Tree}
 use Rattle.sheets_rules.specs.TreeSheet.{treeTo}
@@ -27,33 +27,34 @@ use Rattle.sheets_rules.specs.Report.{treeNumber}
 use Rattle.sheets_rules.proofs.Laid.{blank-at}
 use Rattle.bits.proofs.Whole.{fills-says}
 use Rattle.part_rules.specs.Part.{Link, Part}
-use Rattle.part_rules.specs.Answer.{PartAnswer, refusedIn, whole, inTree, _>>=_}
+use Rattle.fields.specs.Answer.{Answer, refusedIn, success, inItem, _>>=_}
 use Rattle.part_rules.specs.PartSheet.{treeCountWidth, linkCountWidth, treeWidth, leafWidth, treesMost, link, counts}
 use Rattle.part_rules.specs.PartRead.{linkNumber, sheetRead, treesFrom, linksJudged, afterCounts, part}
 use Rattle.part_read.specs.declared.LinkRecord.{LinkRecord}
 use Rattle.part_read.specs.declared.CountsRead.{CountsRead}
-use Rattle.part_read.specs.declared.PartFinding.{PartFinding}
-use Rattle.part_read.specs.declared.PartFinding.the-variants as PartFinding
+use Rattle.fields.specs.declared.Finding.{Finding}
+use Rattle.fields.specs.declared.Finding.the-variants as Finding
 use Rattle.part_read.specs.declared.LinksRead.{LinksRead}
 use Rattle.part_read.specs.Inside.Promises.{noLink, linksLaid, SmallLink, SmallLinks, LinkIs, LinksAre, CountsAre}
-use Rattle.part_read.specs.Inside.Decoded.{Says, TreesStored, Marks, PartStored}
+use Rattle.fields.specs.Inside.Promises.{Says}
+use Rattle.part_read.specs.Inside.Decoded.{TreesStored, Marks, PartStored}
 
 -- ---- the next tree
 
-module _ (before : List Tree) (left : ℕ) (s : List ℕ) (last : Bool) (read : TreeRead) (h : TreeToIs s last read) (e : eqb left 0 ≡ last) where
-  abbrev from : Bool → Scan → PartAnswer (List Tree)
-  from b q = inTree (length before) (sheetRead treeNumber (treeTo b s start .0, q)) >>= (λ x. treesFrom (before ++ (x .0 ∷ [])) left (drop (x .1) s))
+module _ (before : List Tree) (left : ℕ) (s : List ℕ) (last : Bool) (read : TreeScanned) (h : TreeToIs s last read) (e : eqb left 0 ≡ last) where
+  abbrev from : Bool → Scan → Answer (List Tree)
+  from b q = inItem (length before) (sheetRead treeNumber (treeTo b s start .0, q)) >>= (λ x. treesFrom (before ++ (x .0 ∷ [])) left (drop (x .1) s))
 
   opens : (q : Scan) → read .scan ≡ q → treesFrom before (suc left) s ≡ from last q
   unfolding treesFrom
   opens q k = ap (λ (b : Bool). from b (treeTo b s start .1)) e ∙ ap (from last) (sym (h .scan-is) ∙ k)
 
   pub tree-next : (c : Cursor) → read .scan ≡ At c → treesFrom before (suc left) s ≡ treesFrom (before ++ (treeTo last s start .0 ∷ [])) left (drop (bytesTo (placeOf c)) s)
-  unfolding inTree sheetRead _>>=_
+  unfolding inItem sheetRead _>>=_
   tree-next c k = opens (At c) k
 
   pub tree-stops : (f : Fault) (p : ℕ) → read .scan ≡ Refused f p → treesFrom before (suc left) s ≡ refusedIn (length before) (treeNumber f) p
-  unfolding inTree sheetRead _>>=_
+  unfolding inItem sheetRead _>>=_
   tree-stops f p k = opens (Refused f p) k
 
 -- The last tree is the one after which none is left.
@@ -130,8 +131,8 @@ counts-read s c end trees count read e ht hn h he =
 -- ---- the whole part
 
 module _ (s : List ℕ) (r : CountsRead) (h : CountsAre s r) where
-  after : Scan → PartAnswer Part
-  after q = inTree 0 (sheetRead (λ f. linkNumber) (counts s start .0, q)) >>= (λ head. afterCounts (head .0 .trees) (head .0 .links) (drop (head .1) s))
+  after : Scan → Answer Part
+  after q = (sheetRead (λ f. linkNumber) (counts s start .0, q)) >>= (λ head. afterCounts (head .0 .trees) (head .0 .links) (drop (head .1) s))
 
   -- After sound counts and links it is the rest; their fault is that of the part.
   pub part-from : (c : Cursor) → r .scan ≡ At c → part s ≡ afterCounts (r .trees) (counts s start .0 .links) (drop (bytesTo (placeOf c)) s)
@@ -153,16 +154,16 @@ module _ (s : List ℕ) (r : CountsRead) (h : CountsAre s r) where
 -- The rest is refused with the trees, or stored with the links.
 pub rest-stops : (count : ℕ) (xs : List Link) (s : List ℕ) {k number place : ℕ} → treesFrom [] count s ≡ refusedIn k number place → afterCounts count xs s ≡ refusedIn k number place
 unfolding afterCounts
-rest-stops count xs s e = ap (λ (o : PartAnswer (List Tree)). o >>= (λ ts. linksJudged ts [] xs >>= (λ ys. whole (record { trees = ts; links = ys })))) e
+rest-stops count xs s e = ap (λ (o : Answer (List Tree)). o >>= (λ ts. linksJudged ts [] xs >>= (λ ys. success (record { trees = ts; links = ys })))) e
 
-pub rest-says : (count : ℕ) (xs : List Link) (s : List ℕ) (ts : List Tree) (trees : List TreeRecord) (drivers : List ℕ) (finding : PartFinding) → treesFrom [] count s ≡ whole ts → TreesStored ts trees → length ts ≡ count → Says Marks (linksJudged ts [] xs) finding drivers →
+pub rest-says : (count : ℕ) (xs : List Link) (s : List ℕ) (ts : List Tree) (trees : List TreeRecord) (drivers : List ℕ) (finding : Finding) → treesFrom [] count s ≡ success ts → TreesStored ts trees → length ts ≡ count → Says Marks (linksJudged ts [] xs) finding drivers →
     Says PartStored (afterCounts count xs s) finding (record { count = count; trees = trees; drivers = drivers })
 unfolding afterCounts
 rest-says count xs s ts trees drivers finding e stored many h = go finding h
   where
-    on : PartAnswer (List Tree) → PartAnswer Part
-    on o = o >>= (λ us. linksJudged us [] xs >>= (λ ys. whole (record { trees = us; links = ys })))
+    on : Answer (List Tree) → Answer Part
+    on o = o >>= (λ us. linksJudged us [] xs >>= (λ ys. success (record { trees = us; links = ys })))
 
-    go : (f : PartFinding) → Says Marks (linksJudged ts [] xs) f drivers → Says PartStored (afterCounts count xs s) f (record { count = count; trees = trees; drivers = drivers })
-    go (PartFinding.Refused k number place) (q, fits) = (ap on e ∙ ap (λ (o : PartAnswer (List Link)). o >>= (λ ys. whole (record { trees = ts; links = ys }))) q, fits)
-    go PartFinding.Found (ys, q, marks) = (record { trees = ts; links = ys }, ap on e ∙ ap (λ (o : PartAnswer (List Link)). o >>= (λ ys. whole (record { trees = ts; links = ys }))) q, record { count-is = sym many; trees-are = stored; drivers-are = marks })
+    go : (f : Finding) → Says Marks (linksJudged ts [] xs) f drivers → Says PartStored (afterCounts count xs s) f (record { count = count; trees = trees; drivers = drivers })
+    go (Finding.Refused r) (q, fits) = (ap on e ∙ ap (λ (o : Answer (List Link)). o >>= (λ ys. success (record { trees = ts; links = ys }))) q, fits)
+    go Finding.Found (ys, q, marks) = (record { trees = ts; links = ys }, ap on e ∙ ap (λ (o : Answer (List Link)). o >>= (λ ys. success (record { trees = ts; links = ys }))) q, record { count-is = sym many; trees-are = stored; drivers-are = marks })

@@ -10,7 +10,7 @@ use lib.Dec.{eqb, ltb, leb}
 use lib.ListN.{length, getD, set, replicate, getElem?, length-append, length-replicate, length-set, length-map, List·getD-append, List·getD-eq-default}
 use lib.Seq.{append-snoc, getD-append-add, getD-at, getD-set-same, getD-set-other, length-sets}
 use borrow.Author.Tests.{le-leb, lt-leb, lt-ltb, le-ltb, eq-eqb, ne-eqb}
-use Rattle.fields.specs.Answer.{Answer, refused, success}
+use Rattle.fields.specs.Answer.{Answer, refused, refusedIn, refusal, success, _>>=_}
 use Rattle.shapes_rules.specs.Shape.{leafSymbol, symbols}
 use Rattle.shapes_rules.proofs.Drawing.{length-symbols}
 use Rattle.sheets_rules.specs.Model.{Shape, leaf, inv, nand, size, Tree}
@@ -21,12 +21,13 @@ use Rattle.sheets_rules.proofs.Laid.{padded-whole, padded-at}
 use Rattle.fields.proofs.Lists.{zeros-at}
 use Rattle.covers.specs.Lists.{any}
 use Rattle.covers.proofs.Basics.{at-in}
-use Rattle.part_rules.specs.Answer.{PartAnswer, refusedIn, whole, inTree, outside, _>>=_}
 use Rattle.part_read.specs.declared.LinkRecord.{LinkRecord}
-use Rattle.part_read.specs.declared.PartFinding.the-variants.{Refused, Found}
+use Rattle.fields.specs.declared.Finding.{Finding}
+use Rattle.fields.specs.declared.Refusal.{Refusal}
+use Rattle.fields.specs.declared.Finding.the-variants.{Refused, Found}
 use Rattle.part_read.specs.Inside.Decoded.{noTree, TreesStored, Marks}
 use Rattle.part_link.specs.Inside.Promises.{driverNamed}
-use Rattle.part_read.specs.Inside.Promises.{linkLaid, noLink, linksLaid, SmallLink, laidOr, findingOf, LinkAt}
+use Rattle.part_read.specs.Inside.Promises.{linkLaid, noLink, linksLaid, SmallLink, laidOr, answerFound, LinkAt}
 use Rattle.part_rules.specs.Part.{Link, leafNodes, driverOf}
 use Rattle.part_rules.specs.PartSheet.{treesMost, leafField}
 use Rattle.part_rules.specs.PartRead.{linkNumber, driverNumber, isLeafOf, isFree, linkJudged, linksJudged}
@@ -75,13 +76,17 @@ leaf-by-symbol trees k n h = go (getElem? trees k) refl
 
 -- ---- findings
 
-refused-found : {k number place : ℕ} → Refused k number place ≡ Found → ⊥
+refused-found : {r : Refusal} → Refused r ≡ Found → ⊥
 refused-found e = let z : _≡_ {A = ℕ} 0 1 = cc in omega arith
 
-stops : {A B : Type 0} (o : PartAnswer A) (f : A → PartAnswer B) {k number place : ℕ} → findingOf o ≡ Refused k number place → (o >>= f) ≡ refusedIn k number place
+stops : {A B : Type 0} (o : Answer A) (f : A → Answer B) {r : Refusal} → answerFound o ≡ Refused r → (o >>= f) ≡ refusal r
 unfolding _>>=_
-stops (refusedIn k n p) f e = cc
-stops (whole a) f e = absurd (refused-found (sym e))
+stops {B = B} (refusedIn i n p) f e = ap said-as e
+  where
+    said-as : Finding → Answer B
+    said-as (Refused r) = refusal r
+    said-as Found = refused 0 0
+stops (success a) f e = absurd (refused-found (sym e))
 
 -- ---- what is said of a link
 
@@ -99,46 +104,45 @@ module _ {trees : List Tree} {before : List Link} {x : Link} {tree : TreeRecord}
       let lower : ltb (x .driving) (x .reading) ≡ c = ap (λ (k : LinkRecord). ltb (k .driving) (k .reading)) (sym (h .link-is)) ∙ ec in
       rw (names, free, lower) refl
 
-  found : (a b c : Bool) → leb 2 (getD (tree .symbols) (link .node) 0) ≡ a → isFree (driverNamed driver) ≡ b → ltb (link .driving) (link .reading) ≡ c → findingOf (outside (said before x (a && b) c)) ≡ findingOf (outside (linkJudged trees before x))
-  found a b c ea eb ec = ap (λ (o : Answer (List Link)). findingOf (outside o)) (sym (says a b c ea eb ec))
+  found : (a b c : Bool) → leb 2 (getD (tree .symbols) (link .node) 0) ≡ a → isFree (driverNamed driver) ≡ b → ltb (link .driving) (link .reading) ≡ c → answerFound (said before x (a && b) c) ≡ answerFound (linkJudged trees before x)
+  found a b c ea eb ec = ap (λ (o : Answer (List Link)). answerFound o) (sym (says a b c ea eb ec))
 
-  pub not-leaf : getD (tree .symbols) (link .node) 0 < 2 → Refused 0 linkNumber (leafField position) ≡ findingOf (outside (linkJudged trees before x))
-  unfolding inTree
-  not-leaf l = ap (λ (n : ℕ). Refused 0 linkNumber (leafField n)) (h .position-is) ∙ found false (isFree (driverNamed driver)) (ltb (link .driving) (link .reading)) (lt-leb 2 (getD (tree .symbols) (link .node) 0) l) refl refl
+  pub not-leaf : getD (tree .symbols) (link .node) 0 < 2 → Refused (record { item = 0; number = linkNumber; place = leafField position }) ≡ answerFound (linkJudged trees before x)
+  not-leaf l = ap (λ (n : ℕ). Refused (record { item = 0; number = linkNumber; place = leafField n })) (h .position-is) ∙ found false (isFree (driverNamed driver)) (ltb (link .driving) (link .reading)) (lt-leb 2 (getD (tree .symbols) (link .node) 0) l) refl refl
 
-  pub leaf-taken : 2 ≤ getD (tree .symbols) (link .node) 0 → (driver ≡ 0 → ⊥) → Refused 0 linkNumber (leafField position) ≡ findingOf (outside (linkJudged trees before x))
-  unfolding inTree isFree
-  leaf-taken l d = ap (λ (n : ℕ). Refused 0 linkNumber (leafField n)) (h .position-is) ∙ found true false (ltb (link .driving) (link .reading)) (le-leb 2 (getD (tree .symbols) (link .node) 0) l) (go driver d) refl
+  pub leaf-taken : 2 ≤ getD (tree .symbols) (link .node) 0 → (driver ≡ 0 → ⊥) → Refused (record { item = 0; number = linkNumber; place = leafField position }) ≡ answerFound (linkJudged trees before x)
+  unfolding isFree
+  leaf-taken l d = ap (λ (n : ℕ). Refused (record { item = 0; number = linkNumber; place = leafField n })) (h .position-is) ∙ found true false (ltb (link .driving) (link .reading)) (le-leb 2 (getD (tree .symbols) (link .node) 0) l) (go driver d) refl
     where
       go : (n : ℕ) → (n ≡ 0 → ⊥) → isFree (driverNamed n) ≡ false
       go zero e = absurd (e refl)
       go (suc n) e = refl
 
-  pub not-lower : 2 ≤ getD (tree .symbols) (link .node) 0 → driver ≡ 0 → link .reading ≤ link .driving → Refused 0 driverNumber position ≡ findingOf (outside (linkJudged trees before x))
-  unfolding inTree isFree
-  not-lower l d g = ap (λ (n : ℕ). Refused 0 driverNumber n) (h .position-is) ∙ found true true false (le-leb 2 (getD (tree .symbols) (link .node) 0) l) (rw d refl) (le-ltb (link .driving) (link .reading) g)
+  pub not-lower : 2 ≤ getD (tree .symbols) (link .node) 0 → driver ≡ 0 → link .reading ≤ link .driving → Refused (record { item = 0; number = driverNumber; place = position }) ≡ answerFound (linkJudged trees before x)
+  unfolding isFree
+  not-lower l d g = ap (λ (n : ℕ). Refused (record { item = 0; number = driverNumber; place = n })) (h .position-is) ∙ found true true false (le-leb 2 (getD (tree .symbols) (link .node) 0) l) (rw d refl) (le-ltb (link .driving) (link .reading) g)
 
-  pub right : 2 ≤ getD (tree .symbols) (link .node) 0 → driver ≡ 0 → link .driving < link .reading → Found ≡ findingOf (outside (linkJudged trees before x))
-  unfolding inTree isFree
+  pub right : 2 ≤ getD (tree .symbols) (link .node) 0 → driver ≡ 0 → link .driving < link .reading → Found ≡ answerFound (linkJudged trees before x)
+  unfolding isFree
   right l d g = found true true true (le-leb 2 (getD (tree .symbols) (link .node) 0) l) (rw d refl) (lt-ltb (link .driving) (link .reading) g)
 
 -- ---- one link after another
 
 -- What was said of a link decides how it goes on: its leaf had no driver, and what follows is judged after it; or all is refused as it is.
 module _ (trees : List Tree) (before : List Link) (x : Link) (rest : List Link) where
-  pub link-next : findingOf (outside (linkJudged trees before x)) ≡ Found → (linksJudged trees before (x ∷ rest) ≡ linksJudged trees (before ++ (x ∷ [])) rest) × (driverOf before (x .reading) (x .node) ≡ none)
+  pub link-next : answerFound (linkJudged trees before x) ≡ Found → (linksJudged trees before (x ∷ rest) ≡ linksJudged trees (before ++ (x ∷ [])) rest) × (driverOf before (x .reading) (x .node) ≡ none)
   unfolding linkJudged linksJudged
   link-next e = go (isLeafOf (getElem? trees (x .reading)) (x .node)) (driverOf before (x .reading) (x .node)) (ltb (x .driving) (x .reading)) e
     where
-      go : (names : Bool) (o : Option ℕ) (lower : Bool) → findingOf (outside (said before x (names && isFree o) lower)) ≡ Found → ((outside (said before x (names && isFree o) lower) >>= (λ links. linksJudged trees links rest)) ≡ linksJudged trees (before ++ (x ∷ [])) rest) × (o ≡ none)
+      go : (names : Bool) (o : Option ℕ) (lower : Bool) → answerFound (said before x (names && isFree o) lower) ≡ Found → (((said before x (names && isFree o) lower) >>= (λ links. linksJudged trees links rest)) ≡ linksJudged trees (before ++ (x ∷ [])) rest) × (o ≡ none)
       go false o lower f = absurd (refused-found f)
       go true (some d) lower f = absurd (refused-found f)
       go true none false f = absurd (refused-found f)
       go true none true f = (refl, refl)
 
-  pub link-stops : {k number place : ℕ} → findingOf (outside (linkJudged trees before x)) ≡ Refused k number place → linksJudged trees before (x ∷ rest) ≡ refusedIn k number place
+  pub link-stops : {r : Refusal} → answerFound (linkJudged trees before x) ≡ Refused r → linksJudged trees before (x ∷ rest) ≡ refusal r
   unfolding linksJudged
-  link-stops e = stops (outside (linkJudged trees before x)) (λ links. linksJudged trees links rest) e
+  link-stops e = stops (linkJudged trees before x) (λ links. linksJudged trees links rest) e
 
 -- ---- the drivers that links name
 
@@ -243,7 +247,7 @@ module _ {ts : List Tree} {xs : List Link} {trees : List TreeRecord} {links : Li
           )
 
   -- It is judged and marked; or all is refused as it is.
-  pub reached-more : ((trees′ : List Tree) (before : List Link) (x : Link) → LinkAt trees′ before x (getD trees (link .reading) d) link (getD drivers at 0) k → Found ≡ findingOf (outside (linkJudged trees′ before x))) → Reached ts xs (k + 1) (set drivers at (link .driving + 1))
+  pub reached-more : ((trees′ : List Tree) (before : List Link) (x : Link) → LinkAt trees′ before x (getD trees (link .reading) d) link (getD drivers at 0) k → Found ≡ answerFound (linkJudged trees′ before x)) → Reached ts xs (k + 1) (set drivers at (link .driving + 1))
   reached-more f =
       let n = next in
       let x = n .0 in
@@ -258,5 +262,5 @@ module _ {ts : List Tree} {xs : List Link} {trees : List TreeRecord} {links : Li
         marks = subst (λ (r : LinkRecord). Marks (h .before ++ (x ∷ [])) (set drivers (64 * r .reading + r .node) (r .driving + 1))) (sym (n .3)) marked;
       }
 
-  pub reached-stops : {j number place : ℕ} → ((trees′ : List Tree) (before : List Link) (x : Link) → LinkAt trees′ before x (getD trees (link .reading) d) link (getD drivers at 0) k → Refused j number place ≡ findingOf (outside (linkJudged trees′ before x))) → linksJudged ts [] xs ≡ refusedIn j number place
+  pub reached-stops : {r : Refusal} → ((trees′ : List Tree) (before : List Link) (x : Link) → LinkAt trees′ before x (getD trees (link .reading) d) link (getD drivers at 0) k → Refused r ≡ answerFound (linkJudged trees′ before x)) → linksJudged ts [] xs ≡ refusal r
   reached-stops f = let n = next in h .judged ∙ ap (linksJudged ts (h .before)) (n .2) ∙ link-stops ts (h .before) (n .0) (n .1) (sym (f ts (h .before) (n .0) (n .4)))

@@ -1,4 +1,6 @@
 // The part sheet, decoded: its trees, and for each of their nodes the tree that drives it.
+use fields::Finding;
+use fields::Refusal;
 use fields::Scan;
 use shapes_rules::Packed;
 use sheets_rules::Limits;
@@ -10,23 +12,17 @@ ghost use lib.ListN.{length};
 ghost use Rattle.fields.specs.Reading.{place};
 ghost use Rattle.sheets_rules.specs.Model.{Tree};
 ghost use Rattle.part_rules.specs.Part.{Link};
-ghost use Rattle.part_rules.specs.Answer.{outside};
+ghost use Rattle.fields.specs.Inside.Promises.{Says};
 ghost use Rattle.part_rules.specs.PartSheet.{linksAt, treesMost};
 ghost use Rattle.part_rules.specs.PartRead.{treesFrom, linkJudged, linksJudged, afterCounts, part as partOf};
-ghost use Rattle.part_read.specs.Inside.Decoded.{Says, noTree, TreesStored, Marks, PartStored};
-ghost use Rattle.part_read.specs.Inside.Promises.{linksLaid, SmallLink, SmallLinks, LinkIs, LinksAre, CountsAre, findingOf, FindingBounded, LinkAt};
+ghost use Rattle.part_read.specs.Inside.Decoded.{noTree, TreesStored, Marks, PartStored};
+ghost use Rattle.part_read.specs.Inside.Promises.{linksLaid, SmallLink, SmallLinks, LinkIs, LinksAre, CountsAre, answerFound, FindingBounded, LinkAt};
 
 // A link as decoded.
 pub struct LinkRecord {
     pub reading: u8,
     pub node: u8,
     pub driving: u8,
-}
-
-// A refusal's tree, number and place, or that what was asked for is found.
-pub enum PartFinding {
-    Refused(u32, u32, usize),
-    Found,
 }
 
 // A part as decoded: its trees, and for node n of tree k, at 64 × k + n, 0 or one more than the number of the tree that drives it.
@@ -37,7 +33,7 @@ pub struct PartRecord {
 }
 
 pub struct PartRead {
-    pub finding: PartFinding,
+    pub finding: Finding,
     pub part: PartRecord,
 }
 
@@ -60,12 +56,12 @@ pub struct CountsRead {
 }
 
 pub struct TreesRead {
-    pub finding: PartFinding,
+    pub finding: Finding,
     pub trees: [TreeRecord; Limits::PART_TREES],
 }
 
 pub struct DriversRead {
-    pub finding: PartFinding,
+    pub finding: Finding,
     pub drivers: [u8; Drivers::ALL],
 }
 
@@ -207,9 +203,12 @@ fn read_trees(s: &[u8], count: usize) -> TreesRead
             }
             Scan::Refused(fault, place) => {
                 let number = tree::tree_number(fault);
-                let tree = k as u32;
                 return TreesRead {
-                    finding: PartFinding::Refused(tree, number, place),
+                    finding: Finding::Refused(Refusal {
+                        item: k as u32,
+                        number,
+                        place,
+                    }),
                     trees,
                 };
             }
@@ -217,30 +216,42 @@ fn read_trees(s: &[u8], count: usize) -> TreesRead
         k += 1;
     }
     TreesRead {
-        finding: PartFinding::Found,
+        finding: Finding::Found,
         trees,
     }
 }
 
 // One link against its reading tree, after whose nodes zeros stand, and its leaf's driver among the links before: its leaf field, then its own driver.
-fn judge_link(tree: TreeRecord, link: LinkRecord, driver: u8, position: usize) -> PartFinding
+fn judge_link(tree: TreeRecord, link: LinkRecord, driver: u8, position: usize) -> Finding
     requires { ⌜ SmallLink link × (position ≤ 255) ⌝ }
-    ensures { λ r. ⌜ ((trees : List Tree) (before : List Link) (x : Link) → LinkAt trees before x tree link driver position → r ≡ findingOf (outside (linkJudged trees before x))) ⌝ }
+    ensures { λ r. ⌜ ((trees : List Tree) (before : List Link) (x : Link) → LinkAt trees before x tree link driver position → r ≡ answerFound (linkJudged trees before x)) ⌝ }
     ensures { λ r. ⌜ FindingBounded r ⌝ }
 {
     let symbols = tree.symbols;
     let node = link.node as usize;
     let leaf_field = Width::COUNTS + Width::LINK * position + Width::TREE;
     if symbols[node] < Packed::LEAF {
-        return PartFinding::Refused(0, Numbers::LINK, leaf_field);
+        return Finding::Refused(Refusal {
+            item: 0,
+            number: Numbers::LINK,
+            place: leaf_field,
+        });
     }
     if driver != 0 {
-        return PartFinding::Refused(0, Numbers::LINK, leaf_field);
+        return Finding::Refused(Refusal {
+            item: 0,
+            number: Numbers::LINK,
+            place: leaf_field,
+        });
     }
     if link.reading <= link.driving {
-        return PartFinding::Refused(0, Numbers::DRIVER, position);
+        return Finding::Refused(Refusal {
+            item: 0,
+            number: Numbers::DRIVER,
+            place: position,
+        });
     }
-    PartFinding::Found
+    Finding::Found
 }
 
 // The links against the trees, one after another, and the driver of every node by them.
@@ -260,14 +271,14 @@ fn judge_links(
         let tree = trees[reading];
         let at = Drivers::TREE * reading + link.node as usize;
         let finding = judge_link(tree, link, drivers[at], k);
-        let PartFinding::Found = finding else {
+        let Finding::Found = finding else {
             return DriversRead { finding, drivers };
         };
         drivers[at] = link.driving + 1;
         k += 1;
     }
     DriversRead {
-        finding: PartFinding::Found,
+        finding: Finding::Found,
         drivers,
     }
 }
@@ -281,7 +292,7 @@ fn read_rest(s: &[u8], counts: CountsRead) -> PartRead
     let read = read_trees(s, count);
     let trees = read.trees;
     let finding = read.finding;
-    let PartFinding::Found = finding else {
+    let Finding::Found = finding else {
         let drivers = [0u8; Drivers::ALL];
         return PartRead {
             finding,
@@ -320,7 +331,11 @@ pub fn read_part(s: &[u8]) -> PartRead
         Scan::Refused(_, place) => {
             let none = no_tree();
             PartRead {
-                finding: PartFinding::Refused(0, Numbers::LINK, place),
+                finding: Finding::Refused(Refusal {
+                    item: 0,
+                    number: Numbers::LINK,
+                    place: place,
+                }),
                 part: PartRecord {
                     count: 0,
                     trees: [none; Limits::PART_TREES],

@@ -1,24 +1,17 @@
 -- A sound tree stands on some sheet, and the judge of covers accepts a mapped tree's cover for every sheet of the tree.
 use Prim.Native.Nat.{ℕ}
-use mathlib.Core.Path.{_≡_, refl, sym, ap, ap₂, subst, _∙_}
+use mathlib.Core.Path.{_≡_, refl, ap, ap₂, _∙_}
 use mathlib.Core.List.{List, List·Memᴰ, List·Memᴰ·head, Memᴰ·append-left, Memᴰ·append-right}
 use mathlib.Core.Option.{Option}
-use Rattle.bits.specs.declared.Cursor.{Cursor}
-use Rattle.bits.specs.Bits.{cursorAt}
-use Rattle.fields.specs.declared.Scan.{Scan}
-use Rattle.fields.specs.declared.Scan.the-variants.{At}
-use Rattle.fields.specs.Reading.{Live, start}
-use Rattle.fields.specs.Written.{widths}
-use Rattle.sheets_rules.specs.Model.{Leaf, Shape, leaf, inv, nand, leaves, Tree}
-use Rattle.sheets_rules.specs.LibrarySheet.{library}
+use Rattle.fields.specs.Answer.{success, said}
+use Rattle.sheets_rules.specs.Model.{Leaf, Shape, leaf, inv, nand, leaves, Library, Tree}
+use Rattle.sheets_rules.specs.Report.{treeNumber, librarySaid, treeSaid}
 use Rattle.sheets_rules.specs.Inside.Sound.{SoundLeaf, SoundTree}
-use Rattle.sheets_rules.specs.TreeSheet.{tree}
-use Rattle.sheets_rules.specs.TreeWritten.{CodedTree, code1, code2, code3, shapeOf, treeFields, treeSheet, Ranged}
-use Rattle.sheets_rules.proofs.Sound.{library-limits}
+use Rattle.sheets_rules.specs.TreeWritten.{CodedTree, code1, code2, code3, shapeOf, treeSheet, Ranged}
+use Rattle.sheets_rules.proofs.Sound.{library-sound}
 use Rattle.sheets_rules.proofs.TreeWritten.{tree-reads}
 use Rattle.covers.specs.Cover.{Cover}
 use Rattle.covers.specs.CoverSheet.{coverSheet}
-use Rattle.covers.specs.Promise.{RootCover}
 use Rattle.covers.proofs.ReadBack.{cover-reads}
 use Rattle.covers.proofs.FromSheets.{cover-fits}
 use Rattle.judge_rules.proofs.Demands.{judge-demands}
@@ -46,24 +39,18 @@ coded-ranged (inv a) h = coded-ranged a h
 coded-ranged (nand a b) h = (coded-ranged a (λ x m. h x (Memᴰ·append-left (leaves b) m)), coded-ranged b (λ x m. h x (Memᴰ·append-right (leaves a) m)))
 
 -- Every sound tree is said by some sheet.
-tree-written : (t : Tree) → SoundTree t → (ts : List ℕ) × ((q : Cursor) × (tree ts start ≡ (t, At q)))
+tree-written : (t : Tree) → SoundTree t → (ts : List ℕ) × (treeSaid ts ≡ success t)
+unfolding treeSaid
 tree-written t h =
     let x = coded (t .shape) in
     let same = coded-shape (t .shape) in
-    let q = cursorAt (widths (treeFields (t .load) (t .required) x)) in
     let reads = tree-reads (t .load) (t .required) x (record { light = h .load; timed = h .required; nodes = rw same (h .size); ranged = coded-ranged (t .shape) (h .leaves) }) in
-    (treeSheet (t .load) (t .required) x, (q, reads ∙ ap (λ (s : Shape). (record { load = t .load; required = t .required; shape = s }, At q)) same))
+    (treeSheet (t .load) (t .required) x, ap (said treeNumber) reads ∙ ap (λ (s : Shape). success (record { load = t .load; required = t .required; shape = s })) same)
 
 -- The judge accepts the cover of a mapped tree, for the tree with the arrivals put in.
-pub is-accepted : (ls : List ℕ) {q : Cursor} {most : ℕ} {f : ℕ → Option ℕ} {t : Tree} {c : Cover} → library ls start .1 ≡ At q → SoundTree t → IsMapped most (library ls start .0) f t c → IsAccepted ls (knownTree f t) c
-is-accepted ls {q} {f = f} {t = t} {c = c} e sound m =
+pub is-accepted : (ls : List ℕ) {l : Library} {most : ℕ} {f : ℕ → Option ℕ} {t : Tree} {c : Cover} → librarySaid ls ≡ success l → SoundTree t → IsMapped most l f t c → IsAccepted ls (knownTree f t) c
+is-accepted ls {l} {f = f} {t = t} {c = c} e sound m =
     let known = known-sound sound (m .none-late) in
     let legal = m .best .best .legal in
-    let reads = cover-reads (cover-fits (library-limits ls (subst Live (sym e) tt)) known legal) in
-    record {
-      reads = reads;
-      some-sheet = tree-written (knownTree f t) known;
-      accepts = λ ts q′ e′.
-          judge-demands ls ts (coverSheet c) q q′ e (ap (λ (r : Tree × Scan). r .1) e′) .exactly .accepted-exactly (c .point) .1
-          (c, reads, subst (λ (u : Tree). RootCover (library ls start .0) u c) (sym (ap (λ (r : Tree × Scan). r .0) e′)) legal, refl);
-    }
+    let reads = cover-reads (cover-fits (library-sound ls e) known legal) in
+    record { reads = reads; some-sheet = tree-written (knownTree f t) known; accepts = λ ts e′. judge-demands ls ts (coverSheet c) l (knownTree f t) e e′ .exactly .accepted-exactly (c .point) .1 (c, reads, legal, refl) }

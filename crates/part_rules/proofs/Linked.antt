@@ -6,13 +6,13 @@ use Rattle.shapes_rules.specs.Drawing.{codeVerdict, leafVerdict, leafNode, pair
 use Rattle.sheets_rules.specs.TreeSheet.{treeTo}
 use Rattle.sheets_rules.specs.Report.{libraryNumber, treeNumber}
 use Rattle.part_rules.specs.PartSheet.{link, counts}
-use Rattle.part_rules.specs.Answer.{_>>=_, onWhole}
+use Rattle.fields.specs.Answer.{_>>=_, onSuccess}
 use Rattle.part_rules.specs.PartRead.{linksJudged, afterCounts, part}
 use Rattle.part_rules.specs.Outcome.{coversFrom}
 use Rattle.part_rules.specs.Examples.Linked.{Linked, Sheets}
 
 pub linked : Linked
-unfolding linksJudged coversFrom onWhole _>>=_
+unfolding linksJudged coversFrom onSuccess _>>=_
 linked = refl
 
 pub sheets : Sheets

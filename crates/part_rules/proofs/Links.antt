@@ -7,19 +7,20 @@ use mathlib.Core.List.{List, [], _∷_, _++_, map, append-nil, List·Memᴰ, Lis
 use mathlib.Core.Option.{Option, none, some, Option·map, Option·none-ne-some, Option·some-injective}
 use native.Mathlib.Omega.{arith}
 use lib.Dec.{eqb, ltb}
-use lib.ListN.{length, take, getD, getElem?, length-take, length-append, List·getD-map}
+use lib.ListN.{length, take, drop, getD, getElem?, length-take, length-append, List·getD-map}
 use lib.Seq.{append-snoc, take-take, take-append-seam, getD-take, length-take-le}
 use borrow.Author.Tests.{ltb-true, ltb-false, eqb-true, eqb-false, eq-eqb}
-use Rattle.fields.specs.Answer.{Answer, refused, success}
+use Rattle.fields.specs.Reading.{start}
+use Rattle.fields.specs.Answer.{Answer, refused, success, refusedIn, _>>=_}
+use Rattle.fields.proofs.Answer.{answer-apart}
 use Rattle.sheets_rules.specs.Model.{Tree}
 use Rattle.covers.specs.Cover.{Cover, nothing}
 use Rattle.covers.proofs.Basics.{lt-or-le, each, at-in, at-below, at-value, any-true, true-any}
 use Rattle.part_rules.specs.Part.{Link, Part, leafNodes, driverOf, linkedArrival}
-use Rattle.part_rules.specs.Answer.{PartAnswer, refusedIn, whole, outside, _>>=_}
-use Rattle.part_rules.specs.PartSheet.{leafField}
-use Rattle.part_rules.specs.PartRead.{linkNumber, driverNumber, isLeafOf, isFree, linkJudged, linksJudged, afterCounts, part}
-use Rattle.part_rules.specs.Demands.{NamesLeaf, SameLeaf, SoundLinks, LinkFault, no-leaf, leaf-taken, not-lower, FirstFault, LinkDemands, LinksWhereRead, LinksBring}
-use Rattle.part_rules.proofs.Trees.{whole-refused, each-more, part-from}
+use Rattle.part_rules.specs.PartSheet.{leafField, Counts, counts}
+use Rattle.part_rules.specs.PartRead.{linkNumber, driverNumber, sheetRead, treesFrom, isLeafOf, isFree, linkJudged, linksJudged, afterCounts, part}
+use Rattle.part_rules.specs.Demands.{NamesLeaf, SameLeaf, SoundLinks, LinkFault, no-leaf, leaf-taken, not-lower, FirstFault, LinksBring}
+use Rattle.part_rules.proofs.Trees.{each-more, part-from}
 
 -- ---- lists
 
@@ -115,8 +116,8 @@ module _ (trees : List Tree) where
           rw (← same) (free y (at-in before j (sym (at-front before (x ∷ []) j (omega arith)) ∙ at-j)))
 
   -- What an answer to all links says: all are sound, or the first at fault is named.
-  data LinksPromise (links : List Link) : PartAnswer (List Link) → Type 0 where
-    all-sound : SoundLinks trees links → LinksPromise links (whole links)
+  data LinksPromise (links : List Link) : Answer (List Link) → Type 0 where
+    all-sound : SoundLinks trees links → LinksPromise links (success links)
     first-fault : {number place : ℕ} → FirstFault trees links number place → LinksPromise links (refusedIn 0 number place)
 
   from : (before xs : List Link) → SoundLinks trees before → LinksPromise (before ++ xs) (linksJudged trees before xs)
@@ -125,7 +126,7 @@ module _ (trees : List Tree) where
   from before (x ∷ xs) h = go (link-promise before x) (from (before ++ (x ∷ [])) xs)
     where
       go : {a : Answer (List Link)} → LinkPromise before x a → (SoundLinks trees (before ++ (x ∷ [])) → LinksPromise (before ++ (x ∷ []) ++ xs) (linksJudged trees (before ++ (x ∷ [])) xs)) →
-          LinksPromise (before ++ x ∷ xs) (outside a >>= (λ links. linksJudged trees links xs))
+          LinksPromise (before ++ x ∷ xs) (a >>= (λ links. linksJudged trees links xs))
       go (sound leaf free lower) rest = subst (λ (l : List Link). LinksPromise l (linksJudged trees (before ++ (x ∷ [])) xs)) (append-snoc before x xs) (rest (sound-more h leaf free lower))
       go (at-fault {number} {place} f) rest = let front = sym (take-append-seam before (x ∷ xs)) in
           first-fault (record {
@@ -155,7 +156,7 @@ fault-same (not-lower n f le) (not-lower n′ f′ le′) = (refl, refl)
 
 module _ {trees : List Tree} where
   -- Links are not sound and at fault.
-  sound-or-fault : {links : List Link} {number place : ℕ} → SoundLinks trees links → FirstFault trees links number place → ⊥
+  pub sound-or-fault : {links : List Link} {number place : ℕ} → SoundLinks trees links → FirstFault trees links number place → ⊥
   sound-or-fault {links} h f = go (f .fault)
     where
       go : {number place : ℕ} → LinkFault trees (take (f .position) links) (f .position) (f .link) number place → ⊥
@@ -176,7 +177,7 @@ module _ {trees : List Tree} where
     fault = subst (λ (l : List Link). LinkFault trees l (f .position) (f .link) number place) front (f .fault);
   }
 
-  first-same : {links : List Link} {number number′ place place′ : ℕ} → FirstFault trees links number place → FirstFault trees links number′ place′ → (number ≡ number′) × (place ≡ place′)
+  pub first-same : {links : List Link} {number number′ place place′ : ℕ} → FirstFault trees links number place → FirstFault trees links number′ place′ → (number ≡ number′) × (place ≡ place′)
   first-same {links} g h =
       let a : g .position < h .position → ⊥ = λ lt. sound-or-fault (h .before) (among-first (h .position) g lt) in
       let b : h .position < g .position → ⊥ = λ lt. sound-or-fault (g .before) (among-first (g .position) h lt) in
@@ -187,30 +188,25 @@ module _ {trees : List Tree} where
 -- ---- the demands
 
 -- The links of a part that was read are sound.
-pub part-links : (s : List ℕ) (p : Part) → part s ≡ whole p → SoundLinks (p .trees) (p .links)
+pub part-links : (s : List ℕ) (p : Part) → part s ≡ success p → SoundLinks (p .trees) (p .links)
 part-links s p e = let r = part-from s p e in go (links-promise (p .trees) (r .0 .0 .links)) (r .2)
   where
-    go : {links : List Link} {a : PartAnswer (List Link)} → LinksPromise (p .trees) links a → a ≡ whole (p .links) → SoundLinks (p .trees) (p .links)
+    go : {links : List Link} {a : Answer (List Link)} → LinksPromise (p .trees) links a → a ≡ success (p .links) → SoundLinks (p .trees) (p .links)
     go {links} (all-sound h) e = let same : links ≡ p .links = cc in subst (SoundLinks (p .trees)) same h
-    go (first-fault f) e = absurd (whole-refused (sym e))
+    go (first-fault f) e = absurd (answer-apart (sym e))
 
--- Where all before them is sound, the links are judged as is demanded.
-pub links-demands : (s : List ℕ) → LinksWhereRead s
+-- Where all before them is sound, the part is read exactly when its links are sound; else the first link at fault is refused.
+pub data LinksRead (ps : List ℕ) (head : Counts × ℕ) (trees : List Tree) : Type 0 where
+  all-read : SoundLinks trees (head .0 .links) → part ps ≡ success (record { trees = trees; links = head .0 .links }) → LinksRead ps head trees
+  one-refused : {number place : ℕ} → FirstFault trees (head .0 .links) number place → part ps ≡ refused number place → LinksRead ps head trees
+
+pub links-read : (ps : List ℕ) (head : Counts × ℕ) (trees : List Tree) → sheetRead (λ f. linkNumber) (counts ps start) ≡ success head → treesFrom [] (head .0 .trees) (drop (head .1) ps) ≡ success trees → LinksRead ps head trees
 unfolding part afterCounts
-links-demands s head trees e e′ = go (links-promise trees (head .0 .links)) (rw (e, e′))
+links-read ps head trees e e′ = go (links-promise trees (head .0 .links)) (rw (e, e′))
   where
-    go : {a : PartAnswer (List Link)} → LinksPromise trees (head .0 .links) a → part s ≡ (a >>= (λ links. whole (record { trees = trees; links = links }))) → LinkDemands s head trees
-    go (all-sound h) is = record {
-      sound-exactly = (λ x. h, λ x. is);
-      refused-exactly = λ number place. (λ x. absurd (whole-refused (sym is ∙ x)), λ f. absurd (sound-or-fault h f));
-    }
-    go (first-fault {number = number} {place = place} f) is = record {
-      sound-exactly = (λ x. absurd (whole-refused (sym x ∙ is)), λ h. absurd (sound-or-fault h f));
-      refused-exactly = λ number′ place′. (
-        λ x. let n : number ≡ number′ = cc in let q : place ≡ place′ = cc in rw (← n, ← q) f,
-        λ g. let same = first-same f g in is ∙ ap₂ (refusedIn 0) (same .0) (same .1),
-      );
-    }
+    go : {a : Answer (List Link)} → LinksPromise trees (head .0 .links) a → part ps ≡ (a >>= (λ links. success (record { trees = trees; links = links }))) → LinksRead ps head trees
+    go (all-sound h) is = all-read h is
+    go (first-fault f) is = one-refused f is
 
 -- ---- what sound links bring
 

@@ -6,14 +6,13 @@ use mathlib.Core.Option.{Option, some, Option·map, Option·none-ne-some, Option
 use native.Mathlib.Omega.{arith}
 use lib.ListN.{length, take, drop, getD, getElem?, length-append, length-map}
 use lib.Seq.{append-snoc, length-take-le, split-at, take-at, getD-at}
-use Rattle.fields.specs.Answer.{Answer, refused, success}
+use Rattle.fields.specs.Answer.{Answer, refused, refusedIn, success, inItem, _>>=_}
 use Rattle.sheets_rules.specs.Model.{Library, Tree}
 use Rattle.covers.specs.Cover.{Cover}
 use Rattle.covers.proofs.Basics.{at-below, at-value}
 use Rattle.covers.proofs.Promises.{MapPromise, too-many, none-wanted, right, map-promise}
 use Rattle.covers.proofs.Demands.{highest-same}
 use Rattle.part_rules.specs.Part.{Link, driverOf, linkedArrival, known, knownTree}
-use Rattle.part_rules.specs.Answer.{PartAnswer, refusedIn, whole, inTree, _>>=_}
 use Rattle.part_rules.specs.Outcome.{afterLate, treeMapped, coversFrom}
 use Rattle.part_rules.specs.Demands.{LowestTooLate, IsMapped, Fails, late, overfull, no-cover, AreMapped, no-more, one-more, FirstFails}
 use Rattle.part_rules.proofs.Known.{LateOf, none-late, lowest, late-of}
@@ -110,7 +109,7 @@ module _ {most : ℕ} {l : Library} {links : List Link} where
       (r .0, r .1, λ ys. rw (one .1) (r .2 ys))
 
   -- Where all are mapped the answer is whole.
-  pub all-answered : {ts : List Tree} {covers : List Cover} → AreMapped most l links [] ts covers → (covers′ : List Cover) × (coversFrom most l links [] ts ≡ whole covers′)
+  pub all-answered : {ts : List Tree} {covers : List Cover} → AreMapped most l links [] ts covers → (covers′ : List Cover) × (coversFrom most l links [] ts ≡ success covers′)
   unfolding coversFrom
   all-answered {ts} m = let r = mapped-run m [] refl in (r .0, ap (coversFrom most l links []) (sym (append-nil ts)) ∙ r .2 [])
 
@@ -129,14 +128,14 @@ module _ {most : ℕ} {l : Library} {links : List Link} where
       let below = at-below ts k (h .tree-is) in
       let here : length (r .0) ≡ k = omega (arith, mapped-length (h .before), same-length (h .covers) (r .0) (r .1), length-take-le k ts (omega arith)) in
       let parts : ts ≡ take k ts ++ t ∷ drop (suc k) ts = split-at ts k t below ∙ ap (λ (x : Tree). take k ts ++ x ∷ drop (suc k) ts) (at-value ts k t (h .tree-is)) in
-      ap (coversFrom most l links []) parts ∙ r .2 (t ∷ drop (suc k) ts) ∙ ap (λ (a : Answer Cover). inTree (length (r .0)) a >>= (λ c. coversFrom most l links (r .0 ++ (c ∷ [])) (drop (suc k) ts))) one ∙ ap (λ (i : ℕ). refusedIn i number place) here
+      ap (coversFrom most l links []) parts ∙ r .2 (t ∷ drop (suc k) ts) ∙ ap (λ (a : Answer Cover). inItem (length (r .0)) a >>= (λ c. coversFrom most l links (r .0 ++ (c ∷ [])) (drop (suc k) ts))) one ∙ ap (λ (i : ℕ). refusedIn i number place) here
 
 -- ---- what is answered
 
 module _ (most : ℕ) (l : Library) (links : List Link) where
   -- After the covers before; the tree that fails is counted from there.
-  data From (before : List Cover) (ts : List Tree) : PartAnswer (List Cover) → Type 0 where
-    all-from : {covers : List Cover} → AreMapped most l links before ts covers → From before ts (whole covers)
+  data From (before : List Cover) (ts : List Tree) : Answer (List Cover) → Type 0 where
+    all-from : {covers : List Cover} → AreMapped most l links before ts covers → From before ts (success covers)
     fails-from : {covers : List Cover} {t : Tree} {k number place : ℕ} (at : ℕ) → k ≡ length before + at → AreMapped most l links before (take at ts) covers → getElem? ts at ≡ some t → Fails most l (known links covers) t number place →
         From before ts (refusedIn k number place)
 
@@ -145,24 +144,24 @@ module _ (most : ℕ) (l : Library) (links : List Link) where
   from before [] = all-from no-more
   from before (t ∷ ts) = go (tree-promise most l (known links before) t) (λ c. from (before ++ (c ∷ [])) ts)
     where
-      later : {c : Cover} → IsMapped most l (known links before) t c → {r : PartAnswer (List Cover)} → From (before ++ (c ∷ [])) ts r → From before (t ∷ ts) r
+      later : {c : Cover} → IsMapped most l (known links before) t c → {r : Answer (List Cover)} → From (before ++ (c ∷ [])) ts r → From before (t ∷ ts) r
       later m (all-from rest) = all-from (one-more m rest)
       later {c} m (fails-from {k = k} at e rest is h) = fails-from {k = k} (suc at) (omega (arith, length-append before (c ∷ []))) (one-more m rest) is h
 
-      go : {a : Answer Cover} → TreePromise most l (known links before) t a → ((c : Cover) → From (before ++ (c ∷ [])) ts (coversFrom most l links (before ++ (c ∷ [])) ts)) → From before (t ∷ ts) (inTree (length before) a >>= (λ c. coversFrom most l links (before ++ (c ∷ [])) ts))
+      go : {a : Answer Cover} → TreePromise most l (known links before) t a → ((c : Cover) → From (before ++ (c ∷ [])) ts (coversFrom most l links (before ++ (c ∷ [])) ts)) → From before (t ∷ ts) (inItem (length before) a >>= (λ c. coversFrom most l links (before ++ (c ∷ [])) ts))
       go (fails h) rest = fails-from {k = length before} 0 (omega arith) no-more refl h
       go (is-mapped {c = c} m) rest = later m (rest c)
 
   -- What an answer to all trees says: all are mapped, or the first that fails is named.
-  pub data CoversPromise (ts : List Tree) : PartAnswer (List Cover) → Type 0 where
-    all-mapped : {covers : List Cover} → AreMapped most l links [] ts covers → CoversPromise ts (whole covers)
+  pub data CoversPromise (ts : List Tree) : Answer (List Cover) → Type 0 where
+    all-mapped : {covers : List Cover} → AreMapped most l links [] ts covers → CoversPromise ts (success covers)
     first-fails : {k number place : ℕ} → FirstFails most l links ts k number place → CoversPromise ts (refusedIn k number place)
 
   -- The answer to all trees keeps that promise.
   pub covers-promise : (ts : List Tree) → CoversPromise ts (coversFrom most l links [] ts)
   covers-promise ts = go (from [] ts)
     where
-      go : {r : PartAnswer (List Cover)} → From [] ts r → CoversPromise ts r
+      go : {r : Answer (List Cover)} → From [] ts r → CoversPromise ts r
       go (all-from m) = all-mapped m
       go (fails-from {covers = covers} {t = t} {k = k} at e m is h) = let same : at ≡ k = omega arith in
           first-fails (record { covers = covers; before = subst (λ (j : ℕ). AreMapped most l links [] (take j ts) covers) same m; tree = t; tree-is = subst (λ (j : ℕ). getElem? ts j ≡ some t) same is; fails = h })

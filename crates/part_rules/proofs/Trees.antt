@@ -15,21 +15,10 @@ use Rattle.sheets_rules.specs.Inside.Sound.{SoundTree}
 use Rattle.sheets_rules.specs.TreeSheet.{treeTo}
 use Rattle.sheets_rules.proofs.Sound.{tree-limits-to}
 use Rattle.part_rules.specs.Part.{Part}
-use Rattle.part_rules.specs.Answer.{PartAnswer, refusedIn, whole, inTree, outside, _>>=_}
+use Rattle.fields.specs.Answer.{Answer, success, inItem, _>>=_}
+use Rattle.fields.proofs.Answer.{answer-apart, both-succeed}
 use Rattle.part_rules.specs.PartSheet.{Counts, counts}
 use Rattle.part_rules.specs.PartRead.{linkNumber, sheetRead, treesFrom, linksJudged, afterCounts, part}
-
--- ---- answers
-
--- A whole answer and a refusal differ.
-pub whole-refused : {A : Type 0} {a : A} {k number place : ℕ} → whole a ≡ refusedIn k number place → ⊥
-whole-refused e = let z : _≡_ {A = ℕ} 0 1 = cc in omega arith
-
--- Where two answers one after another make a whole one, both are whole.
-bind-whole : {A B : Type 0} (r : PartAnswer A) (f : A → PartAnswer B) {b : B} → (r >>= f) ≡ whole b → (a : A) × (r ≡ whole a) × (f a ≡ whole b)
-unfolding _>>=_
-bind-whole (refusedIn k number place) f e = absurd (whole-refused (sym e))
-bind-whole (whole a) f e = (a, refl, e)
 
 -- ---- trees
 
@@ -41,35 +30,35 @@ abbrev pub AllSound : List Tree → Type 0
 AllSound ts = (t : Tree) → List·Memᴰ t ts → SoundTree t
 
 -- A tree that was read is sound.
-read-sound : (k : ℕ) (r : Tree × Scan) {x : Tree × ℕ} → inTree k (sheetRead treeNumber r) ≡ whole x → (Live (r .1) → SoundTree (r .0)) → SoundTree (x .0)
-unfolding inTree sheetRead
+read-sound : (k : ℕ) (r : Tree × Scan) {x : Tree × ℕ} → inItem k (sheetRead treeNumber r) ≡ success x → (Live (r .1) → SoundTree (r .0)) → SoundTree (x .0)
+unfolding inItem sheetRead
 read-sound k (t, At c) {x} e h = let same : t ≡ x .0 = cc in subst SoundTree same (h tt)
-read-sound k (t, Refused f p) e h = absurd (whole-refused (sym e))
+read-sound k (t, Refused f p) e h = absurd (answer-apart (sym e))
 
 -- Reading on after sound trees, all are sound.
-pub trees-from : (before : List Tree) (n : ℕ) (s : List ℕ) {ts : List Tree} → AllSound before → treesFrom before n s ≡ whole ts → AllSound ts
+pub trees-from : (before : List Tree) (n : ℕ) (s : List ℕ) {ts : List Tree} → AllSound before → treesFrom before n s ≡ success ts → AllSound ts
 unfolding treesFrom
 trees-from before zero s {ts} h e = let same : before ≡ ts = cc in subst AllSound same h
 trees-from before (suc left) s h e =
-    let r = bind-whole (inTree (length before) (sheetRead treeNumber (treeTo (eqb left 0) s start))) (λ x. treesFrom (before ++ (x .0 ∷ [])) left (drop (x .1) s)) e in
+    let r = both-succeed (inItem (length before) (sheetRead treeNumber (treeTo (eqb left 0) s start))) (λ x. treesFrom (before ++ (x .0 ∷ [])) left (drop (x .1) s)) e in
     let one : SoundTree (r .0 .0) = read-sound (length before) (treeTo (eqb left 0) s start) (r .1) (tree-limits-to (eqb left 0) s) in
     trees-from (before ++ (r .0 .0 ∷ [])) left (drop (r .0 .1) s) (each-more {P = SoundTree} before h one) (r .2)
 
 -- ---- the whole sheet
 
 -- What a part that was read comes from: its trees, and its links judged against them.
-pub part-from : (s : List ℕ) (p : Part) → part s ≡ whole p → (head : Counts × ℕ) × (treesFrom [] (head .0 .trees) (drop (head .1) s) ≡ whole (p .trees)) × (linksJudged (p .trees) [] (head .0 .links) ≡ whole (p .links))
+pub part-from : (s : List ℕ) (p : Part) → part s ≡ success p → (head : Counts × ℕ) × (treesFrom [] (head .0 .trees) (drop (head .1) s) ≡ success (p .trees)) × (linksJudged (p .trees) [] (head .0 .links) ≡ success (p .links))
 unfolding part afterCounts
 part-from s p e =
-    let judged : Counts × ℕ → List Tree → PartAnswer Part = λ head trees. linksJudged trees [] (head .0 .links) >>= (λ links. whole (record { trees = trees; links = links })) in
-    let read : Counts × ℕ → PartAnswer Part = λ head. treesFrom [] (head .0 .trees) (drop (head .1) s) >>= judged head in
-    let head = bind-whole (outside (sheetRead (λ f. linkNumber) (counts s start))) read e in
-    let trees = bind-whole (treesFrom [] (head .0 .0 .trees) (drop (head .0 .1) s)) (judged (head .0)) (head .2) in
-    let links = bind-whole (linksJudged (trees .0) [] (head .0 .0 .links)) (λ links. whole (record { trees = trees .0; links = links })) (trees .2) in
+    let judged : Counts × ℕ → List Tree → Answer Part = λ head trees. linksJudged trees [] (head .0 .links) >>= (λ links. success (record { trees = trees; links = links })) in
+    let read : Counts × ℕ → Answer Part = λ head. treesFrom [] (head .0 .trees) (drop (head .1) s) >>= judged head in
+    let head = both-succeed ((sheetRead (λ f. linkNumber) (counts s start))) read e in
+    let trees = both-succeed (treesFrom [] (head .0 .0 .trees) (drop (head .0 .1) s)) (judged (head .0)) (head .2) in
+    let links = both-succeed (linksJudged (trees .0) [] (head .0 .0 .links)) (λ links. success (record { trees = trees .0; links = links })) (trees .2) in
     let same : trees .0 ≡ p .trees = cc in
     let joined : links .0 ≡ p .links = cc in
     (head .0, (cc), (cc))
 
 -- Every tree of a part that was read is sound.
-pub trees-sound : (s : List ℕ) (p : Part) → part s ≡ whole p → (t : Tree) → List·Memᴰ t (p .trees) → SoundTree t
+pub trees-sound : (s : List ℕ) (p : Part) → part s ≡ success p → (t : Tree) → List·Memᴰ t (p .trees) → SoundTree t
 trees-sound s p e = let r = part-from s p e in trees-from [] (r .0 .0 .trees) (drop (r .0 .1) s) (λ t m. absurd (List·Memᴰ·not-nil m)) (r .1)

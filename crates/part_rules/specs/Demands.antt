@@ -5,24 +5,21 @@ use mathlib.Core.Logic.{_↔_}
 use mathlib.Core.List.{List, [], _∷_, _++_, flatMap, List·Memᴰ}
 use mathlib.Core.Option.{Option, none, some}
 use lib.ListN.{length, take, drop, getElem?}
-use Rattle.bits.specs.declared.Cursor.{Cursor}
-use Rattle.fields.specs.declared.Scan.the-variants.{At}
 use Rattle.fields.specs.Reading.{start}
-use Rattle.fields.specs.Answer.{success}
+use Rattle.fields.specs.Answer.{Answer, refused, refusedIn, success}
 use Rattle.sheets_rules.specs.Model.{Library, Tree}
-use Rattle.sheets_rules.specs.LibrarySheet.{library}
-use Rattle.sheets_rules.specs.TreeSheet.{tree}
-use Rattle.covers.specs.Capacity.{capacity, workWords}
+use Rattle.sheets_rules.specs.Report.{librarySaid, treeSaid}
+use Rattle.covers.specs.Capacity.{capacity, workWords, allowed}
 use Rattle.covers.specs.Cover.{Cover}
 use Rattle.covers.specs.CoverSheet.{coverSheet, CoverReads}
 use Rattle.covers.specs.Answer.{overfullNumber, noCoverNumber}
+use Rattle.covers.specs.Lending.{lateNumber}
 use Rattle.covers.specs.Promise.{InTime, BestCover, HighestTooMany, NoneTooMany}
 use Rattle.judge_rules.specs.Judgement.{judgement}
 use Rattle.part_rules.specs.Part.{Link, Part, leafNodes, known, knownTree}
-use Rattle.part_rules.specs.Answer.{PartAnswer, refusedIn, whole}
 use Rattle.part_rules.specs.PartSheet.{leafField, Counts, counts}
 use Rattle.part_rules.specs.PartRead.{linkNumber, driverNumber, sheetRead, treesFrom, part}
-use Rattle.part_rules.specs.Outcome.{lateNumber, latestLinked, partBytes}
+use Rattle.part_rules.specs.Outcome.{latestLinked, partBytes}
 
 -- ---- the links of a part
 
@@ -56,13 +53,18 @@ pub record FirstFault (trees : List Tree) (links : List Link) (number place : �
   pub link-is : getElem? links position ≡ some link
   pub fault : LinkFault trees (take position links) position link number place
 
--- Where the counts, the fields of the links and the trees of a part sheet are sound, the part is exactly when its links are; else the first link at fault is named.
-pub record LinkDemands (s : List ℕ) (head : Counts × ℕ) (trees : List Tree) : Type 0 where
-  pub sound-exactly : (part s ≡ whole (record { trees = trees; links = head .0 .links })) ↔ SoundLinks trees (head .0 .links)
-  pub refused-exactly : (number place : ℕ) → (part s ≡ refusedIn 0 number place) ↔ FirstFault trees (head .0 .links) number place
+-- The numbers that are said of links.
+pub data LinkNumber : ℕ → Type 0 where
+  of-leaf : LinkNumber linkNumber
+  of-driver : LinkNumber driverNumber
 
-abbrev pub LinksWhereRead : List ℕ → Type 0
-LinksWhereRead s = (head : Counts × ℕ) (trees : List Tree) → sheetRead (λ f. linkNumber) (counts s start) ≡ success head → treesFrom [] (head .0 .trees) (drop (head .1) s) ≡ whole trees → LinkDemands s head trees
+-- Where the counts, the fields of the links and the trees of a part sheet are sound, the part is exactly when its links are; else the answer o names the first link at fault.
+pub record LinkDemands (ps : List ℕ) (head : Counts × ℕ) (trees : List Tree) (o : Answer (List ℕ)) : Type 0 where
+  pub sound-exactly : (part ps ≡ success (record { trees = trees; links = head .0 .links })) ↔ SoundLinks trees (head .0 .links)
+  pub refused-exactly : (number place : ℕ) → LinkNumber number → (o ≡ refused number place) ↔ FirstFault trees (head .0 .links) number place
+
+abbrev pub LinksWhereRead : (ls ps : List ℕ) → (output work : ℕ) → Answer (List ℕ) → Type 0
+LinksWhereRead ls ps output work o = (l : Library) (head : Counts × ℕ) (trees : List Tree) → partBytes ≤ output → workWords capacity ≤ work → librarySaid ls ≡ success l → sheetRead (λ f. linkNumber) (counts ps start) ≡ success head → treesFrom [] (head .0 .trees) (drop (head .1) ps) ≡ success trees → LinkDemands ps head trees o
 
 -- What the links bring where these are the covers, be they those of all trees or of the first ones: to a linked leaf the arrival of its driving tree's cover, to any other node nothing.
 pub record LinksBring (links : List Link) (covers : List Cover) : Type 0 where
@@ -117,22 +119,22 @@ module _ (most : ℕ) (l : Library) where
 -- The cover is read back from its sheet; some sheet says the tree, and for each that does the judge of covers accepts the cover's sheet, with the cover's figures.
 pub record IsAccepted (ls : List ℕ) (t : Tree) (c : Cover) : Type 0 where
   pub reads : CoverReads c (coverSheet c)
-  pub some-sheet : (ts : List ℕ) × ((q : Cursor) × (tree ts start ≡ (t, At q)))
-  pub accepts : (ts : List ℕ) (q : Cursor) → tree ts start ≡ (t, At q) → judgement ls ts (coverSheet c) ≡ success (c .point)
+  pub some-sheet : (ts : List ℕ) × (treeSaid ts ≡ success t)
+  pub accepts : (ts : List ℕ) → treeSaid ts ≡ success t → judgement ls ts (coverSheet c) ≡ success (c .point)
 
 -- What is demanded of the answer o to the library l, on the sheet ls, and the part p.
-pub record PartDemands (most : ℕ) (ls : List ℕ) (l : Library) (p : Part) (o : PartAnswer (List ℕ)) : Type 0 where
+pub record PartDemands (most : ℕ) (ls : List ℕ) (l : Library) (p : Part) (o : Answer (List ℕ)) : Type 0 where
   -- Each link names a leaf that no other names, and a lower tree drives it; and it brings what it should, whatever the covers are.
   pub links-sound : SoundLinks (p .trees) (p .links)
   pub links-bring : (covers : List Cover) → LinksBring (p .links) covers
   -- Sheets are handed over exactly when every tree is mapped,
-  pub sheets-exactly : ((bytes : List ℕ) × (o ≡ whole bytes)) ↔ ((covers : List Cover) × AreMapped most l (p .links) [] (p .trees) covers)
+  pub sheets-exactly : ((bytes : List ℕ) × (o ≡ success bytes)) ↔ ((covers : List Cover) × AreMapped most l (p .links) [] (p .trees) covers)
   -- and a refusal exactly when some tree is not: the first such tree is named, with what is wrong there.
   pub refused-exactly : (k number place : ℕ) → (o ≡ refusedIn k number place) ↔ FirstFails most l (p .links) (p .trees) k number place
   -- The bytes are the sheets of the covers in tree order, and the judge accepts each for its tree with the arrivals put in.
-  pub sheets-are : (bytes : List ℕ) → o ≡ whole bytes → (covers : List Cover) × AreMapped most l (p .links) [] (p .trees) covers × (bytes ≡ flatMap coverSheet covers)
+  pub sheets-are : (bytes : List ℕ) → o ≡ success bytes → (covers : List Cover) × AreMapped most l (p .links) [] (p .trees) covers × (bytes ≡ flatMap coverSheet covers)
       × ((k : ℕ) (t : Tree) (c : Cover) → getElem? (p .trees) k ≡ some t → getElem? covers k ≡ some c → IsAccepted ls (knownTree (known (p .links) (take k covers)) t) c)
 
 -- The demands of the library and the part on the two sheets, if enough is lent and both are sound.
-abbrev pub PartWhereSound : List ℕ → List ℕ → ℕ → ℕ → PartAnswer (List ℕ) → Type 0
-PartWhereSound ls ps output work o = (c : Cursor) (p : Part) → partBytes ≤ output → workWords capacity ≤ work → library ls start .1 ≡ At c → part ps ≡ whole p → PartDemands capacity ls (library ls start .0) p o
+abbrev pub PartWhereSound : (ls ps : List ℕ) → (output work : ℕ) → Answer (List ℕ) → Type 0
+PartWhereSound ls ps output work o = (l : Library) (p : Part) → partBytes ≤ output → workWords capacity ≤ work → librarySaid ls ≡ success l → part ps ≡ success p → PartDemands (allowed work) ls l p o

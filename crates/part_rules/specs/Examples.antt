@@ -1,2 +1,3 @@
--- Linked trees and part sheets, as examples.
+-- Linked trees, part sheets and whole outcomes, as examples.
 pub mod Linked
+pub mod Outcomes

@@ -10,13 +10,12 @@ use Rattle.fields.specs.declared.Fault.{Fault}
 use Rattle.fields.specs.declared.Scan.{Scan}
 use Rattle.fields.specs.declared.Scan.the-variants.{At, Refused}
 use Rattle.fields.specs.Reading.{start}
-use Rattle.fields.specs.Answer.{Answer, refused, success}
+use Rattle.fields.specs.Answer.{Answer, refused, success, inItem, _>>=_}
 use Rattle.sheets_rules.specs.Model.{Tree}
 use Rattle.sheets_rules.specs.TreeSheet.{treeTo}
 use Rattle.sheets_rules.specs.Report.{treeNumber}
 use Rattle.covers.specs.Lists.{any}
 use Rattle.part_rules.specs.Part.{Link, Part, leafNodes, driverOf}
-use Rattle.part_rules.specs.Answer.{PartAnswer, whole, inTree, outside, _>>=_}
 use Rattle.part_rules.specs.PartSheet.{leafField, counts}
 
 -- "41 for a torn, out-of-range or loose field of the counts and links", and "for a leaf field that names no leaf or a leaf already linked"; "42 for a driver that is not lower".
@@ -32,11 +31,11 @@ sheetRead number (a, At c) = success (a, bytesTo (placeOf c))
 sheetRead number (a, Refused f p) = refused (number f) p
 
 -- "The trees follow in order, each sheet ended by its own tail": after those before, `count` of them, each from its own first byte on.
-unfoldable pub treesFrom : (before : List Tree) → ℕ → List ℕ → PartAnswer (List Tree)
-unfolding inTree sheetRead _>>=_
-treesFrom before zero s = whole before
+unfoldable pub treesFrom : (before : List Tree) → ℕ → List ℕ → Answer (List Tree)
+unfolding inItem sheetRead _>>=_
+treesFrom before zero s = success before
 treesFrom before (suc left) s = do
-  x ← inTree (length before) (sheetRead treeNumber (treeTo (eqb left 0) s start))
+  x ← inItem (length before) (sheetRead treeNumber (treeTo (eqb left 0) s start))
   treesFrom (before ++ (x .0 ∷ [])) left (drop (x .1) s)
 
 -- A node is a leaf of its tree, and none of the links before takes it.
@@ -58,24 +57,24 @@ linkJudged trees before x =
     (refused linkNumber (leafField (length before)))
 
 -- "Link by link".
-unfoldable pub linksJudged : List Tree → (before : List Link) → List Link → PartAnswer (List Link)
-unfolding inTree linkJudged _>>=_
-linksJudged trees before [] = whole before
+unfoldable pub linksJudged : List Tree → (before : List Link) → List Link → Answer (List Link)
+unfolding linkJudged _>>=_
+linksJudged trees before [] = success before
 linksJudged trees before (x ∷ xs) = do
-  links ← outside (linkJudged trees before x)
+  links ← (linkJudged trees before x)
   linksJudged trees links xs
 
 -- What follows the counts and the links: `count` trees, and then these links against them.
-unfoldable pub afterCounts : ℕ → List Link → List ℕ → PartAnswer Part
+unfoldable pub afterCounts : ℕ → List Link → List ℕ → Answer Part
 unfolding treesFrom linksJudged _>>=_
 afterCounts count links s = do
   trees ← treesFrom [] count s
   judged ← linksJudged trees [] links
-  whole (record { trees = trees; links = judged })
+  success (record { trees = trees; links = judged })
 
 -- The whole sheet.
-unfoldable pub part : List ℕ → PartAnswer Part
-unfolding inTree sheetRead afterCounts _>>=_
+unfoldable pub part : List ℕ → Answer Part
+unfolding sheetRead afterCounts _>>=_
 part s = do
-  head ← outside (sheetRead (λ f. linkNumber) (counts s start))
+  head ← (sheetRead (λ f. linkNumber) (counts s start))
   afterCounts (head .0 .trees) (head .0 .links) (drop (head .1) s)

@@ -1,4 +1,4 @@
-// The cover sheet and the list sheet, written into a lent output and read back, and the words of a work area made zero.
+// The cover sheet and the list sheet, written into a lent output and read back.
 use fields::Scan;
 use sheets_rules::Limits;
 ghost use mathlib.Core.Path.{_≡_};
@@ -42,9 +42,9 @@ pub struct CoverRecord {
     pub area: u32,
     pub arrival: u32,
     pub count: usize,
-    pub nodes: [u8; 64],
-    pub patterns: [u8; 64],
-    pub crossings: [u8; 64],
+    pub nodes: [u8; Limits::TREE_NODES],
+    pub patterns: [u8; Limits::TREE_NODES],
+    pub crossings: [u8; Limits::TREE_NODES],
 }
 
 // A cover that was read, and the scan after it.
@@ -62,9 +62,9 @@ pub struct MatchRead {
 
 pub struct MatchesRead {
     pub scan: Scan,
-    pub nodes: [u8; 64],
-    pub patterns: [u8; 64],
-    pub crossings: [u8; 64],
+    pub nodes: [u8; Limits::TREE_NODES],
+    pub patterns: [u8; Limits::TREE_NODES],
+    pub crossings: [u8; Limits::TREE_NODES],
 }
 
 // Makes the first `count` bytes zero.
@@ -75,18 +75,6 @@ fn clear(output: &mut [u8], count: usize)
     let mut k = 0;
     while k < count {
         output[k] = 0;
-        k += 1;
-    }
-}
-
-// Makes the first `count` words zero.
-pub fn clear_work(work: &mut [u64], count: usize)
-    requires { ⌜ count ≤ length (now work) ⌝ }
-    ensures { λ _. ⌜ now (work .exit) ≡ replicate count 0 ++ drop count (now (work .entry)) ⌝ }
-{
-    let mut k = 0;
-    while k < count {
-        work[k] = 0;
         k += 1;
     }
 }
@@ -187,9 +175,9 @@ fn read_matches(scan: Scan, s: &[u8], count: u32) -> MatchesRead
     requires { ⌜ (count < 2 ^ matchCountWidth) × (place scan ≤ coverBits 0) ⌝ }
     ensures { λ r. ⌜ MatchesAre (now (s .entry)) count scan r ⌝ }
 {
-    let mut nodes = [0u8; 64];
-    let mut patterns = [0u8; 64];
-    let mut crossings = [0u8; 64];
+    let mut nodes = [0u8; Limits::TREE_NODES];
+    let mut patterns = [0u8; Limits::TREE_NODES];
+    let mut crossings = [0u8; Limits::TREE_NODES];
     let mut at = scan;
     let mut k: u32 = 0;
     while k < count {

@@ -391,7 +391,7 @@ pub fn set_sizes(symbols: &[u32], n: usize, sizes: &mut [u8])
         if symbol < Packed::LEAF {
             let first = sizes[k + 1];
             size += first;
-            if symbol == 1 {
+            if symbol == Packed::NAND {
                 size += sizes[k + 1 + first as usize];
             }
         }

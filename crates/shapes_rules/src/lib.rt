@@ -14,10 +14,14 @@ impl Rules {
     pub const NODES: usize = 64;
 }
 
-// What stands for a leaf: a symbol from LEAF on, which has the leaf's number and DRIVE times its drive.
+// What stands for a node: an inverter, a NAND, or a leaf's symbol from LEAF on, which has the leaf's number and DRIVE times its drive.
 pub struct Packed {}
 
 impl Packed {
+    pub const INVERTER: u32 = 0;
+
+    pub const NAND: u32 = 1;
+
     pub const LEAF: u32 = 2;
 
     pub const DRIVE: u32 = 1048576;

@@ -16,9 +16,12 @@ use Rattle.shapes_rules.specs.Drawing.{hasAll, codeVerdict, leafVerdict, leafNo
 use Rattle.fields.proofs.Laws.{live-sound, free-small, range-least, range-passes, length-times, tailed-live}
 use Rattle.shapes_rules.proofs.Drawing.{code-room, plain-symbol, leaf-passes, length-symbols, leaves-nands, node-live}
 use Rattle.shapes_rules.proofs.Pins.{fresh, fresh-few, fresh-append, fresh-leaf}
-use Rattle.sheets_rules.specs.Model.{Leaf, Shape, size, leaves, Pin, Cell, patternsFrom, patterns}
+use Rattle.sheets_rules.specs.Model.{Leaf, Shape, size, leaves, Pin, Cell, Library, Tree, patternsFrom, patterns}
 use Rattle.sheets_rules.specs.LibrarySheet.{Head, last, binLoad, head, pin, patternRules, pattern, countVerdict, drawings, cell, bins, cells, library, cellAfter}
 use Rattle.sheets_rules.specs.TreeSheet.{treeRules, tailAt, treeTo, tree}
+use Rattle.fields.specs.Answer.{success}
+use Rattle.fields.proofs.Answer.{said-read, read-said}
+use Rattle.sheets_rules.specs.Report.{libraryNumber, treeNumber, librarySaid, treeSaid}
 use Rattle.sheets_rules.specs.Inside.Sound.{IsGate, SoundDrawing, SoundPin, SoundCell, SoundLibrary, SoundTree}
 use Rattle.sheets_rules.proofs.LibrarySheet.{complete-live, count-passes, count-fits, length-drawn, patterns-more}
 
@@ -278,3 +281,21 @@ tree-limits-to last s l =
 
 pub tree-limits : (s : List ℕ) → Live (tree s start .1) → SoundTree (tree s start .0)
 tree-limits = tree-limits-to true
+
+-- What a sheet says is sound.
+pub library-sound : (s : List ℕ) {l : Library} → librarySaid s ≡ success l → SoundLibrary l
+unfolding librarySaid
+library-sound s e = let r = said-read libraryNumber (library s start) e in subst SoundLibrary (r .0) (library-limits s (r .1))
+
+pub tree-sound : (s : List ℕ) {t : Tree} → treeSaid s ≡ success t → SoundTree t
+unfolding treeSaid
+tree-sound s e = let r = said-read treeNumber (tree s start) e in subst SoundTree (r .0) (tree-limits s (r .1))
+
+-- And what was read to its end is said.
+pub library-said : (s : List ℕ) → Live (library s start .1) → librarySaid s ≡ success (library s start .0)
+unfolding librarySaid
+library-said s = read-said libraryNumber (library s start)
+
+pub tree-said : (s : List ℕ) → Live (tree s start .1) → treeSaid s ≡ success (tree s start .0)
+unfolding treeSaid
+tree-said s = read-said treeNumber (tree s start)

@@ -1,24 +1,13 @@
 -- From the record that the reader of libraries hands over to the rows of its patterns.
-use mathlib.Core.Path.{_≡_, sym, ap, subst, _∙_}
-use mathlib.Core.List.{List}
+use mathlib.Core.Path.{_≡_, ap, _∙_}
 use Prim.Native.Nat.{ℕ, _*_, _≤_}
 use native.Mathlib.Omega.{arith}
 use lib.ListN.{length, take, replicate, length-replicate}
-use Rattle.bits.specs.declared.Cursor.{Cursor}
-use Rattle.fields.specs.declared.Scan.the-variants.{At}
-use Rattle.fields.specs.Reading.{start, Live}
 use Rattle.sheets_rules.specs.declared.LibraryRecord.{LibraryRecord}
-use Rattle.sheets_rules.specs.declared.LibraryRead.{LibraryRead}
 use Rattle.sheets_rules.specs.Model.{Library, patterns}
 use Rattle.sheets_rules.specs.Inside.Layout.{rowWords, tableWords, patternRows, patternTable, libraryLaid}
-use Rattle.sheets_rules.specs.LibrarySheet.{library as libraryOf}
-use Rattle.sheets_rules.specs.Inside.Readers.{LibraryIs}
 use Rattle.sheets_rules.specs.Inside.Sound.{LibraryStored}
 use Rattle.sheets_rules.proofs.Tables.{length-table}
-use Rattle.sheets_rules.proofs.Sound.{library-limits}
-
-pub library-laid : (ls : List ℕ) (read : LibraryRead) → LibraryIs ls read → (c : Cursor) → read .scan ≡ At c → LibraryStored (libraryOf ls start .0) (read .library)
-library-laid ls read h c e = record { sound = library-limits ls (subst Live (sym e ∙ h .scan-is) tt); library-is = h .laid (subst Live (sym e) tt) }
 
 module _ {l : Library} {library : LibraryRecord} (g : LibraryStored l library) where
   -- There are no more rows than the table has room for.

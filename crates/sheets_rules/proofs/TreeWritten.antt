@@ -6,6 +6,8 @@ use native.Mathlib.Omega.{arith}
 use lib.ListN.{length, length-append}
 use borrow.Author.Tests.{le-leb, lt-leb}
 use Rattle.bits.specs.Bits.{cursorAt}
+use Rattle.fields.specs.Answer.{success, said}
+use Rattle.sheets_rules.specs.Report.{treeNumber, treeSaid}
 use Rattle.fields.specs.declared.Scan.the-variants.{At}
 use Rattle.fields.specs.declared.Verdict.the-variants.{Sound}
 use Rattle.fields.specs.Reading.{Reader, done, _>>=_, within, free, field, ended, start}
@@ -16,7 +18,7 @@ use Rattle.shapes_rules.specs.Drawing.{codeVerdict, leafVerdict, leafNode, driv
 use Rattle.shapes_rules.proofs.Drawing.{length-symbols}
 use Rattle.sheets_rules.specs.Model.{plainLeaf, Shape, leaf, inv, nand, size, Tree}
 use Rattle.sheets_rules.specs.TreeSheet.{treeRules, treeTo, tree}
-use Rattle.sheets_rules.specs.TreeWritten.{CodedTree, code0, code1, code2, code3, codedFields, shapeOf, treeFields, treeSheet, Ranged, SoundCoded, plainly, Undriven}
+use Rattle.sheets_rules.specs.TreeWritten.{CodedTree, code0, code1, code2, code3, codedFields, shapeOf, treeFields, treeSheet, Ranged, SoundCoded, plainly, Undriven, SameTree, SameWithPlain}
 
 -- A code passes while there is room for its node, and an arrival up to the latest.
 code-passes : (n code : ℕ) → n < 64 → codeVerdict treeRules n code ≡ Sound
@@ -104,3 +106,15 @@ plainly-ranged (code3 x d) h = h .0
 
 pub plainly-sound : (load required : ℕ) (x : CodedTree) → SoundCoded load required x → Undriven x → SoundCoded load required (plainly x)
 plainly-sound load required x h u = record { light = h .light; timed = h .timed; nodes = rw (plainly-same x u) (h .nodes); ranged = plainly-ranged x (h .ranged) }
+
+pub same-with-plain : SameWithPlain
+unfolding treeSaid
+same-with-plain load required x h u = record {
+  tree = record { load = load; required = required; shape = shapeOf x };
+  first = ap (said treeNumber) (tree-reads load required x h);
+  second = ap (said treeNumber) (tree-reads load required (plainly x) (plainly-sound load required x h u)) ∙ ap (λ (s : Shape). success (record { load = load; required = required; shape = s })) (plainly-same x u);
+}
+
+-- So they say the same.
+pub same-said : {ts ts′ : List ℕ} → SameTree ts ts′ → treeSaid ts ≡ treeSaid ts′
+same-said s = s .first ∙ sym (s .second)

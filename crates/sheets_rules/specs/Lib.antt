@@ -5,4 +5,5 @@ pub mod TreeSheet
 pub mod TreeWritten
 pub mod Reach
 pub mod Report
+pub mod Examples
 pub mod Inside

@@ -2,12 +2,10 @@
 use Prim.Native.Nat.{ℕ, _+_, _*_, _/_, _%_, _≤_}
 use mathlib.Core.List.{List}
 use lib.ListN.{length}
-use Rattle.fields.specs.Answer.{Answer, refused, success}
+use Rattle.fields.specs.Answer.{Answer, refusedIn, refusal, success, onSuccess, said}
 use Rattle.fields.specs.Reading.{start}
 use Rattle.fields.specs.declared.Fault.{Fault}
 use Rattle.fields.specs.declared.Fault.the-variants.{Truncated, Tail, Range, Drawing, Size}
-use Rattle.fields.specs.declared.Scan.{Scan}
-use Rattle.fields.specs.declared.Scan.the-variants.{At, Refused}
 use Rattle.sheets_rules.specs.declared.LibraryJudged as LibraryJudged
 use Rattle.sheets_rules.specs.declared.TreeJudged as TreeJudged
 use Rattle.sheets_rules.specs.Model.{Library, Tree, patterns, size}
@@ -42,39 +40,45 @@ ofLibraryWord w = record { cells = w / 256; patterns = w % 256 }
 abbrev pub countsOf : Library → LibraryCounts
 countsOf l = record { cells = length (l .cells); patterns = length (patterns l) }
 
--- The library's refusal, or what is said of a sound one.
-abbrev pub afterLibrary : {A : Type 0} → (Library → Answer A) → Library × Scan → Answer A
-afterLibrary f (l, At c) = f l
-afterLibrary f (l, Refused e p) = refused (libraryNumber e) p
+-- The library and the tree on their sheets, or the sheet's refusal: with these a whole library or tree sheet is opened.
+unfoldable pub librarySaid : List ℕ → Answer Library
+unfolding said
+librarySaid s = said libraryNumber (library s start)
 
-unfoldable pub libraryRead : Library × Scan → Answer LibraryCounts
-libraryRead = afterLibrary (λ l. success (countsOf l))
-
-unfoldable pub treeRead : Tree × Scan → Answer ℕ
-treeRead (t, At c) = success (size (t .shape))
-treeRead (t, Refused f p) = refused (treeNumber f) p
+unfoldable pub treeSaid : List ℕ → Answer Tree
+unfolding said
+treeSaid s = said treeNumber (tree s start)
 
 -- The judges' answers, from the bytes alone.
 unfoldable pub libraryReport : List ℕ → Answer LibraryCounts
-libraryReport s = libraryRead (library s start)
+unfolding librarySaid onSuccess
+libraryReport s = onSuccess countsOf (librarySaid s)
 
 unfoldable pub treeReport : List ℕ → Answer ℕ
-treeReport s = treeRead (tree s start)
+unfolding treeSaid onSuccess
+treeReport s = onSuccess (λ t. size (t .shape)) (treeSaid s)
 
 -- The limits that the answers keep: no place is beyond the farthest that a sheet can reach, and the counts are document 01's.
 unfoldable pub LibraryLimits : Answer LibraryCounts → Type 0
-LibraryLimits (refused number place) = place ≤ libraryBits
+LibraryLimits (refusedIn item number place) = place ≤ libraryBits
 LibraryLimits (success n) = (n .cells ≤ 64) × (n .patterns ≤ 128)
 
+-- The numbers of a tree's refusals. Patterns alone are misdrawn, so 15 is never said.
+pub data TreeRefusal : ℕ → Type 0 where
+  torn : TreeRefusal 12
+  loose-tail : TreeRefusal 13
+  off-the-scale : TreeRefusal 14
+  overgrown : TreeRefusal 16
+
 unfoldable pub TreeLimits : Answer ℕ → Type 0
-TreeLimits (refused number place) = place ≤ treeBits
+TreeLimits (refusedIn item number place) = TreeRefusal number × (place ≤ treeBits)
 TreeLimits (success nodes) = nodes ≤ 64
 
 -- What each case of the judges' enums says.
 unfoldable pub ofLibraryJudged : LibraryJudged.LibraryJudged → Answer LibraryCounts
 ofLibraryJudged (LibraryJudged.the-variants.Sound cells patterns) = success (record { cells = cells; patterns = patterns })
-ofLibraryJudged (LibraryJudged.the-variants.Refused number place) = refused number place
+ofLibraryJudged (LibraryJudged.the-variants.Refused r) = refusal r
 
 unfoldable pub ofTreeJudged : TreeJudged.TreeJudged → Answer ℕ
 ofTreeJudged (TreeJudged.the-variants.Sound nodes) = success nodes
-ofTreeJudged (TreeJudged.the-variants.Refused number place) = refused number place
+ofTreeJudged (TreeJudged.the-variants.Refused r) = refusal r

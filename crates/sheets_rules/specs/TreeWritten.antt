@@ -2,8 +2,10 @@
 use Prim.Native.Nat.{ℕ, _≤_}
 use mathlib.Core.Path.{_≡_}
 use mathlib.Core.List.{List, [], _∷_, _++_}
+use Rattle.fields.specs.Answer.{success}
 use Rattle.fields.specs.Written.{Field, packed}
-use Rattle.sheets_rules.specs.Model.{plainLeaf, Shape, leaf, inv, nand, size}
+use Rattle.sheets_rules.specs.Model.{plainLeaf, Shape, leaf, inv, nand, size, Tree}
+use Rattle.sheets_rules.specs.Report.{treeSaid}
 
 -- A tree node by node, each with its code: a leaf and its arrival, an inverter, a NAND, a driven leaf with its arrival and its drive.
 pub data CodedTree : Type 0 where
@@ -65,3 +67,13 @@ Undriven (code0 x) = Unit {0}
 Undriven (code1 a) = Undriven a
 Undriven (code2 a b) = Undriven a × Undriven b
 Undriven (code3 x d) = d ≡ 0
+
+-- Two sheets that say the same tree.
+pub record SameTree (ts ts′ : List ℕ) : Type 0 where
+  pub tree : Tree
+  pub first : treeSaid ts ≡ success tree
+  pub second : treeSaid ts′ ≡ success tree
+
+-- A tree whose driven leaves all have drive 0, and the same tree with plain leaves.
+abbrev pub SameWithPlain : Type 0
+SameWithPlain = (load required : ℕ) (x : CodedTree) → SoundCoded load required x → Undriven x → SameTree (treeSheet load required x) (treeSheet load required (plainly x))

@@ -1,4 +1,6 @@
 // The library sheet and the tree sheet: the limits, and the types that their definitions and the promises of their readers speak of.
+use fields::Finding;
+use fields::Refusal;
 use fields::Scan;
 
 // The papers' limits: of the sheets, of what the operations are lent, and of the program's input; and the base of a point's word, which they fix.
@@ -47,10 +49,22 @@ impl Limits {
     // A cover sheet for each tree of a part.
     pub const OUTPUT_PART: usize = Limits::PART_TREES * Limits::OUTPUT_MAP;
 
-    // 64 nodes under 4 loads, a word more than the points each.
-    pub const WORK: usize = 256 * (Limits::POINTS + 1);
+    // A curve for each of 64 nodes under each of 4 loads.
+    pub const CURVES: usize = Limits::TREE_NODES * Slots::BINS;
+
+    // The least work area: a curve takes a word more than its points.
+    pub const WORK: usize = Limits::CURVES * (Limits::POINTS + 1);
 
     pub const INPUT: usize = 4096;
+}
+
+// How long an array is that has something for each pin, or for each bin.
+pub struct Slots {}
+
+impl Slots {
+    pub const PINS: usize = Limits::PINS as usize;
+
+    pub const BINS: usize = Limits::BINS as usize;
 }
 
 // A pattern's row: the number of its cell and all that is known of the cell, its size and its symbols. Where its words stand, how many there
@@ -69,7 +83,7 @@ impl PatternRow {
     pub const PINS: usize = 4;
 
     // The figures of six pins: for each its load bin, that bin's load, its intrinsic delay and its drive.
-    pub const FIGURES: usize = 5;
+    pub const FIGURES: usize = PatternRow::PINS + 1;
 
     pub const PIN: usize = 4;
 
@@ -82,19 +96,19 @@ impl PatternRow {
 
     pub const DRIVE: usize = 3;
 
-    pub const SIZE: usize = 29;
+    pub const SIZE: usize = PatternRow::FIGURES + PatternRow::PIN * Slots::PINS;
 
-    pub const SYMBOLS: usize = 30;
+    pub const SYMBOLS: usize = PatternRow::SIZE + 1;
 
-    pub const WORDS: usize = 46;
+    pub const WORDS: usize = PatternRow::SYMBOLS + Limits::PATTERN_NODES;
 
-    pub const TABLE: usize = 5888;
+    pub const TABLE: usize = PatternRow::WORDS * Limits::PATTERNS;
 }
 
 // The bin loads: the first `count` are there.
 pub struct Bins {
     pub count: usize,
-    pub loads: [u8; 4],
+    pub loads: [u8; Slots::BINS],
 }
 
 // A cell as decoded. Its pins are the first `pins` places of the four arrays: load bins, those bins' loads, intrinsic delays and drives.
@@ -103,10 +117,10 @@ pub struct CellRecord {
     pub area: u16,
     pub highest: u8,
     pub pins: u8,
-    pub bins: [u8; 6],
-    pub loads: [u8; 6],
-    pub intrinsics: [u16; 6],
-    pub drives: [u8; 6],
+    pub bins: [u8; Slots::PINS],
+    pub loads: [u8; Slots::PINS],
+    pub intrinsics: [u16; Slots::PINS],
+    pub drives: [u8; Slots::PINS],
 }
 
 // A library as decoded: the bin loads, how many cells there are, and a row for each of the `total` patterns.
@@ -117,15 +131,15 @@ pub struct LibraryRecord {
     pub rows: [u32; PatternRow::TABLE],
 }
 
-// What a judge of libraries answers: the cell count and the pattern count, or document 01's number and the place.
+// What a judge of libraries answers: the cell count and the pattern count, or the refusal.
 pub enum LibraryJudged {
     Sound(usize, usize),
-    Refused(u32, usize),
+    Refused(Refusal),
 }
 
-// The whole library, and the scan after it.
+// The whole library, if the sheet is sound, or its refusal.
 pub struct LibraryRead {
-    pub scan: Scan,
+    pub finding: Finding,
     pub library: LibraryRecord,
 }
 
@@ -138,14 +152,20 @@ pub struct TreeRecord {
     pub sizes: [u8; Limits::TREE_NODES],
 }
 
-// What a judge of trees answers: the node count, or document 01's number and the place.
+// What a judge of trees answers: the node count, or the refusal.
 pub enum TreeJudged {
     Sound(usize),
-    Refused(u32, usize),
+    Refused(Refusal),
 }
 
 // The whole tree, and the scan after it.
-pub struct TreeRead {
+pub struct TreeScanned {
     pub scan: Scan,
+    pub tree: TreeRecord,
+}
+
+// The whole tree, if the sheet is sound, or its refusal.
+pub struct TreeRead {
+    pub finding: Finding,
     pub tree: TreeRecord,
 }

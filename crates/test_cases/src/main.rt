@@ -9,14 +9,12 @@
 //   8 a part: as 2, with the part in place of the tree.
 // A case is read when the one before it is answered, so that no array has to hold them all. One that is cut short, too long or of another kind is answered "spoiled",
 // and is the last.
+use fields::Refusal;
 use frame::Frame;
 use judge_rules::CoverJudged;
 use libc::STDIN_FILENO;
 use libc::STDOUT_FILENO;
-use map_core::Numbers;
 use map_rules::Reply;
-use part::Late;
-use part_rules::PartReply;
 use sheets_rules::LibraryJudged;
 use sheets_rules::Limits;
 use sheets_rules::TreeJudged;
@@ -117,15 +115,15 @@ fn write_pair(word: &[u8], first: u64, second: u64) {
 }
 
 // "refused", number, place.
-fn write_refusal(number: u32, place: usize) {
-    write_pair(b"refused", number as u64, place as u64);
+fn write_refusal(refusal: Refusal) {
+    write_pair(b"refused", refusal.number as u64, refusal.place as u64);
 }
 
 // A word, cell count, pattern count; or the refusal.
 fn write_counts(word: &[u8], judged: LibraryJudged) {
     match judged {
         LibraryJudged::Sound(cells, patterns) => write_pair(word, cells as u64, patterns as u64),
-        LibraryJudged::Refused(number, place) => write_refusal(number, place),
+        LibraryJudged::Refused(refusal) => write_refusal(refusal),
     }
 }
 
@@ -271,26 +269,42 @@ fn write_sheet(word: &[u8], output: &[u8], bytes: usize) {
     end_line();
 }
 
-// Whether a refusal of map or list leaves the first words of the work area zero.
-fn clears(number: u32) -> bool {
-    number == Numbers::OVERFULL || number == Numbers::NO_COVER
+// The refusals after which the work area is zero: an overfull node, no cover, a linked arrival that is too late.
+struct Zeroed {}
+
+impl Zeroed {
+    const OVERFULL: u32 = 7;
+
+    const NO_COVER: u32 = 8;
+
+    const LATE: u32 = 43;
 }
 
-// The same of the part operation.
-fn part_clears(number: u32) -> bool {
-    clears(number) || number == Late::NUMBER
+fn clears(number: u32) -> bool {
+    number == Zeroed::OVERFULL || number == Zeroed::NO_COVER || number == Zeroed::LATE
+}
+
+// "refused", number, place; of a part the tree after them.
+fn write_lent_refusal(refusal: Refusal, part: bool) {
+    io::write_all(STDOUT_FILENO, b"refused");
+    write_number(refusal.number as u64);
+    write_number(refusal.place as u64);
+    if part {
+        write_number(refusal.item as u64);
+    }
+    end_line();
 }
 
 // The reply as a line; before it a line "changed" if something lent is not as it should be.
-fn write_reply(reply: Reply, word: &[u8], output: &[u8], work: &[u64]) {
+fn write_reply(reply: Reply, word: &[u8], part: bool, output: &[u8], work: &[u64]) {
     match reply {
-        Reply::Refused(number, place) => {
-            if !lent_kept(output, work, 0, clears(number)) {
+        Reply::Refused(refusal) => {
+            if !lent_kept(output, work, 0, clears(refusal.number)) {
                 write_changed();
             }
-            write_refusal(number, place);
+            write_lent_refusal(refusal, part);
         }
-        Reply::Sheet(bytes) => {
+        Reply::Sheets(bytes) => {
             if !lent_kept(output, work, bytes, true) {
                 write_changed();
             }
@@ -299,44 +313,17 @@ fn write_reply(reply: Reply, word: &[u8], output: &[u8], work: &[u64]) {
     }
 }
 
-// "refused", number, place, tree.
-fn write_part_refusal(tree: u32, number: u32, place: usize) {
-    io::write_all(STDOUT_FILENO, b"refused");
-    write_number(number as u64);
-    write_number(place as u64);
-    write_number(tree as u64);
-    end_line();
-}
-
-// The reply of the part operation, in the same way; a refusal ends with its tree.
-fn write_part_reply(reply: PartReply, output: &[u8], work: &[u64]) {
-    match reply {
-        PartReply::Refused(tree, number, place) => {
-            if !lent_kept(output, work, 0, part_clears(number)) {
-                write_changed();
-            }
-            write_part_refusal(tree, number, place);
-        }
-        PartReply::Sheets(bytes) => {
-            if !lent_kept(output, work, bytes, true) {
-                write_changed();
-            }
-            write_sheet(b"part", output, bytes);
-        }
-    }
-}
-
 // Map, list or the part operation with what it is lent.
 fn run_lent(kind: u8, library: &[u8], tree: &[u8], output: &mut [u8], work: &mut [u64]) {
     if kind == Kind::MAP {
         let reply = map::map(library, tree, output, work);
-        write_reply(reply, b"cover", output, work);
+        write_reply(reply, b"cover", false, output, work);
     } else if kind == Kind::LIST {
         let reply = map::list(library, tree, output, work);
-        write_reply(reply, b"list", output, work);
+        write_reply(reply, b"list", false, output, work);
     } else {
         let reply = part::map_part(library, tree, output, work);
-        write_part_reply(reply, output, work);
+        write_reply(reply, b"part", true, output, work);
     }
 }
 
@@ -443,7 +430,7 @@ fn run_tree(sheet: &[u8]) {
             write_number(nodes as u64);
             end_line();
         }
-        TreeJudged::Refused(number, place) => write_refusal(number, place),
+        TreeJudged::Refused(refusal) => write_refusal(refusal),
     }
 }
 
@@ -456,7 +443,7 @@ fn run_cover(library: &[u8], tree: &[u8], cover: &[u8]) {
             area as u64,
             arrival as u64,
         ),
-        CoverJudged::Refused(number, place) => write_refusal(number, place),
+        CoverJudged::Refused(refusal) => write_refusal(refusal),
     }
 }
 

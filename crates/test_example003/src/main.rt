@@ -60,14 +60,14 @@ fn write_list(sheet: &[u8]) {
 // The reply, with the sheet that it points at.
 fn write_reply(reply: Reply, output: &[u8]) {
     match reply {
-        Reply::Refused(number, place) => {
+        Reply::Refused(refusal) => {
             write_word(b"refused ");
-            write_number(number as u64);
+            write_number(refusal.number as u64);
             write_word(b" ");
-            write_number(place as u64);
+            write_number(refusal.place as u64);
             write_word(b"\n");
         }
-        Reply::Sheet(_) => write_list(output),
+        Reply::Sheets(_) => write_list(output),
     }
 }
 

@@ -1,32 +1,37 @@
 -- The tree sheet as it is read, and what the judge of trees says.
-use mathlib.Core.Path.{_≡_, sym, ap, subst, subst₂, _∙_}
+use mathlib.Core.Path.{_≡_, refl, sym, ap, subst, subst₂, _∙_}
 use mathlib.Core.List.{List}
 use Prim.Native.Nat.{ℕ, _+_}
 use native.Mathlib.Omega.{arith}
 use lib.ListN.{replicate}
 use mathlib.Core.Bool.{Bool, true}
-use Rattle.bits.specs.declared.Cursor.{Cursor}
 use Rattle.shapes.specs.declared.ShapeRead.{ShapeRead}
-use Rattle.fields.specs.declared.Fault.{Fault}
-use Rattle.fields.specs.Answer.{refused, success, Bounded}
+use Rattle.fields.specs.declared.Finding.{Finding}
+use Rattle.fields.specs.declared.Finding.the-variants as Finding
+use Rattle.fields.specs.Answer.{refusal, success, onSuccess, said, Bounded}
 use Rattle.fields.specs.declared.Got.{Got}
 use Rattle.fields.specs.declared.Scan.{Scan}
 use Rattle.fields.specs.declared.Scan.the-variants.{At, Refused}
 use Rattle.shapes_rules.specs.Shape.{symbols}
 use Rattle.fields.specs.Reading.{start, place, field, within, tailed, Live}
 use Rattle.shapes_rules.specs.Drawing.{shape}
-use Rattle.fields.specs.Inside.Promises.{Reads}
+use Rattle.fields.specs.Inside.Promises.{findingOf, Says, Reads}
+use Rattle.fields.proofs.Answer.{scan-says}
 use Rattle.shapes.specs.Inside.Promises.{ShapeIs, Preorder, SizesSet}
 use Rattle.fields.proofs.Laws.{start-place, value-at, scan-at, tailed-live, tailed-place}
 use Rattle.shapes_rules.proofs.Drawing.{length-symbols}
 use Rattle.shapes.proofs.Wholes.{drawn-is}
 use Rattle.sheets_rules.specs.TreeSheet.{treeRules, tailAt, treeTo, tree}
-use Rattle.sheets_rules.specs.Report.{TreeLimits, treeNumber, treeRead, treeReport}
+use Rattle.sheets_rules.specs.Report.{TreeLimits, treeNumber, treeSaid, treeReport}
 use Rattle.tree.specs.declared.TreeHead.{TreeHead}
 use Rattle.sheets_rules.specs.Inside.Layout.{treeLaid}
-use Rattle.sheets_rules.specs.Inside.Readers.{TreeToIs}
+use Rattle.sheets_rules.specs.Inside.Readers.{TreeIs, TreeToIs}
+use Rattle.sheets_rules.specs.Inside.Sound.{TreeStored}
+use Rattle.sheets_rules.specs.Model.{Tree, size}
+use Rattle.sheets_rules.specs.declared.TreeScanned.{TreeScanned}
 use Rattle.tree.specs.Inside.Promises.{NodesAre}
-use Rattle.sheets_rules.proofs.Report.{number-bounds}
+use Rattle.sheets_rules.proofs.Report.{number-bounds, tree-number-fits, tree-refusal}
+use Rattle.sheets_rules.proofs.Sound.{tree-limits}
 
 pub nodes-are : (last : Bool) (s : List ℕ) (c : Scan) (load req : Got) (read : ShapeRead) (l l′ : List ℕ) (res : Scan) → l ≡ replicate 64 0 → c ≡ start →
     Reads load (field s 8 (within 0 255) c) (place c + 8) 255 → Reads req (field s 24 (within 0 16777215) (load .scan)) (place (load .scan) + 24) 16777215 →
@@ -68,15 +73,28 @@ tree-is last s l′ m′ r h hs = record {
   near = h .near;
 }
 
-module _ (s l′ : List ℕ) (r : TreeHead) (h : NodesAre s true l′ r) where
-  pub tree-sound : (c : Cursor) → r .scan ≡ At c → (success (r .count) ≡ treeReport s) × (Bounded (success (r .count)) × TreeLimits (success (r .count)))
-  unfolding treeReport treeRead Bounded TreeLimits
-  tree-sound c e =
-      (ap success (h .counted (subst Live (sym e) tt)) ∙ ap (λ (q : Scan). treeRead (tree s start .0, q)) (sym e ∙ h .scan-is), (omega (arith, h .nodes-few), h .nodes-few))
+-- A sheet of its own: the tree, or the sheet's refusal.
+pub tree-read : (s : List ℕ) (r : TreeScanned) (found : Finding) → TreeToIs s true r → found ≡ findingOf treeNumber (r .scan) → TreeIs s (record { finding = found; tree = r .tree })
+unfolding treeSaid
+tree-read s r found h e =
+    subst (λ (q : Finding). Says TreeStored (treeSaid s) q (r .tree)) (ap (findingOf treeNumber) (sym (h .scan-is)) ∙ sym e)
+    (scan-says TreeStored treeNumber (tree s start) (r .tree) tree-number-fits (omega (arith, h .near, ap place (h .scan-is)))
+    (λ live. record { sound = tree-limits s live; tree-is = h .laid (subst Live (sym (h .scan-is)) live) }))
 
-  pub tree-refused : (f : Fault) (n p : ℕ) → r .scan ≡ Refused f p → n ≡ treeNumber f → (refused n p ≡ treeReport s) × (Bounded (refused n p) × TreeLimits (refused n p))
-  unfolding treeReport treeRead treeNumber Bounded TreeLimits
-  tree-refused f n p e en = (
-    ap (λ (k : ℕ). refused k p) en ∙ ap (λ (q : Scan). treeRead (tree s start .0, q)) (sym e ∙ h .scan-is),
-    (omega (arith, h .near, ap place e, number-bounds f), omega (arith, h .near, ap place e)),
-  )
+-- ---- what the judge says
+
+module _ (s l′ : List ℕ) (r : TreeHead) (h : NodesAre s true l′ r) where
+  abbrev Judged : Finding → Type 0
+  Judged Finding.Found = (success (r .count) ≡ treeReport s) × (Bounded (success (r .count)) × TreeLimits (success (r .count)))
+  Judged (Finding.Refused q) = (refusal q ≡ treeReport s) × (Bounded (refusal q) × TreeLimits (refusal q))
+
+  pub tree-judged : (f : Finding) → f ≡ findingOf treeNumber (r .scan) → Judged f
+  unfolding treeReport treeNumber Bounded TreeLimits
+  tree-judged f e = subst Judged (sym e) (go (r .scan) refl)
+    where
+      report : (q : Scan) → r .scan ≡ q → onSuccess (λ (t : Tree). size (t .shape)) (said treeNumber (tree s start .0, q)) ≡ treeReport s
+      report q e = ap (λ (z : Scan). onSuccess (λ (t : Tree). size (t .shape)) (said treeNumber (tree s start .0, z))) (sym e ∙ h .scan-is)
+
+      go : (q : Scan) → r .scan ≡ q → Judged (findingOf treeNumber q)
+      go (At c) e = (ap success (h .counted (subst Live (sym e) tt)) ∙ report (At c) e, (omega (arith, h .nodes-few), h .nodes-few))
+      go (Refused f p) e = (report (Refused f p) e, (omega (arith, h .near, ap place e, number-bounds f), (tree-refusal s true (sym (h .scan-is) ∙ e), omega (arith, h .near, ap place e))))

@@ -1,21 +1,37 @@
 // The tree sheet: what is decoded from it, and its judge.
 use fields::Fault;
+use fields::Finding;
+use fields::Refusal;
 use fields::Scan;
 use shapes_rules::Rules;
 use sheets_rules::Limits;
 use sheets_rules::TreeJudged;
 use sheets_rules::TreeRead;
 use sheets_rules::TreeRecord;
+use sheets_rules::TreeScanned;
 ghost use mathlib.Core.Path.{_≡_};
 ghost use Prim.Native.Nat.{_<_, _≤_, _^_};
 ghost use lib.ListN.{replicate};
 ghost use Rattle.fields.specs.Answer.{Bounded};
+ghost use Rattle.fields.specs.Inside.Promises.{findingOf};
 ghost use Rattle.fields.specs.Reading.{place, tailed, Live};
 ghost use Rattle.shapes.specs.Inside.Promises.{Preorder, SizesSet};
 ghost use Rattle.tree.specs.Inside.Promises.{NodesAre};
 ghost use Rattle.sheets_rules.specs.TreeSheet.{tailAt};
 ghost use Rattle.sheets_rules.specs.Inside.Readers.{TreeToIs, TreeIs};
 ghost use Rattle.sheets_rules.specs.Report.{ofTreeJudged, TreeLimits, treeReport, treeNumber};
+
+// The widths of the tree sheet's fields.
+struct Width {}
+
+impl Width {
+    const LOAD: usize = 8;
+
+    const TIME: usize = 24;
+
+    // A leaf's arrival.
+    const ARRIVAL: usize = 20;
+}
 
 // What a tree sheet says but for its nodes, how many they are, and the scan after it.
 pub struct TreeHead {
@@ -42,12 +58,12 @@ fn read_nodes(s: &[u8], last: bool, symbols: &mut [u32; Limits::TREE_NODES]) -> 
     ensures { λ r. ⌜ NodesAre (now (s .entry)) last (now (symbols .exit)) r ⌝ }
 {
     let start = fields::begin();
-    let load = fields::ranged(start, s, 8, 0, Limits::LOAD);
+    let load = fields::ranged(start, s, Width::LOAD, 0, Limits::LOAD);
     let at = load.scan;
-    let required = fields::ranged(at, s, 24, 0, Limits::TIME);
+    let required = fields::ranged(at, s, Width::TIME, 0, Limits::TIME);
     let at = required.scan;
     let rules = Rules {
-        width: 20,
+        width: Width::ARRIVAL,
         most: Limits::ARRIVAL,
         nodes: Limits::TREE_NODES,
         pattern: false,
@@ -77,7 +93,7 @@ fn sizes_of(after: Scan, symbols: &[u32], n: usize) -> [u8; Limits::TREE_NODES]
 }
 
 // The tree sheet at the front of the bytes: the last, with which they end, or one before another of a part.
-pub fn read_tree_to(s: &[u8], last: bool) -> TreeRead
+pub fn read_tree_to(s: &[u8], last: bool) -> TreeScanned
     ensures { λ r. ⌜ TreeToIs (now (s .entry)) last r ⌝ }
 {
     let mut symbols = [0u32; Limits::TREE_NODES];
@@ -85,7 +101,7 @@ pub fn read_tree_to(s: &[u8], last: bool) -> TreeRead
     let scan = read.scan;
     let count = read.count;
     let sizes = sizes_of(scan, &symbols, count);
-    TreeRead {
+    TreeScanned {
         scan,
         tree: TreeRecord {
             load: read.load,
@@ -101,7 +117,30 @@ pub fn read_tree_to(s: &[u8], last: bool) -> TreeRead
 pub fn read_tree(s: &[u8]) -> TreeRead
     ensures { λ r. ⌜ TreeIs (now (s .entry)) r ⌝ }
 {
-    read_tree_to(s, true)
+    let read = read_tree_to(s, true);
+    let scan = read.scan;
+    let tree = read.tree;
+    TreeRead {
+        finding: finding_of(scan),
+        tree,
+    }
+}
+
+// What is found of a tree by the scan after its sheet.
+fn finding_of(scan: Scan) -> Finding
+    ensures { λ r. ⌜ r ≡ findingOf treeNumber scan ⌝ }
+{
+    match scan {
+        Scan::At(_) => Finding::Found,
+        Scan::Refused(fault, place) => {
+            let number = tree_number(fault);
+            Finding::Refused(Refusal {
+                item: 0,
+                number,
+                place,
+            })
+        }
+    }
 }
 
 // Judges a tree: its node count, or what is wrong with it and where. No sizes are set.
@@ -112,9 +151,9 @@ pub fn judge_tree(s: &[u8]) -> TreeJudged
     let mut symbols = [0u32; Limits::TREE_NODES];
     let read = read_nodes(s, true, &mut symbols);
     let scan = read.scan;
-    match scan {
-        Scan::At(_) => TreeJudged::Sound(read.count),
-        Scan::Refused(fault, place) => TreeJudged::Refused(tree_number(fault), place),
+    match finding_of(scan) {
+        Finding::Found => TreeJudged::Sound(read.count),
+        Finding::Refused(refusal) => TreeJudged::Refused(refusal),
     }
 }
 

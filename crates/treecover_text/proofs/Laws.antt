@@ -14,6 +14,10 @@ use Rattle.sheets_rules.specs.declared.LibraryRecord.{LibraryRecord}
 use Rattle.sheets_rules.specs.LibrarySheet.{library as libraryOf}
 use Rattle.sheets_rules.specs.Inside.Layout.{rowWords}
 use Rattle.sheets_rules.specs.Inside.Readers.{LibraryIs}
+use Rattle.sheets_rules.specs.Inside.Sound.{LibraryStored}
+use Rattle.sheets_rules.specs.Report.{librarySaid}
+use Rattle.sheets_rules.proofs.Sound.{library-said}
+use Rattle.fields.proofs.Answer.{says-holds}
 use Rattle.covers.specs.Cover.{Placed, Cover}
 use Rattle.result_sheets.specs.declared.CoverRecord.{CoverRecord}
 use Rattle.result_sheets.specs.declared.CoverRead.{CoverRead}
@@ -105,7 +109,7 @@ module _ (cover : CoverRecord) (room : Room cover) where
 
 module _ {library sheet : List ℕ} {read : LibraryRead} {found : CoverRead} (h : LibraryIs library read) (live : Live (libraryOf library start .1)) (g : CoverIs sheet found) where
   rows-read : read .library .rows ≡ rowsOf library
-  rows-read = ap (λ (r : LibraryRecord). r .rows) (h .laid (subst Live (sym (h .scan-is)) live))
+  rows-read = ap (λ (r : LibraryRecord). r .rows) (says-holds LibraryStored (librarySaid library) (read .finding) (read .library) (h .said) (libraryOf library start .0) (library-said library live) .library-is)
 
   pub text-read : rowText (read .library .rows) (coverOf (found .cover)) ≡ rowText (rowsOf library) (coverIn sheet)
   text-read = ap₂ rowText rows-read (g .cover-is)

@@ -1,10 +1,12 @@
 -- The text that `treecover` prints for an input.
 use Prim.Native.Nat.{ℕ}
+use mathlib.Core.Path.{_≡_}
 use mathlib.Core.Bool.{false}
 use mathlib.Core.List.{List, [], _∷_, _++_, flatMap}
 use lib.ListN.{length}
 use Rattle.fields.specs.Answer.{Answer, onSuccess}
 use Rattle.sheets_rules.specs.Model.{Library, cellOf, Tree}
+use Rattle.sheets_rules.specs.TreeWritten.{SameTree}
 use Rattle.covers.specs.Cover.{Placed, Cover}
 use Rattle.covers.specs.Capacity.{capacity, workWords}
 use Rattle.covers.specs.Answer.{mapped}
@@ -40,6 +42,10 @@ textAnswer most l t = onSuccess (coverText l) (mapped most l t)
 unfoldable pub mapShown : (library tree : List ℕ) → Answer (List ℕ)
 unfolding operation textAnswer
 mapShown library tree = operation mapBytes textAnswer library tree mapBytes (workWords capacity)
+
+-- Sheets that say the same tree are shown alike.
+abbrev pub ShownAlike : Type 0
+ShownAlike = (ls ts ts′ : List ℕ) → SameTree ts ts′ → mapShown ls ts ≡ mapShown ls ts′
 
 -- After one length, which is that of the library, come the library and, as all that is left, the tree.
 unfoldable pub printed : List ℕ → List ℕ

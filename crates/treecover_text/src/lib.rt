@@ -5,7 +5,7 @@ use result_sheets::CoverRecord;
 use sheets_rules::Limits;
 use sheets_rules::PatternRow;
 ghost use Prim.Native.Nat.{_+_, _*_, _<_, _≤_, _^_};
-ghost use lib.ListN.{length};
+ghost use lib.ListN.{length, take};
 ghost use Rattle.io.specs.Counts.{Counts};
 ghost use Rattle.fields.specs.Reading.{Live, start};
 ghost use Rattle.sheets_rules.specs.LibrarySheet.{library as libraryOf};
@@ -15,6 +15,7 @@ ghost use Rattle.result_sheets.specs.Public.{coverOf, Written};
 ghost use Rattle.text.specs.Inside.Promises.{Appended};
 ghost use Rattle.frame.specs.Framed.{outcomeText};
 ghost use Rattle.treecover_text.specs.Printed.{coverLine, mapShown, longestText, printedWithin};
+ghost use Rattle.treecover_text.specs.Demands.{PrintedWhereWhole};
 ghost use Rattle.treecover_text.specs.Inside.Rows.{rowsOf, coverIn, rowLine, rowLines, rowText, HaveRows, Printable};
 
 // How many lengths an input has: the library's alone.
@@ -100,8 +101,8 @@ fn put_map(text: &mut [u8], library: &[u8], tree: &[u8]) -> usize
     let mut work = [0u64; Limits::WORK];
     let reply = map::map(library, tree, &mut output, &mut work);
     match reply {
-        Reply::Refused(number, place) => frame::put_refusal(text, number, place),
-        Reply::Sheet(bytes) => put_sheet(text, &output[..bytes], library),
+        Reply::Refused(refusal) => frame::put_refusal(text, refusal),
+        Reply::Sheets(bytes) => put_sheet(text, &output[..bytes], library),
     }
 }
 
@@ -110,6 +111,7 @@ fn put_map(text: &mut [u8], library: &[u8], tree: &[u8]) -> usize
 pub fn print_cover(input: &[u8], text: &mut [u8]) -> usize
     ensures { λ r. ⌜ Written (printedWithin (length (now (text .entry))) (now (input .entry))) (now (text .entry)) (now (text .exit)) r ⌝ }
     ensures { λ r. ⌜ Counts r (now (text .exit)) ⌝ }
+    ensures { λ r. ⌜ PrintedWhereWhole (length (now (text .entry))) (now (input .entry)) (take r (now (text .exit))) ⌝ }
 {
     if text.len() < Text::LONGEST {
         return 0;

@@ -25,7 +25,7 @@ module _ (c : tie.After-read-cover) where
   tree = entry .args .tree .now
 
   stored : BillStored (libraryOf library start .0) (treeOf tree start .0) (c .before .before .before .before .before .read-library .result .library .rows) (c .before .before .before .before .before .read-library .result .library .count) (c .read-cover .result .cover) (c .before .before .read-tree .result .tree .required)
-  stored = stored-read (entry .pre .1 .1) (c .before .before .before .before .before .read-library .ensures) (c .before .before .read-tree .ensures) (c .read-cover .ensures)
+  stored = stored-read library tree (entry .args .cover .now) (entry .pre .1 .1) (c .before .before .read-tree .result) (c .before .before .before .before .before .read-library .ensures) (c .before .before .read-tree .ensures) (c .read-cover .ensures)
 
 read-library-requires : tie.Need-read-library-requires
 read-library-requires c κs = search needs
@@ -50,7 +50,7 @@ returns c =
     let read = c .before .before .before .before .before in
     let put = c .before .before .put-bill in
     subst (λ (w : List ℕ). Appended w (entry read .args .text .now) 0 (put .last .0) (put .result))
-    (shown-read (entry read .pre .1 .1) (read .before .before .before .before .before .read-library .ensures) (read .before .before .read-tree .ensures) (read .read-cover .ensures))
+    (shown-read (library read) (tree read) (entry read .args .cover .now) (entry read .pre .1 .1) (read .before .before .read-tree .result) (read .before .before .before .before .before .read-library .ensures) (read .before .before .read-tree .ensures) (read .read-cover .ensures))
     (put .ensures (libraryOf (library read) start .0) (treeOf (tree read) start .0) (stored read))
 
 pub put-accepted-spec : {M : Type 1} → statement M

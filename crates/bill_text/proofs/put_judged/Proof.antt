@@ -20,7 +20,7 @@ enum-known-judged c = search needs
 put-refusal-requires : tie.Need-put-refusal-requires
 put-refusal-requires c κs =
     let told = c .before .before .judged .given in
-    omega (arith, refusal-short (told .0 .0) (told .0 .1 .0) (omega arith) (omega arith))
+    omega (arith, refusal-short (told .0 .0 .number) (told .0 .0 .place) (omega arith) (omega arith))
 
 enum-told : tie.Need-enum-told
 enum-told c = search needs
@@ -30,7 +30,7 @@ unfolding ofCoverJudged
 put-accepted-requires c κs =
     let judged = c .before .before .before in
     let told = c .before .enum-told .given in
-    (judged .before .before .before .before .before .pre, (record { area = told .0 .0; arrival = told .0 .1 .0 }, sym (judged .judge-cover .ensures .0) ∙ ap ofCoverJudged (told .1)))
+    (judged .before .before .before .before .before .pre, (record { area = told .0 .0; arrival = told .0 .1 .0 }, sym (judged .judge-cover .ensures .answer-is) ∙ ap ofCoverJudged (told .1)))
 
 same-length : tie.Need-same-length
 same-length c = search needs
@@ -43,7 +43,7 @@ returns c =
     let told = c .before .before .before .before .before .judged .given in
     let put = c .before .before .put-refusal in
     subst (λ (w : List ℕ). Appended w (a .text .now) 0 (put .last .0) (put .result))
-    (sym (ap outcomeText (shown-refusal (a .library .now) (a .tree .now) (a .cover .now) (sym (judged .judge-cover .ensures .0) ∙ ap ofCoverJudged (told .1)))))
+    (sym (ap outcomeText (shown-refusal (a .library .now) (a .tree .now) (a .cover .now) (sym (judged .judge-cover .ensures .answer-is) ∙ ap ofCoverJudged (told .1)))))
     (put .ensures)
 
 same-length-2 : tie.Need-same-length-2

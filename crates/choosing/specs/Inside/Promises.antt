@@ -7,12 +7,13 @@ use lib.ListN.{length, getD}
 use lib.Seq.{sets}
 use Rattle.sheets_rules.specs.Model.{plainLeaf, Shape, Library, Tree}
 use Rattle.covers.specs.Match.{Input, Match, pinLoad}
-use Rattle.covers.specs.Cover.{Point, Placed, feeds, inputDelay}
+use Rattle.covers.specs.Cover.{Point, Placed, Cover, feeds, inputDelay}
 use Rattle.covers.specs.Enumeration.{covers}
 use Rattle.covers.specs.Tradeoff.{nodes}
-use Rattle.covers.specs.Choice.{least}
+use Rattle.covers.specs.Choice.{least, firstReaching, choice}
 use Rattle.covers.specs.Inside.Curve.{base, gates, pointOf}
-use Rattle.overlay.specs.Inside.Promises.{CellStored, Decoded}
+use Rattle.cells.specs.Inside.Cell.{CellStored}
+use Rattle.overlay.specs.Inside.Promises.{Decoded}
 use Rattle.matching.specs.Inside.Found.{matchTable, hitOf}
 use Rattle.curves.specs.Inside.Words.{WorkArea}
 use Rattle.curves.specs.Inside.Best.{hitAt, patternOf, legalBest}
@@ -62,6 +63,10 @@ pub record InputsAre (l : Library) (m : Match) (load t : ℕ) (r : Inputs) : Typ
   pub few : length (m .inputs) ≤ 6
   pub each : (k : ℕ) → k < length (m .inputs) → goalAt r k ≡ goalOf l m load t (getD (m .inputs) k noInput)
 
+-- The inputs are read of whichever match the hit holds.
+abbrev pub InputsRead : (pattern hit : List ℕ) → (load t : ℕ) → Inputs → Type 0
+InputsRead pattern hit load t r = (l : Library) (m : Match) → HitHolds l pattern hit m → InputsAre l m load t r
+
 -- ---- the choice
 
 -- The library l and the tree t as decoded, room for the matches of a node, and the curves of the tree's nodes in the work area.
@@ -83,6 +88,13 @@ pub record Driven (l : Library) (t : Tree) (goal : Goal) (s : Shape) : Type 0 wh
   pub time-small : goal .time < base
   pub some-cover : (p : Point) × (least (suc (goal .time)) (covers l (goal .load) (goal .node) s) ≡ some p)
 
+-- The first match that reaches the least point in time is chosen, whichever library and tree are stored.
+abbrev pub MatchChosen : ℕ → (rows ss zs found work : List ℕ) → Goal → Inputs → Type 0
+MatchChosen most rows ss zs found work goal r =
+    (l : Library) (t : Tree) (s : Shape) → Prepared most l t rows ss zs (length found) work → Driven l t goal s →
+    (p : Point) → least (suc (goal .time)) (covers l (goal .load) (goal .node) s) ≡ some p →
+    (m : Match) → firstReaching l (goal .load) (goal .node) s p ≡ some m → InputsAre l m (goal .load) (p .arrival) r
+
 -- What the choice at a node is lent: all that, and a cover's record with room for the matches.
 pub record Chooses (most : ℕ) (l : Library) (t : Tree) (rows ss zs : List ℕ) (room : ℕ) (work : List ℕ) (goal : Goal) (cover : CoverRecord) (s : Shape) : Type 0 where
   pub prepared : Prepared most l t rows ss zs room work
@@ -99,3 +111,9 @@ appended c xs = record {
   patterns = sets (c .patterns) (c .count) (map (λ (x : Placed). x .pattern) xs);
   crossings = sets (c .crossings) (c .count) (map (λ (x : Placed). x .crossing) xs);
 }
+
+-- The matches of the cover that the choice rule names come after those of the record, whichever library and tree are stored.
+abbrev pub CoverChosen : ℕ → (rows ss zs found work : List ℕ) → Goal → CoverRecord → CoverRecord → Type 0
+CoverChosen most rows ss zs found work goal cover r =
+    (l : Library) (t : Tree) (s : Shape) → Chooses most l t rows ss zs (length found) work goal cover s →
+    (c : Cover) → choice l (goal .load) (goal .node) s (goal .time) ≡ some c → r ≡ appended cover (c .placed)

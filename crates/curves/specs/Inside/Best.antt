@@ -1,16 +1,18 @@
 -- The least point before an instant, read from the tables: of an input, of a match, and of all matches of a node.
 use Prim.Native.Nat.{ℕ, zero, suc, _+_, _-_, _*_, _≤_, _<_}
-use mathlib.Core.Bool.{Bool, cond, _&&_}
+use mathlib.Core.Bool.{cond}
 use mathlib.Core.List.{List}
 use mathlib.Core.Option.{Option, none, Option·map}
 use mathlib.Core.Path.{_≡_}
 use lib.ListN.{length, getD, take, drop}
-use lib.Dec.{leb, eqb}
-use Rattle.sheets_rules.specs.Inside.Layout.{pinWords, figuresAt, rowWords, heldAt, areaAt, highestAt}
+use lib.Dec.{leb}
+use Rattle.sheets_rules.specs.Inside.Layout.{rowWords, areaAt}
 use Rattle.covers.specs.Cover.{late, raised, leafPoint, Point}
 use Rattle.covers.specs.Choice.{lesser, before}
 use Rattle.covers.specs.Inside.Curve.{both, lookup}
 use Rattle.leaves.specs.Inside.Leaf.{leafOf, symbolLimit}
+use Rattle.cells.specs.declared.PinFigures.{PinFigures}
+use Rattle.cells.specs.Inside.Cell.{rowLegal, rowFigures, delayOf, PinSafe}
 use Rattle.matching.specs.Inside.Found.{matchBytes, inputPlace}
 use Rattle.curves.specs.Inside.Words.{tableOf, WorkArea}
 
@@ -28,14 +30,11 @@ patternOf rows hit = take rowWords (drop (rowWords * getD hit 0 0) rows)
 abbrev pub hitCount : List ℕ → ℕ
 hitCount hit = getD hit 2 0
 
--- In a pattern's row: the cell's area, and whether a match of it that drives a load is legal.
+-- In a pattern's row: the cell's area.
 abbrev pub rowArea : List ℕ → ℕ
 rowArea pattern = getD pattern areaAt 0
 
-unfoldable pub rowLegal : List ℕ → ℕ → Bool
-rowLegal pattern load = eqb (getD pattern heldAt 0) 0 && leb load (getD pattern highestAt 0)
-
--- Input k of a match: its pin and its node, and the bin, the load, the intrinsic delay and the drive of that pin.
+-- Input k of a match: its pin and its node, and the figures of that pin.
 module _ (pattern hit : List ℕ) (k : ℕ) where
   abbrev pub inputPin : ℕ
   inputPin = getD hit (inputPlace k) 0
@@ -43,24 +42,8 @@ module _ (pattern hit : List ℕ) (k : ℕ) where
   abbrev pub inputNode : ℕ
   inputNode = getD hit (inputPlace k + 1) 0
 
-  abbrev pub inputFigures : ℕ
-  inputFigures = figuresAt + pinWords * inputPin
-
-  abbrev pub inputBin : ℕ
-  inputBin = getD pattern inputFigures 0
-
-  abbrev pub inputLoad : ℕ
-  inputLoad = getD pattern (inputFigures + 1) 0
-
-  abbrev pub inputIntrinsic : ℕ
-  inputIntrinsic = getD pattern (inputFigures + 2) 0
-
-  abbrev pub inputDrive : ℕ
-  inputDrive = getD pattern (inputFigures + 3) 0
-
-  -- What that pin adds under the load that the match drives.
-  unfoldable pub hitDelay : ℕ → ℕ
-  hitDelay load = inputIntrinsic + inputDrive * load
+  abbrev pub inputFigures : PinFigures
+  inputFigures = rowFigures pattern inputPin
 
 -- ---- the least point
 
@@ -74,7 +57,8 @@ module _ (most : ℕ) (symbols work : List ℕ) where
     -- Input k of a match, as the match sees it.
     unfoldable pub inputLate : ℕ → Option Point
     inputLate k =
-        Option·map (late (hitDelay pattern hit k load)) (inputBest (inputNode pattern hit k) (inputBin pattern hit k) (inputLoad pattern hit k) (end - hitDelay pattern hit k load))
+        let pin = inputFigures pattern hit k in
+        Option·map (late (delayOf pin load)) (inputBest (inputNode pattern hit k) (pin .bin) (pin .load) (end - delayOf pin load))
 
     -- Some inputs of a match, from input k on.
     unfoldable pub inputsBest : ℕ → ℕ → Option Point
@@ -95,18 +79,11 @@ module _ (most : ℕ) (symbols work : List ℕ) where
 
 -- ---- what is required of the tables
 
--- The first two of a pin's figures, its load bin and that bin's load, are within the limits.
-abbrev pub PinSafe : List ℕ → Type 0
-PinSafe pin = (1 < length pin) × (getD pin 0 0 < 4) × (getD pin 1 0 ≤ 255)
-
 -- Input k of a match is within the limits.
 pub record InputSafe (pattern hit : List ℕ) (k : ℕ) : Type 0 where
   pub pin : inputPin pattern hit k < 6
   pub node : inputNode pattern hit k < 64
-  pub bin : inputBin pattern hit k < 4
-  pub load : inputLoad pattern hit k ≤ 255
-  pub intrinsic : inputIntrinsic pattern hit k ≤ 65535
-  pub drive : inputDrive pattern hit k ≤ 255
+  pub figures : PinSafe (inputFigures pattern hit k)
 
 -- A match's figures are within the limits.
 pub record HitSafe (pattern hit : List ℕ) : Type 0 where

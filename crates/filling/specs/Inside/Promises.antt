@@ -86,6 +86,10 @@ module _ (l : Library) (s : Shape) (turn : Turn) where
     pub agree : AgreeFrom (turn .most) (nextCurve turn) work′ work
     pub small : Small work′
 
+-- The node's curves are filled, whichever library and tree are stored.
+abbrev pub FillsNode : (rows ss zs : List ℕ) → Turn → (found work work′ : List ℕ) → Counts → Type 0
+FillsNode rows ss zs turn found work work′ r = (l : Library) (t : Tree) (s : Shape) → FillReady l t rows ss zs turn found work s → NodeDone l s turn work work′ r
+
 -- Some count of the turn's loads is above what the node may have, or none is.
 abbrev pub Exceeds : Turn → Bool → Counts → Type 0
 Exceeds turn true r = (b : ℕ) × (b < turn .bins .count) × (turn .most < getD (r .points) b 0)
@@ -109,3 +113,7 @@ pub record FillStart (l : Library) (t : Tree) (rows : List ℕ) (bins : Bins) (t
 abbrev pub FillingIs : ℕ → Library → Tree → List ℕ → Filling → Type 0
 FillingIs most l t work′ Whole = (overfullNode most l t ≡ none) × CurvesStored most l t work′
 FillingIs most l t work′ (Overfull n) = overfullNode most l t ≡ some n
+
+-- The curves of every node are filled or an overfull node is named, whichever library and tree are stored.
+abbrev pub FillsTree : List ℕ → Bins → TreeRecord → ℕ → (found work work′ : List ℕ) → Filling → Type 0
+FillsTree rows bins tree most found work work′ r = (l : Library) (t : Tree) → FillStart l t rows bins tree most found work → FillingIs most l t work′ r

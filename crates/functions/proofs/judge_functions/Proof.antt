@@ -1,63 +1,55 @@
 use borrow.Author.Needs.{needs}
-use mathlib.Core.Path.{sym, subst}
-use Rattle.fields.specs.Reading.{start}
-use Rattle.sheets_rules.specs.LibrarySheet.{library}
-use Rattle.sheets_rules.specs.Report.{ofLibraryJudged}
-use Rattle.sheets_rules.proofs.Stored.{library-laid}
+use mathlib.Core.Path.{sym, subst, _∙_}
+use Rattle.fields.specs.declared.Finding.{Finding}
+use Rattle.fields.specs.Inside.Promises.{Says}
+use Rattle.fields.proofs.Answer.{after-success, after-refused}
+use Rattle.sheets_rules.specs.Report.{librarySaid, ofLibraryJudged}
+use Rattle.sheets_rules.specs.Inside.Sound.{LibraryStored}
 use Rattle.functions_rules.specs.Demands.{FunctionDemands}
-use Rattle.functions.proofs.Sheet.{library-answered, library-refused}
+use Rattle.functions_rules.specs.Report.{sheetJudged, functionsReport}
 use Rattle.functions_rules.proofs.Demands.{demands}
+use Rattle.functions.proofs.Sheet.{library-limited}
 use Rattle.functions.proofs.judge_functions.Statement.{statement}
 use Rattle.functions.proofs.judge_functions.Tie as tie
 
 read-library-requires : tie.Need-read-library-requires
 read-library-requires c κs = search needs
 
+enum-known-finding : tie.Need-enum-known-finding
+enum-known-finding c = search needs
+
 enum-told : tie.Need-enum-told
 enum-told c = search needs
 
 with-library-requires : tie.Need-with-library-requires
 with-library-requires c κs =
-    let a = c .before .before .before .before .before .args in
     let read = c .before .before .read-library in
-    let told = c .enum-told .given in
-    (library (a .library .now) start .0, library-laid (a .library .now) (read .result) (read .ensures) (told .0 .0) (told .1))
-
-enum-known-scan : tie.Need-enum-known-scan
-enum-known-scan c = search needs
-
-library-number-requires : tie.Need-library-number-requires
-library-number-requires c κs = search needs
+    let said = subst (λ (q : Finding). Says LibraryStored (librarySaid (c .before .before .before .before .before .args .library .now)) q (read .result .library)) (c .enum-told .given .1) (read .ensures .said) in
+    (said .0, said .2)
 
 returns : tie.Need-returns
+unfolding ofLibraryJudged functionsReport
 returns c =
     let a = c .before .before .before .before .before .before .args in
-    let read = c .before .before .before .read-library in
-    let told = c .before .enum-told .given in
     let ls = a .library .now in
-    let call = c .with-library in
-    let e = library-answered ls (a .functions .now) (read .result) (read .ensures) (told .0 .0) (told .1) (ofLibraryJudged (call .result)) (call .ensures .0 (library ls start .0) (library-laid ls (read .result) (read .ensures) (told .0 .0) (told .1))) in
-    (e, (subst (FunctionDemands ls (a .functions .now)) (sym e) (demands ls (a .functions .now)), call .ensures .1))
+    let fs = a .functions .now in
+    let read = c .before .before .before .read-library in
+    let told = c .before .finding .given in
+    let said = subst (λ (q : Finding). Says LibraryStored (librarySaid ls) q (read .result .library)) (told .1) (read .ensures .said) in
+    let e = sym (after-refused (sheetJudged fs) (said .0)) in
+    (e, (subst (FunctionDemands ls fs) (sym e) (demands ls fs), library-limited (told .0 .0) (read .ensures .near (told .0 .0) (told .1)) (said .1)))
 
 returns-2 : tie.Need-returns-2
-unfolding ofLibraryJudged
+unfolding functionsReport
 returns-2 c =
-    let a = c .before .before .before .before .before .before .before .args in
-    let read = c .before .before .before .before .read-library in
-    let told = c .before .before .scan .given in
+    let a = c .before .before .before .before .before .before .args in
     let ls = a .library .now in
-    let number = c .library-number in
-    let e = library-refused ls (a .functions .now) (read .result) (read .ensures) (told .0 .0) (told .0 .1 .0) (number .result) (told .1) (number .ensures .0) in
-    (e .0, (subst (FunctionDemands ls (a .functions .now)) (sym (e .0)) (demands ls (a .functions .now)), e .1))
+    let fs = a .functions .now in
+    let read = c .before .before .before .read-library in
+    let call = c .with-library in
+    let said = subst (λ (q : Finding). Says LibraryStored (librarySaid ls) q (read .result .library)) (c .before .enum-told .given .1) (read .ensures .said) in
+    let e = call .ensures .0 (said .0) (said .2) ∙ sym (after-success (sheetJudged fs) (said .1)) in
+    (e, (subst (FunctionDemands ls fs) (sym e) (demands ls fs), call .ensures .1))
 
 pub judge-functions-spec : {M : Type 1} → statement M
-judge-functions-spec =
-    tie.close
-    (tie.spec
-    read-library-requires
-    enum-told
-    with-library-requires
-    enum-known-scan
-    library-number-requires
-    returns
-    returns-2)
+judge-functions-spec = tie.close (tie.spec read-library-requires enum-known-finding enum-told with-library-requires returns returns-2)

@@ -67,8 +67,8 @@ enum-known-scan c = search needs
 library-number-requires : tie.Need-library-number-requires
 library-number-requires c κs = search needs
 
-add-t21 : tie.Need-add-t21
-add-t21 c = search needs
+add-number : tie.Need-add-number
+add-number c = search needs
 
 returns : tie.Need-returns
 returns c =
@@ -120,6 +120,6 @@ with-library-spec =
     judge-drawings-requires
     enum-known-scan
     library-number-requires
-    add-t21
+    add-number
     returns
     returns-2)

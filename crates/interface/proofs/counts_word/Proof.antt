@@ -25,9 +25,9 @@ add-result c = omega (arith, subst Within (c .before .judged .given .1) (c .befo
 enum-known-judged-2 : tie.Need-enum-known-judged-2
 enum-known-judged-2 c = search needs
 
-refusal-requires : tie.Need-refusal-requires
+refusal-word-requires : tie.Need-refusal-word-requires
 unfolding ofLibraryJudged onSuccess Bounded
-refusal-requires c κs = let h = subst Within (c .before .judged2 .given .1) (c .before .before .before .pre) in (h .1, h .2)
+refusal-word-requires c κs = let h = subst Within (c .before .judged2 .given .1) (c .before .before .before .pre) in (h .0, h .2, h .3)
 
 returns : tie.Need-returns
 unfolding ofLibraryJudged libraryWord onSuccess word
@@ -35,7 +35,7 @@ returns c = sym (ap (λ q. word (onSuccess libraryWord (ofLibraryJudged q))) (c 
 
 returns-2 : tie.Need-returns-2
 unfolding ofLibraryJudged onSuccess word
-returns-2 c = c .refusal .ensures ∙ sym (ap (λ q. word (onSuccess libraryWord (ofLibraryJudged q))) (c .before .before .judged2 .given .1))
+returns-2 c = c .refusal-word .ensures ∙ sym (ap (λ q. word (onSuccess libraryWord (ofLibraryJudged q))) (c .before .before .judged2 .given .1))
 
 pub counts-word-spec : {M : Type 1} → statement M
 counts-word-spec =
@@ -45,6 +45,6 @@ counts-word-spec =
     mul-result
     add-result
     enum-known-judged-2
-    refusal-requires
+    refusal-word-requires
     returns
     returns-2)

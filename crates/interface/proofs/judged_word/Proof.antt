@@ -35,9 +35,9 @@ add-result-2 c = let h = subst Within (c .before .judged .given .1) (c .before .
 enum-known-judged-2 : tie.Need-enum-known-judged-2
 enum-known-judged-2 c = search needs
 
-refusal-requires : tie.Need-refusal-requires
+refusal-word-requires : tie.Need-refusal-word-requires
 unfolding ofCoverJudged PointBounded
-refusal-requires c κs = let h = subst Within (c .before .judged2 .given .1) (c .before .before .before .pre) in (h .0, h .1)
+refusal-word-requires c κs = let h = subst Within (c .before .judged2 .given .1) (c .before .before .before .pre) in (omega (arith, h .0), h .1, h .2)
 
 returns : tie.Need-returns
 unfolding ofCoverJudged pointWord
@@ -45,7 +45,7 @@ returns c = sym (ap (λ q. pointWord (ofCoverJudged q)) (c .before .judged .give
 
 returns-2 : tie.Need-returns-2
 unfolding ofCoverJudged pointWord
-returns-2 c = c .refusal .ensures ∙ sym (ap (λ q. pointWord (ofCoverJudged q)) (c .before .before .judged2 .given .1))
+returns-2 c = c .refusal-word .ensures ∙ sym (ap (λ q. pointWord (ofCoverJudged q)) (c .before .before .judged2 .given .1))
 
 pub judged-word-spec : {M : Type 1} → statement M
 judged-word-spec =
@@ -58,6 +58,6 @@ judged-word-spec =
     cast-result-2
     add-result-2
     enum-known-judged-2
-    refusal-requires
+    refusal-word-requires
     returns
     returns-2)

@@ -9,20 +9,20 @@ use Rattle.interface.proofs.reply_word.Tie as tie
 enum-known-reply : tie.Need-enum-known-reply
 enum-known-reply c = search needs
 
-refusal-requires : tie.Need-refusal-requires
+refusal-word-requires : tie.Need-refusal-word-requires
 unfolding ofReply Bounded
-refusal-requires c κs = let h = subst (λ (r : Reply). Bounded (ofReply r)) (c .before .reply .given .1) (c .before .before .before .pre) in (h .1, h .2)
+refusal-word-requires c κs = let h = subst (λ (r : Reply). Bounded (ofReply r)) (c .before .reply .given .1) (c .before .before .before .pre) in (h .0, h .2, h .3)
 
 enum-known-reply-2 : tie.Need-enum-known-reply-2
 enum-known-reply-2 c = search needs
 
 returns : tie.Need-returns
 unfolding ofReply word
-returns c = c .refusal .ensures ∙ sym (ap (λ r. word (ofReply r)) (c .before .before .reply .given .1))
+returns c = c .refusal-word .ensures ∙ sym (ap (λ r. word (ofReply r)) (c .before .before .reply .given .1))
 
 returns-2 : tie.Need-returns-2
 unfolding ofReply word
 returns-2 c = search needs
 
 pub reply-word-spec : {M : Type 1} → statement M
-reply-word-spec = tie.close (tie.spec enum-known-reply refusal-requires enum-known-reply-2 returns returns-2)
+reply-word-spec = tie.close (tie.spec enum-known-reply refusal-word-requires enum-known-reply-2 returns returns-2)

@@ -1,11 +1,8 @@
 use borrow.Author.Needs.{needs}
 use mathlib.Core.Path.{_≡_, sym, ap, subst, _∙_}
-use Rattle.fields.specs.Answer.{Answer}
-use Rattle.covers.specs.Cover.{Point}
 use Rattle.judge_rules.specs.Judgement.{pointWord, ofPointWord}
-use Rattle.judge_rules.specs.Demands.{JudgedWhereSound}
 use Rattle.judge_rules.proofs.Demands.{point-word-reads}
-use Rattle.judge_rules.specs.Public.{ofCoverJudged}
+use Rattle.judge_rules.specs.Public.{ofCoverJudged, Judges}
 use Rattle.interface.proofs.treecover_judge_cover.Statement.{statement}
 use Rattle.interface.proofs.treecover_judge_cover.Tie as tie
 
@@ -13,15 +10,15 @@ judge-cover-requires : tie.Need-judge-cover-requires
 judge-cover-requires c κs = search needs
 
 judged-word-requires : tie.Need-judged-word-requires
-judged-word-requires c κs = search needs
+judged-word-requires c κs = c .judge-cover .ensures .bounded
 
 returns : tie.Need-returns
 returns c =
     let a = c .before .before .before .before .before .args in
     let call = c .before .judge-cover in
     let word = c .judged-word in
-    let said : ofPointWord (word .result) ≡ ofCoverJudged (call .result) = ap ofPointWord (word .ensures) ∙ point-word-reads (ofCoverJudged (call .result)) (call .ensures .1 .1) in
-    (word .ensures ∙ ap pointWord (call .ensures .0), subst (λ (q : Answer Point). JudgedWhereSound (a .library .now) (a .tree .now) (a .cover .now) q) (sym said) (call .ensures .1 .0))
+    let said : ofPointWord (word .result) ≡ ofCoverJudged (call .result) = ap ofPointWord (word .ensures) ∙ point-word-reads (ofCoverJudged (call .result)) (call .ensures .bounded) in
+    (word .ensures ∙ ap pointWord (call .ensures .answer-is), subst (Judges (a .library .now) (a .tree .now) (a .cover .now)) (sym said) (call .ensures))
 
 pub treecover-judge-cover-spec : {M : Type 1} → statement M
 treecover-judge-cover-spec = tie.close (tie.spec judge-cover-requires judged-word-requires returns)

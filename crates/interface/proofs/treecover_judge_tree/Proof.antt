@@ -15,9 +15,9 @@ enum-known-judged c = search needs
 enum-known-judged-2 : tie.Need-enum-known-judged-2
 enum-known-judged-2 c = search needs
 
-refusal-requires : tie.Need-refusal-requires
+refusal-word-requires : tie.Need-refusal-word-requires
 unfolding ofTreeJudged Bounded
-refusal-requires c κs = let h = subst (λ (q : TreeJudged). Bounded (ofTreeJudged q)) (c .before .judged2 .given .1) (c .before .before .before .judge-tree .ensures .1 .0) in (h .1, h .2)
+refusal-word-requires c κs = let h = subst (λ (q : TreeJudged). Bounded (ofTreeJudged q)) (c .before .judged2 .given .1) (c .before .before .before .judge-tree .ensures .1 .0) in (h .0, h .2, h .3)
 
 returns : tie.Need-returns
 unfolding ofTreeJudged word
@@ -25,7 +25,7 @@ returns c = ap word (sym (ap ofTreeJudged (c .before .judged .given .1)) ∙ c .
 
 returns-2 : tie.Need-returns-2
 unfolding ofTreeJudged word
-returns-2 c = c .refusal .ensures ∙ ap word (sym (ap ofTreeJudged (c .before .before .judged2 .given .1)) ∙ c .before .before .before .before .judge-tree .ensures .0)
+returns-2 c = c .refusal-word .ensures ∙ ap word (sym (ap ofTreeJudged (c .before .before .judged2 .given .1)) ∙ c .before .before .before .before .judge-tree .ensures .0)
 
 pub treecover-judge-tree-spec : {M : Type 1} → statement M
-treecover-judge-tree-spec = tie.close (tie.spec judge-tree-requires enum-known-judged enum-known-judged-2 refusal-requires returns returns-2)
+treecover-judge-tree-spec = tie.close (tie.spec judge-tree-requires enum-known-judged enum-known-judged-2 refusal-word-requires returns returns-2)

@@ -12,7 +12,7 @@ use Rattle.judge.proofs.take_match.Tie as tie
 
 -- Where the function starts.
 abbrev entry : tie.After-is-legal → tie.Start
-entry c = c .before .before .before .before .before .before .before .before .before
+entry c = c .before .before .before .before .before .before .before
 
 sub-top : tie.Need-sub-top
 sub-top c = top (c .before .before .before .pre .1 .1 .1 .1 .1 .1) .some
@@ -35,14 +35,8 @@ mul-delay c = let t = top (c .before .before .before .before .before .pre .1 .1 
 element-copy-out-delay : tie.Need-element-copy-out-delay
 element-copy-out-delay c = let t = top (c .before .before .before .before .before .pre .1 .1 .1 .1 .1 .1) in omega (arith, t .some, t .few)
 
-shared-slice-read-is-legal : tie.Need-shared-slice-read-is-legal
-shared-slice-read-is-legal c = search needs
-
-shared-slice-read-is-legal-2 : tie.Need-shared-slice-read-is-legal-2
-shared-slice-read-is-legal-2 c = search needs
-
 is-legal-requires : tie.Need-is-legal-requires
-is-legal-requires c κs = search needs
+is-legal-requires c κs = c .before .before .before .before .before .before .pre .1 .1 .1 .1 .1 .1 .cell .long
 
 returns : tie.Need-returns
 returns c = λ l t k p s w number h. wrong-load h number _ (c .before .is-legal .ensures) (not-true _ (c .if1 .taken))
@@ -111,8 +105,6 @@ take-match-spec =
     cast-load
     mul-delay
     element-copy-out-delay
-    shared-slice-read-is-legal
-    shared-slice-read-is-legal-2
     is-legal-requires
     returns
     measure-requires

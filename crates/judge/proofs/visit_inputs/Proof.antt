@@ -5,8 +5,9 @@ use Rattle.covers.specs.Inside.Curve.{base}
 use mathlib.Core.Path.{_≡_, sym, subst}
 use Rattle.sheets_rules.specs.Model.{Library}
 use Rattle.covers.specs.Match.{Match}
+use Rattle.cells.specs.Inside.Cell.{PinSafe, slowest}
 use Rattle.judge_rules.specs.Walk.{Walk}
-use Rattle.judge.specs.Inside.Promises.{slowest, WalkStored, Entering}
+use Rattle.judge.specs.Inside.Promises.{WalkStored, Entering}
 use Rattle.judge.proofs.Entering.{from, from-none, InputRead, input-read}
 use Rattle.judge.proofs.visit_inputs.Statement.{statement}
 use Rattle.judge.proofs.visit_inputs.Tie as tie
@@ -34,6 +35,10 @@ next-kept c l m w h =
     let same : i .k ≡ i .k - 1 + 1 = omega (arith, c .loop-test .taken) in
     subst (λ (j : ℕ). WalkStored (from h j) (i .next)) same (i .inv .1 l m w h)
 
+-- The pin's figures are within the limits.
+safe : (c : tie.After-pin-figures Inv-loop μ-loop) → PinSafe (c .pin-figures .result)
+safe c = subst PinSafe (sym (c .pin-figures .ensures)) (at-input (c .before .before .before) .safe)
+
 loop-holds : tie.Need-loop-holds Inv-loop μ-loop
 loop-holds c = (omega arith, λ l m w h. subst (λ (v : Walk). WalkStored v (c .before .before .args .walk)) (sym (from-none h)) (h .kept))
 
@@ -46,75 +51,43 @@ element-copy-out-node c = at-input c .k-small
 cast-node : tie.Need-cast-node Inv-loop μ-loop
 cast-node c = let b = at-input (c .before) in omega (arith, b .node-small)
 
-element-copy-out-figures : tie.Need-element-copy-out-figures Inv-loop μ-loop
-element-copy-out-figures c = at-input (c .before) .k-small
+element-copy-out-pin-figures : tie.Need-element-copy-out-pin-figures Inv-loop μ-loop
+element-copy-out-pin-figures c = at-input (c .before) .k-small
 
-cast-figures : tie.Need-cast-figures Inv-loop μ-loop
-cast-figures c = let b = at-input (c .before .before) in omega (arith, b .pin-small)
+cast-pin-figures : tie.Need-cast-pin-figures Inv-loop μ-loop
+cast-pin-figures c = let b = at-input (c .before .before) in omega (arith, b .pin-small)
 
-mul-figures : tie.Need-mul-figures Inv-loop μ-loop
-mul-figures c = let b = at-input (c .before .before) in omega (arith, b .pin-small)
+pin-figures-requires : tie.Need-pin-figures-requires Inv-loop μ-loop
+pin-figures-requires c κs = let b = at-input (c .before .before) in (b .long, b .pin-small)
 
-add-figures : tie.Need-add-figures Inv-loop μ-loop
-add-figures c = let b = at-input (c .before .before) in omega (arith, b .pin-small)
+delay-requires : tie.Need-delay-requires Inv-loop μ-loop
+delay-requires c κs = (safe c, c .before .before .before .before .before .before .before .pre .1 .1 .1 .light)
 
-add-own : tie.Need-add-own Inv-loop μ-loop
-add-own c = let b = at-input (c .before .before) in omega (arith, b .pin-small)
-
-mul-own : tie.Need-mul-own Inv-loop μ-loop
-mul-own c = let b = at-input (c .before .before) in omega (arith, b .pin-small)
-
-shared-slice-read-own : tie.Need-shared-slice-read-own Inv-loop μ-loop
-shared-slice-read-own c = let b = at-input (c .before .before .before) in omega (arith, b .pin-small, b .long)
-
-add-added : tie.Need-add-added Inv-loop μ-loop
-add-added c = let b = at-input (c .before .before .before) in omega (arith, b .pin-small)
-
-mul-added : tie.Need-mul-added Inv-loop μ-loop
-mul-added c = let b = at-input (c .before .before .before) in omega (arith, b .pin-small)
-
-shared-slice-read-added : tie.Need-shared-slice-read-added Inv-loop μ-loop
-shared-slice-read-added c = let b = at-input (c .before .before .before .before) in omega (arith, b .pin-small, b .long)
-
-add-added-2 : tie.Need-add-added-2 Inv-loop μ-loop
-add-added-2 c = let b = at-input (c .before .before .before .before) in omega (arith, b .pin-small)
-
-mul-added-2 : tie.Need-mul-added-2 Inv-loop μ-loop
-mul-added-2 c = let b = at-input (c .before .before .before .before) in omega (arith, b .pin-small)
-
-shared-slice-read-added-2 : tie.Need-shared-slice-read-added-2 Inv-loop μ-loop
-shared-slice-read-added-2 c = let b = at-input (c .before .before .before .before .before) in omega (arith, b .pin-small, b .long)
-
-mul-added-3 : tie.Need-mul-added-3 Inv-loop μ-loop
-mul-added-3 c = let b = at-input (c .before .before .before .before .before) in omega (arith, b .delay-small)
-
-add-added-3 : tie.Need-add-added-3 Inv-loop μ-loop
-add-added-3 c = let b = at-input (c .before .before .before .before .before) in omega (arith, b .intrinsic-small, b .delay-small)
+add-later : tie.Need-add-later Inv-loop μ-loop
+add-later c = omega (arith, c .delay .ensures .1, near (c .before .before .before .before))
 
 mul-visit : tie.Need-mul-visit Inv-loop μ-loop
-mul-visit c = let b = at-input (c .before .before .before .before .before) in omega (arith, b .node-small)
+mul-visit c = let b = at-input (c .before .before .before .before) in omega (arith, b .node-small)
 
 shared-slice-read-visit : tie.Need-shared-slice-read-visit Inv-loop μ-loop
-shared-slice-read-visit c = let b = at-input (c .before .before .before .before .before .before) in omega (arith, b .node-small, b .symbols-long)
-
-add-visit : tie.Need-add-visit Inv-loop μ-loop
-add-visit c = let b = at-input (c .before .before .before .before .before .before) in omega (arith, b .intrinsic-small, b .delay-small, near (c .before .before .before .before .before .before))
+shared-slice-read-visit c = let b = at-input (c .before .before .before .before .before) in omega (arith, b .node-small, b .symbols-long)
 
 visit-requires : tie.Need-visit-requires Inv-loop μ-loop
 visit-requires c κs =
-    let q = c .before .before .before .before .before .before in
+    let q = c .before .before .before .before .before in
     let b = at-input q in
     let p = q .before .before .before .before .pre in
-    (b .symbol-small, omega (arith, b .room, next-kept q (p .0) (p .1 .0) (p .1 .1 .0) (p .1 .1 .1) .count-is), b .node-small, b .load-small, omega (arith, b .intrinsic-small, b .delay-small, near q))
+    (b .symbol-small, omega (arith, b .room, next-kept q (p .0) (p .1 .0) (p .1 .1 .0) (p .1 .1 .1) .count-is), b .node-small, safe (c .before .before) .load, omega (arith, c .before .delay .ensures .1, near q))
 
 loop-less : tie.Need-loop-less Inv-loop μ-loop
-loop-less c = omega (arith, c .before .before .before .before .before .before .before .loop-test .taken)
+loop-less c = omega (arith, c .before .before .before .before .before .before .loop-test .taken)
 
 loop-again : tie.Need-loop-again Inv-loop μ-loop
 loop-again c =
-    let q = c .before .before .before .before .before .before .before in (
+    let q = c .before .before .before .before .before .before in (
       omega (arith, q .before .loop .inv .0),
-      λ l m w h. input-read h (q .before .loop .k - 1) (omega (arith, q .before .loop .inv .0, q .loop-test .taken)) .kept (next-kept q l m w h) (c .visit .ensures),
+      λ l m w h.
+          input-read h (q .before .loop .k - 1) (omega (arith, q .before .loop .inv .0, q .loop-test .taken)) .kept (next-kept q l m w h) (c .before .before .before .pin-figures .ensures) (c .before .before .delay .ensures .0) (c .visit .ensures),
     )
 
 returns : tie.Need-returns Inv-loop μ-loop
@@ -133,24 +106,13 @@ visit-inputs-spec =
     sub-k
     element-copy-out-node
     cast-node
-    element-copy-out-figures
-    cast-figures
-    mul-figures
-    add-figures
-    add-own
-    mul-own
-    shared-slice-read-own
-    add-added
-    mul-added
-    shared-slice-read-added
-    add-added-2
-    mul-added-2
-    shared-slice-read-added-2
-    mul-added-3
-    add-added-3
+    element-copy-out-pin-figures
+    cast-pin-figures
+    pin-figures-requires
+    delay-requires
+    add-later
     mul-visit
     shared-slice-read-visit
-    add-visit
     visit-requires
     loop-less
     loop-again

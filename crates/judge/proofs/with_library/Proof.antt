@@ -1,15 +1,23 @@
 use borrow.Author.Needs.{needs}
+use mathlib.Core.Path.{sym, subst, _∙_}
+use Rattle.fields.specs.declared.Finding.{Finding}
 use Rattle.fields.specs.Reading.{start}
-use Rattle.sheets_rules.specs.TreeSheet.{tree as treeOf}
+use Rattle.fields.specs.Inside.Promises.{Says}
+use Rattle.fields.proofs.Answer.{after-success, after-refused, says-bounded}
+use Rattle.sheets_rules.specs.Report.{treeSaid}
+use Rattle.sheets_rules.specs.Inside.Sound.{TreeStored}
 use Rattle.covers.specs.CoverSheet.{coverRead}
-use Rattle.overlay.proofs.Sheets.{tree-laid}
+use Rattle.overlay.proofs.Sheets.{sheets-stored}
 use Rattle.judge_rules.specs.Judgement.{coverJudged}
-use Rattle.judge.proofs.Judged.{tree-answered, tree-refused, tree-bounded}
+use Rattle.judge_rules.specs.Public.{ofCoverJudged}
 use Rattle.judge.proofs.with_library.Statement.{statement}
 use Rattle.judge.proofs.with_library.Tie as tie
 
 read-tree-requires : tie.Need-read-tree-requires
 read-tree-requires c κs = search needs
+
+enum-known-finding : tie.Need-enum-known-finding
+enum-known-finding c = search needs
 
 enum-told : tie.Need-enum-told
 enum-told c = search needs
@@ -18,38 +26,24 @@ with-tree-requires : tie.Need-with-tree-requires
 with-tree-requires c κs =
     let first = c .before .before .before .before .before in
     let read = c .before .before .read-tree in
-    let told = c .enum-told .given in
-    let p = first .pre in
-    (p .0, (treeOf (first .args .tree .now) start .0, tree-laid (first .args .tree .now) (read .result) (read .ensures) (p .1) (told .0 .0) (told .1)))
-
-enum-known-scan : tie.Need-enum-known-scan
-enum-known-scan c = search needs
-
-tree-number-requires : tie.Need-tree-number-requires
-tree-number-requires c κs = search needs
+    let said = subst (λ (q : Finding). Says TreeStored (treeSaid (first .args .tree .now)) q (read .result .tree)) (c .enum-told .given .1) (read .ensures) in
+    (first .pre .0, (said .0, sheets-stored (first .pre .1) (said .2)))
 
 returns : tie.Need-returns
+unfolding ofCoverJudged
 returns c =
-    let first = c .before .before .before .before .before .before in
+    let a = c .before .before .before .before .before .before .args in
     let read = c .before .before .before .read-tree in
-    let told = c .before .enum-told .given in
-    let ts = first .args .tree .now in
-    let call = c .with-tree in (
-      λ l h. tree-answered ts (read .result) (read .ensures) (coverJudged (coverRead (first .args .cover .now) start) l) (call .result) (told .0 .0) (told .1)
-          (call .ensures .0 l (treeOf ts start .0) (tree-laid ts (read .result) (read .ensures) h (told .0 .0) (told .1))),
-      call .ensures .1,
-    )
+    let told = c .before .finding .given in
+    let said = subst (λ (q : Finding). Says TreeStored (treeSaid (a .tree .now)) q (read .result .tree)) (told .1) (read .ensures) in
+    (λ l h. sym (after-refused (coverJudged (coverRead (a .cover .now) start) l) (said .0)), says-bounded TreeStored (treeSaid (a .tree .now)) (read .result .finding) (read .result .tree) (read .ensures))
 
 returns-2 : tie.Need-returns-2
 returns-2 c =
-    let first = c .before .before .before .before .before .before .before in
-    let read = c .before .before .before .before .read-tree in
-    let told = c .before .before .scan .given in
-    let ts = first .args .tree .now in
-    let number = c .tree-number in (
-      λ l h. tree-refused ts (read .result) (read .ensures) (coverJudged (coverRead (first .args .cover .now) start) l) (told .0 .0) (told .0 .1 .0) (number .result) (told .1) (number .ensures .0),
-      tree-bounded ts (read .result) (read .ensures) (told .0 .0) (told .0 .1 .0) (number .result) (told .1) (number .ensures .1),
-    )
+    let a = c .before .before .before .before .before .before .args in
+    let read = c .before .before .before .read-tree in
+    let said = subst (λ (q : Finding). Says TreeStored (treeSaid (a .tree .now)) q (read .result .tree)) (c .before .enum-told .given .1) (read .ensures) in
+    (λ l h. c .with-tree .ensures l (said .0) (sheets-stored h (said .2)) ∙ sym (after-success (coverJudged (coverRead (a .cover .now) start) l) (said .1)), says-bounded TreeStored (treeSaid (a .tree .now)) (read .result .finding) (read .result .tree) (read .ensures))
 
 pub with-library-spec : {M : Type 1} → statement M
-with-library-spec = tie.close (tie.spec read-tree-requires enum-told with-tree-requires enum-known-scan tree-number-requires returns returns-2)
+with-library-spec = tie.close (tie.spec read-tree-requires enum-known-finding enum-told with-tree-requires returns returns-2)

@@ -1,5 +1,5 @@
 use borrow.Author.Needs.{needs}
-use Rattle.judge.proofs.Judged.{cover-answered, cover-bounded, cover-not-read, cover-unread-bounded}
+use Rattle.judge.proofs.Judged.{cover-answered, cover-not-read}
 use Rattle.judge.proofs.with_tree.Statement.{statement}
 use Rattle.judge.proofs.with_tree.Tie as tie
 
@@ -16,25 +16,18 @@ enum-known-scan : tie.Need-enum-known-scan
 enum-known-scan c = search needs
 
 returns : tie.Need-returns
-returns c =
+returns c = λ l t h.
     let first = c .before .before .before .before .before in
     let read = c .before .before .before .read-cover in
     let told = c .before .enum-told .given in
-    let cs = first .args .cover .now in
-    let r = c .with-records .result in
-    let p = first .pre in (
-      λ l t h. cover-answered cs (read .result) (read .ensures) l t r (told .0 .0) (told .1) (c .with-records .ensures l t h),
-      cover-bounded cs (read .result) (read .ensures) (p .0) (p .1 .0) r (told .0 .0) (told .1) (c .with-records .ensures (p .0) (p .1 .0) (p .1 .1)),
-    )
+    cover-answered (first .args .cover .now) (read .result) (read .ensures) l t (c .with-records .result) (told .0 .0) (told .1) (c .with-records .ensures l t h)
 
 returns-2 : tie.Need-returns-2
-returns-2 c =
-    let cs = c .before .before .before .before .before .args .cover .now in
+returns-2 c = λ l t h.
+    let first = c .before .before .before .before .before in
     let read = c .before .before .before .read-cover in
-    let told = c .before .scan .given in (
-      λ l t h. cover-not-read cs (read .result) (read .ensures) l t (told .0 .0) (told .0 .1 .0) (told .1),
-      cover-unread-bounded cs (read .result) (read .ensures) (told .0 .0) (told .0 .1 .0) (told .1),
-    )
+    let told = c .before .scan .given in
+    cover-not-read (first .args .cover .now) (read .result) (read .ensures) l t (told .0 .0) (told .0 .1 .0) (told .1)
 
 pub with-tree-spec : {M : Type 1} → statement M
 with-tree-spec = tie.close (tie.spec read-cover-requires enum-told with-records-requires enum-known-scan returns returns-2)

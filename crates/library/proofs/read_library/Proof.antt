@@ -1,3 +1,4 @@
+use borrow.Author.Needs.{needs}
 use mathlib.Core.Path.{refl}
 use mathlib.Core.Logic.{inl}
 use Rattle.library.proofs.Whole.{library-is}
@@ -10,10 +11,13 @@ slice-aggregate-read-sheet c = refl
 read-sheet-requires : tie.Need-read-sheet-requires
 read-sheet-requires c κs = inl refl
 
+finding-of-requires : tie.Need-finding-of-requires
+finding-of-requires c κs = search needs
+
 returns : tie.Need-returns
 returns c =
-    let read = c .before .before .read-sheet in
-    library-is (c .before .before .before .before .before .args .s .now) (read .last .1 .0) (read .result) (read .ensures)
+    let read = c .before .before .before .read-sheet in
+    library-is (c .before .before .before .before .before .before .args .s .now) (read .last .1 .0) (read .result) (c .finding-of .result) (read .ensures) (c .finding-of .ensures)
 
 pub read-library-spec : {M : Type 1} → statement M
-read-library-spec = tie.close (tie.spec slice-aggregate-read-sheet read-sheet-requires returns)
+read-library-spec = tie.close (tie.spec slice-aggregate-read-sheet read-sheet-requires finding-of-requires returns)

@@ -1,15 +1,23 @@
 use borrow.Author.Needs.{needs}
-use Rattle.sheets_rules.specs.TreeSheet.{tree as treeOf}
-use Rattle.fields.specs.Reading.{start}
-use Rattle.covers.specs.Capacity.{capacity}
+use Prim.Native.Nat.{ℕ}
+use mathlib.Core.Path.{_≡_, sym, subst, _∙_}
+use Rattle.fields.specs.declared.Finding.{Finding}
+use Rattle.fields.specs.Inside.Promises.{Says}
+use Rattle.sheets_rules.specs.Report.{treeSaid}
+use Rattle.sheets_rules.specs.Inside.Sound.{TreeStored}
+use Rattle.overlay.proofs.Sheets.{sheets-stored}
+use Rattle.map.proofs.Laws.{task-operated}
+use Rattle.map_rules.specs.Public.{ofReply}
+use Rattle.map_rules.proofs.Laws.{sparing-tree, followed, stopped}
 use Rattle.map.specs.Inside.Promises.{taskAnswer}
-use Rattle.overlay.proofs.Sheets.{tree-laid}
-use Rattle.map.proofs.Laws.{tree-answered, tree-not-sound}
 use Rattle.map.proofs.with_library.Statement.{statement}
 use Rattle.map.proofs.with_library.Tie as tie
 
 read-tree-requires : tie.Need-read-tree-requires
 read-tree-requires c κs = search needs
+
+enum-known-finding : tie.Need-enum-known-finding
+enum-known-finding c = search needs
 
 enum-told : tie.Need-enum-told
 enum-told c = search needs
@@ -17,16 +25,19 @@ enum-told c = search needs
 with-records-requires : tie.Need-with-records-requires
 with-records-requires c κs =
     let first = c .before .before .before .before .before .before .before .before in
+    let p = first .pre in
     let read = c .before .before .before .before .read-tree in
-    let told = c .before .before .enum-told .given in
-    let p = first .pre .2 in
-    (first .pre .0, first .pre .1, (p .0, (treeOf (first .args .tree .now) start .0, tree-laid (first .args .tree .now) (read .result) (read .ensures) (p .1) (told .0 .0) (told .1))))
+    let said = subst (λ (q : Finding). Says TreeStored (treeSaid (first .args .tree .now)) q (read .result .tree)) (c .before .before .enum-told .given .1) (read .ensures) in
+    (p .0, p .1, (p .2 .0, (said .0, sheets-stored (p .2 .1) (said .2))))
 
-enum-known-scan : tie.Need-enum-known-scan
-enum-known-scan c = search needs
-
-tree-number-requires : tie.Need-tree-number-requires
-tree-number-requires c κs = search needs
+returns : tie.Need-returns
+unfolding ofReply
+returns c l stored e =
+    let a = c .before .before .before .before .before .before .before .args in
+    let read = c .before .before .before .read-tree in
+    let told = c .before .finding .given in
+    let said = subst (λ (q : Finding). Says TreeStored (treeSaid (a .tree .now)) q (read .result .tree)) (told .1) (read .ensures) in
+    stopped (taskAnswer (a .task) (a .most) l) (told .0 .0) (a .output .now) (a .work .now) (sparing-tree (a .tree .now)) (said .0) (said .1)
 
 same-length : tie.Need-same-length
 same-length c = search needs
@@ -34,32 +45,23 @@ same-length c = search needs
 same-length-2 : tie.Need-same-length-2
 same-length-2 c = search needs
 
-returns : tie.Need-returns
-returns c l laid =
-    let first = c .before .before .before .before .before .before .before .before .before .before .before .before .before in
-    let read = c .before .before .before .before .before .before .before .before .before .read-tree in
-    let told = c .before .before .before .before .before .before .before .enum-told .given in
-    let call = c .before .before .before .before .with-records in
-    let ts = first .args .tree .now in
-    tree-answered ts (read .result) (read .ensures) (first .args .task) l (told .0 .0) (told .1) (call .ensures .1 l (treeOf ts start .0) (tree-laid ts (read .result) (read .ensures) laid (told .0 .0) (told .1))) (call .ensures .0)
-
 returns-2 : tie.Need-returns-2
-returns-2 c l laid =
-    let first = c .before .before .before .before .before .before .before .before in
-    let read = c .before .before .before .before .read-tree in
-    let told = c .before .before .scan .given in
-    tree-not-sound (first .args .tree .now) (read .result) (read .ensures) (taskAnswer (first .args .task) capacity l) (first .args .output .now) (first .args .work .now) (told .0 .0) (told .0 .1 .0) (c .tree-number .result) (told .1) (c .tree-number .ensures .0)
+returns-2 c l stored e =
+    let a = c .before .before .before .before .before .before .before .before .before .before .before .before .before .args in
+    let read = c .before .before .before .before .before .before .before .before .before .read-tree in
+    let call = c .before .before .before .before .with-records in
+    let said = subst (λ (q : Finding). Says TreeStored (treeSaid (a .tree .now)) q (read .result .tree)) (c .before .before .before .before .before .before .before .enum-told .given .1) (read .ensures) in
+    followed (taskAnswer (a .task) (a .most) l) (said .1) (task-operated (a .task) l (said .0) e (call .ensures .1 l (said .0) (sheets-stored stored (said .2))) (call .ensures .0))
 
 pub with-library-spec : {M : Type 1} → statement M
 with-library-spec =
     tie.close
     (tie.spec
     read-tree-requires
+    enum-known-finding
     enum-told
     with-records-requires
-    enum-known-scan
-    tree-number-requires
+    returns
     same-length
     same-length-2
-    returns
     returns-2)

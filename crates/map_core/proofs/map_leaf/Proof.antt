@@ -2,7 +2,7 @@ use borrow.Author.Needs.{needs}
 use mathlib.Core.Path.{ap, _∙_}
 use native.Mathlib.Omega.{arith}
 use Rattle.result_sheets.specs.declared.CoverRecord.{CoverRecord}
-use Rattle.map_core.specs.declared.Finding.the-variants.{Found}
+use Rattle.fields.specs.declared.Finding.the-variants.{Found}
 use Rattle.map_core.specs.declared.Mapped.{Mapped}
 use Rattle.map_core.specs.Inside.Found.{ofMapped, bareCover, refusedWith}
 use Rattle.map_core.proofs.Root.{leaf-late, leaf-timely}

@@ -2,19 +2,19 @@
 use Prim.Native.Nat.{ℕ}
 use mathlib.Core.List.{List}
 use lib.ListN.{replicate}
-use Rattle.fields.specs.Answer.{Answer, refused, success}
+use Rattle.fields.specs.Answer.{Answer, refusal, success}
 use Rattle.covers.specs.Cover.{Point, Cover}
 use Rattle.result_sheets.specs.declared.CoverRecord.{CoverRecord}
 use Rattle.result_sheets.specs.Public.{coverOf}
 use Rattle.result_sheets.specs.Inside.Promises.{pointsOf}
-use Rattle.map_core.specs.declared.Finding.{Finding}
-use Rattle.map_core.specs.declared.Finding.the-variants.{Refused, Found}
+use Rattle.fields.specs.declared.Finding.{Finding}
+use Rattle.fields.specs.declared.Finding.the-variants.{Refused, Found}
 use Rattle.map_core.specs.declared.Mapped.{Mapped}
 use Rattle.map_core.specs.declared.Listed.{Listed}
 
--- Each case of the enum: document 01's number and place, or what was found.
+-- Each case of the enum: the refusal, or what was found.
 unfoldable pub ofFinding : {A : Type 0} → A → Finding → Answer A
-ofFinding a (Refused number place) = refused number place
+ofFinding a (Refused r) = refusal r
 ofFinding a Found = success a
 
 unfoldable pub ofMapped : Mapped → Answer Cover
@@ -31,4 +31,4 @@ unfoldable pub bareCover : (area arrival : ℕ) → CoverRecord
 bareCover area arrival = record { area = area; arrival = arrival; count = 0; nodes = replicate 64 0; patterns = replicate 64 0; crossings = replicate 64 0 }
 
 unfoldable pub refusedWith : (number place : ℕ) → Mapped
-refusedWith number place = record { finding = Refused number place; cover = bareCover 0 0 }
+refusedWith number place = record { finding = Refused (record { item = 0; number = number; place = place }); cover = bareCover 0 0 }

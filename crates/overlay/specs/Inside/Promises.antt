@@ -1,5 +1,5 @@
 -- What the functions of this crate are lent and what they promise, and when tables and records hold a sound library and a sound tree.
-use Prim.Native.Nat.{ℕ, _+_, _-_, _*_, _/_, _%_, _^_, _≤_, _<_, max}
+use Prim.Native.Nat.{ℕ, _+_, _-_, _/_, _%_, _^_, _≤_, _<_, max}
 use mathlib.Core.Path.{_≡_}
 use mathlib.Core.Logic.{_≢_}
 use mathlib.Core.Bool.{Bool, true, false, cond}
@@ -10,32 +10,18 @@ use lib.Dec.{eqb}
 use Rattle.shapes_rules.specs.Shape.{symbols, sizes}
 use Rattle.sheets_rules.specs.declared.LibraryRecord.{LibraryRecord}
 use Rattle.sheets_rules.specs.declared.TreeRecord.{TreeRecord}
-use Rattle.sheets_rules.specs.Model.{Leaf, pinOf, Shape, size, leaves, nands, Pin, Cell, Library, Pattern, Tree}
+use Rattle.sheets_rules.specs.Model.{Leaf, pinOf, Shape, size, leaves, nands, Library, Pattern, Tree}
 use Rattle.sheets_rules.specs.Inside.Sound.{SoundCell, SoundLibrary, SoundTree}
 pub use Rattle.sheets_rules.specs.Inside.Sound.{LibraryStored}
-use Rattle.sheets_rules.specs.Inside.Layout.{padded, heldAt, areaAt, highestAt, pinWords, figuresAt, rowWords, patternTable, treeLaid}
+use Rattle.sheets_rules.specs.Inside.Layout.{padded, rowWords, patternTable, treeLaid}
 use Rattle.covers.specs.Crossing.{exchanged, redrawn}
-use Rattle.covers.specs.Match.{Input, Match, laid, pinAt, pinLoad}
+use Rattle.covers.specs.Match.{Input, Match, laid}
+use Rattle.cells.specs.Inside.Cell.{CellStored}
 use Rattle.overlay.specs.declared.Left.{Left}
 use Rattle.overlay.specs.declared.Walked.{Walked}
 use Rattle.overlay.specs.Inside.Standing.{Subject, DrawingStored, Drawn}
 
 -- ---- a pattern's row
-
--- The row holds, from a word on, the figures of a pin of the library l.
-pub record PinStored (l : Library) (row : List ℕ) (at : ℕ) (p : Pin) : Type 0 where
-  pub bin-is : getD row at 0 ≡ p .bin
-  pub load-is : getD row (at + 1) 0 ≡ pinLoad l p
-  pub intrinsic-is : getD row (at + 2) 0 ≡ p .intrinsic
-  pub drive-is : getD row (at + 3) 0 ≡ p .drive
-
--- The row holds the cell c of the library l: after the cell's number its hold mark, area and highest load, and its pins from a word on.
-pub record CellStored (l : Library) (row : List ℕ) (c : Cell) : Type 0 where
-  pub long : length row ≡ rowWords
-  pub held-is : getD row heldAt 0 ≡ cond (c .held) 1 0
-  pub area-is : getD row areaAt 0 ≡ c .area
-  pub highest-is : getD row highestAt 0 ≡ c .highest
-  pub pins-are : (k : ℕ) → k < length (c .pins) → PinStored l row (figuresAt + pinWords * k) (pinAt c k)
 
 -- The row holds the pattern p of the library l.
 pub record PatternStored (l : Library) (row : List ℕ) (p : Pattern) : Type 0 where
@@ -107,6 +93,10 @@ pub record WalkIs (d s : Shape) (n crossing : ℕ) (r : Walked) : Type 0 where
   pub found-is : WalkedIs (laid (redrawn crossing d) n s) r
   pub used-few : r .used ≤ nands d
   pub ruled-out : r .matched ≡ false → (y : ℕ) → SameBits (r .used) crossing y → laid (redrawn y d) n s ≡ none
+
+-- The drawing in a row walked over the subtree at node n, whichever these are.
+abbrev pub DrawingWalked : (row words : List ℕ) → (crossing : ℕ) → (ss zs : List ℕ) → (n : ℕ) → Walked → Type 0
+DrawingWalked row words crossing ss zs n r = (d s : Shape) → Walkable row words ss zs n d s → WalkIs d s n crossing r
 
 -- A match as the walk found it, with its pattern's row.
 pub record MatchStored (l : Library) (walked : Walked) (row : List ℕ) (m : Match) : Type 0 where

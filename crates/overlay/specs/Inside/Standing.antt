@@ -7,6 +7,7 @@ use Rattle.shapes_rules.specs.Shape.{symbols as symbolsOf, invSymbol, nandSymbo
 use Rattle.sheets_rules.specs.Model.{Shape, leaf, inv, nand, size, nands}
 use Rattle.sheets_rules.specs.Inside.Layout.{sizeAt, symbolsAt, rowWords}
 use Rattle.covers.specs.Tradeoff.{Node, nodes}
+use Rattle.overlay.specs.declared.Extents.{Extents}
 
 module _ (symbols sizes : List ℕ) where
   -- From node n on: a NAND's second branch stands after all of its first.
@@ -39,12 +40,20 @@ pub record Measured (d : Shape) (words : List ℕ) : Type 0 where
   pub long : length words ≡ 16
   pub each : (x : Node) → List·Memᴰ x (nodes 0 d) → getD words (x .number) 0 ≡ extent (x .shape)
 
+-- The extents of the drawing in a row, whichever it is.
+abbrev pub DrawingMeasured : (row : List ℕ) → Extents → Type 0
+DrawingMeasured row r = (d : Shape) → DrawingStored row d → size d ≤ 16 → Measured d (r .words)
+
 -- Node k is the shape s, by its symbol, and the extents of the nodes after it are there.
 abbrev pub Extending : ℕ → List ℕ → ℕ → Shape → Type 0
 Extending symbol words k (leaf x) = symbol ≡ leafSymbol x
 Extending symbol words k (inv p) = (symbol ≡ invSymbol) × (k + 1 < 16) × (length words ≡ 16) × (getD words (k + 1) 0 ≡ extent p)
 Extending symbol words k (nand p q) =
     (symbol ≡ nandSymbol) × (k + 1 + size p < 16) × (length words ≡ 16) × (getD words (k + 1) 0 ≡ extent p) × (getD words (k + 1 + size p) 0 ≡ extent q)
+
+-- The extent of node k, whichever shape it is.
+abbrev pub ExtentFound : (symbol : ℕ) → (words : List ℕ) → (k : ℕ) → ℕ → Type 0
+ExtentFound symbol words k r = (s : Shape) → Extending symbol words k s → r ≡ extent s
 
 -- The row and the extents hold the shape from node k of a drawing on.
 module _ (row words : List ℕ) where

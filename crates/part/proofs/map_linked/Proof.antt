@@ -32,7 +32,7 @@ map-one-requires c κs =
     let told = c .before .enum-told .given in
     let stored = p .3 .1 in
     let is = subst (λ (q : Lateness). LinkedIs f (stored .0) q (c .before .before .before .link-tree .result .tree)) (told .1) (c .before .before .before .link-tree .ensures (stored .0) f (stored .2) (stored .3) (λ n small. refl)) in
-    (p .0, (p .3 .0, (knownTree f (stored .0), stored .1, early-sound (p .3 .0) f (stored .0) (stored .2) (is .0), is .1)))
+    (p .0, (p .3 .0, (knownTree f (stored .0), stored .1, early-sound (a .most) (p .3 .0) f (stored .0) (stored .2) (is .0), is .1)))
 
 returns : tie.Need-returns
 returns c =
@@ -40,8 +40,8 @@ returns c =
     let a = first .args in
     let call = c .before .before .before .before .link-tree in
     let told = c .before .before .lateness .given in (
-      zeros-cleared (a .work .now) (first .pre .0),
-      λ l t f rows sound e brings. let is = subst (λ (q : Lateness). LinkedIs f t q (call .result .tree)) (told .1) (call .ensures t f sound e brings) in linked-late l f t (told .0 .0) (c .refuse .result) (omega (arith, is .1)) (is .0) (c .refuse .ensures),
+      zeros-cleared (a .most) (a .work .now) (first .pre .0),
+      λ l t f rows sound e brings. let is = subst (λ (q : Lateness). LinkedIs f t q (call .result .tree)) (told .1) (call .ensures t f sound e brings) in linked-late (a .most) l f t (told .0 .0) (c .refuse .result) (omega (arith, is .1)) (is .0) (c .refuse .ensures),
     )
 
 same-length : tie.Need-same-length
@@ -49,11 +49,12 @@ same-length c = search needs
 
 returns-2 : tie.Need-returns-2
 returns-2 c =
+    let a = c .before .before .before .before .before .before .before .before .before .before .before .args in
     let call = c .before .before .before .before .before .before .link-tree in
     let told = c .before .before .before .before .enum-told .given in
     let one = c .before .before .map-one in (
       one .ensures .0,
-      λ l t f rows sound e brings. let is = subst (λ (q : Lateness). LinkedIs f t q (call .result .tree)) (told .1) (call .ensures t f sound e brings) in linked-early l f t (one .result) sound (is .0) (one .ensures .1 l (knownTree f t) rows (early-sound l f t sound (is .0)) (is .1)),
+      λ l t f rows sound e brings. let is = subst (λ (q : Lateness). LinkedIs f t q (call .result .tree)) (told .1) (call .ensures t f sound e brings) in linked-early (a .most) l f t (one .result) sound (is .0) (one .ensures .1 l (knownTree f t) rows (early-sound (a .most) l f t sound (is .0)) (is .1)),
     )
 
 pub map-linked-spec : {M : Type 1} → statement M

@@ -1,59 +1,59 @@
 use native.Mathlib.Omega.{arith}
-use Rattle.covers.specs.Capacity.{capacity, workWords}
-use Rattle.map_rules.proofs.Laws.{cleared-again}
-use Rattle.part.proofs.Laws.{zeros-first, one-start}
+use Prim.Native.Nat.{ℕ, _-_}
+use mathlib.Core.Path.{_≡_, sym, subst}
+use lib.ListN.{replicate}
 use borrow.Author.Needs.{needs}
+use borrow.Rule.Slice.PartMut.{midOf, same-len-mid}
+use Rattle.covers.specs.Capacity.{workWords}
+use Rattle.matching.specs.Inside.Found.{matchTable}
+use Rattle.filling.specs.Inside.Promises.{FillStart}
+use Rattle.map_rules.proofs.Laws.{cleared-again}
+use Rattle.part.proofs.Laws.{zeros-cleared, one-start}
 use Rattle.part.proofs.map_one.Statement.{statement}
 use Rattle.part.proofs.map_one.Tie as tie
 
-slice-aggregate-map-tree : tie.Need-slice-aggregate-map-tree
-slice-aggregate-map-tree c = search needs
+words-requires : tie.Need-words-requires
+words-requires c κs = c .before .before .pre .0 .allowed .bounded
 
-sub-map-tree : tie.Need-sub-map-tree
-sub-map-tree c = search needs
+sub-solve : tie.Need-sub-solve
+sub-solve c = search needs
 
-part-map-tree-start : tie.Need-part-map-tree-start
-part-map-tree-start c = search needs
+part-solve-start : tie.Need-part-solve-start
+part-solve-start c = search needs
 
-part-map-tree-end : tie.Need-part-map-tree-end
-part-map-tree-end c = search needs
+part-solve-end : tie.Need-part-solve-end
+part-solve-end c = omega (arith, c .before .before .before .pre .0 .long, c .words .ensures)
 
-slice-aggregate-map-tree-2 : tie.Need-slice-aggregate-map-tree-2
-slice-aggregate-map-tree-2 c = search needs
-
-map-tree-requires : tie.Need-map-tree-requires
-map-tree-requires c κs =
-    let first = c .before .before .before .before .before in
+solve-requires : tie.Need-solve-requires
+solve-requires c κs =
+    let first = c .before .before .before .before in
     let a = first .args in
     let p = first .pre .1 in
-    ((p .0, (p .1 .0, one-start (p .0) (p .1 .0) (a .rows .now) (a .bins) (a .tree) (a .work .now) (p .1 .1) (p .1 .2) (p .1 .3) (first .pre .0))), omega arith)
+    let same : c .before .words .result - 0 ≡ workWords (a .most) = omega (arith, c .before .words .ensures) in
+    (p .0, (p .1 .0, subst (λ (k : ℕ). FillStart (p .0) (p .1 .0) (a .rows .now) (a .bins) (a .tree) (a .most) (replicate matchTable 0) (midOf 0 k (a .work .now))) (sym same) (one-start (a .most) (p .0) (p .1 .0) (a .rows .now) (a .bins) (a .tree) (a .work .now) (p .1 .1) (p .1 .2) (p .1 .3) (first .pre .0))))
 
-clear-work-requires : tie.Need-clear-work-requires
-clear-work-requires c κs = search needs
+clear-requires : tie.Need-clear-requires
+clear-requires c κs =
+    let first = c .before .before .before .before .before .before .before .before in
+    let call = c .before .before .before .solve in
+    (first .pre .0 .allowed .bounded, omega (arith, first .pre .0 .long, same-len-mid 0 (c .before .before .before .before .before .words .result - 0) (first .args .work .now) (call .last .1 .1 .1 .1 .1 .0) (call .kept .1 .1 .1 .1 .1 .0)))
 
 same-length : tie.Need-same-length
 same-length c = search needs
 
 returns : tie.Need-returns
 returns c =
-    let first = c .before .before .before .before .before .before .before .before .before .before .before .before .before .before in
+    let first = c .before .before .before .before .before .before .before .before .before .before .before .before in
     let a = first .args in
-    let call = c .before .before .before .before .before .before .before .before .map-tree in
-    let again = c .before .before .clear-work in (
-      cleared-again (workWords capacity) (a .work .now) (a .work .now) (call .last .1 .1 .1 .1 .1 .0) (again .last .0) (zeros-first (a .work .now) (first .pre .0)) (call .kept .1 .1 .1 .1 .1 .0) (first .pre .0 .long) (again .ensures),
-      λ l t rows sound e. call .ensures l t (one-start l t (a .rows .now) (a .bins) (a .tree) (a .work .now) rows sound e (first .pre .0)),
+    let words = c .before .before .before .before .before .before .before .before .before .words in
+    let call = c .before .before .before .before .before .before .before .solve in
+    let again = c .before .before .before .clear in
+    let same : words .result - 0 ≡ workWords (a .most) = omega (arith, words .ensures) in (
+      cleared-again (workWords (a .most)) (words .result - 0) (a .work .now) (a .work .now) (call .last .1 .1 .1 .1 .1 .0) (again .last .0) (omega (arith, words .ensures)) (zeros-cleared (a .most) (a .work .now) (first .pre .0)) (call .kept .1 .1 .1 .1 .1 .0) (first .pre .0 .long) (again .ensures),
+      λ l t rows sound e. call .ensures l t (subst (λ (k : ℕ). FillStart l t (a .rows .now) (a .bins) (a .tree) (a .most) (replicate matchTable 0) (midOf 0 k (a .work .now))) (sym same) (one-start (a .most) l t (a .rows .now) (a .bins) (a .tree) (a .work .now) rows sound e (first .pre .0))),
     )
 
 pub map-one-spec : {M : Type 1} → statement M
 map-one-spec =
     tie.close
-    (tie.spec
-    slice-aggregate-map-tree
-    sub-map-tree
-    part-map-tree-start
-    part-map-tree-end
-    slice-aggregate-map-tree-2
-    map-tree-requires
-    clear-work-requires
-    same-length
-    returns)
+    (tie.spec words-requires sub-solve part-solve-start part-solve-end solve-requires clear-requires same-length returns)

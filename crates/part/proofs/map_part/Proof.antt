@@ -1,45 +1,49 @@
-use native.Mathlib.Omega.{arith}
-use lib.ListN.{length}
-use Rattle.fields.specs.Reading.{start}
-use Rattle.sheets_rules.specs.LibrarySheet.{library as libraryOf}
-use Rattle.sheets_rules.specs.Report.{afterLibrary}
-use Rattle.sheets_rules.proofs.Stored.{library-laid}
-use Rattle.fields.specs.Answer.{success}
-use Rattle.part_rules.specs.Outcome.{partBytes}
-use Rattle.map_rules.proofs.Laws.{short-output, short-work}
-use Rattle.part.proofs.Replies.{worth, part-short, library-answered, library-not-sound}
 use borrow.Author.Needs.{needs}
+use Prim.Native.Nat.{ℕ}
+use mathlib.Core.Path.{_≡_, sym, ap, subst, _∙_}
+use lib.ListN.{length}
+use Rattle.fields.specs.declared.Finding.{Finding}
+use Rattle.fields.specs.Answer.{success}
+use Rattle.fields.specs.Inside.Promises.{Says}
+use Rattle.covers.specs.Lending.{lent}
+use Rattle.map_rules.specs.Public.{ofReply}
+use Rattle.map_rules.proofs.Laws.{sparing-lent, followed, stopped}
+use Rattle.part_rules.specs.Outcome.{partBytes, partOutcome}
+use Rattle.part_rules.proofs.Demands.{maps-part}
+use Rattle.part.specs.Inside.Promises.{sheetsAnswer}
+use Rattle.part.proofs.Replies.{lent-known}
 use Rattle.part.proofs.map_part.Statement.{statement}
 use Rattle.part.proofs.map_part.Tie as tie
 
-returns : tie.Need-returns
-returns c =
-    let a = c .before .before .before .before .before .args in
-    worth (a .library .now) (a .part .now) (a .output .now) (a .work .now) (part-short (a .library .now) (a .part .now) (a .output .now) (a .work .now) (short-output partBytes (length (a .output .now)) (length (a .work .now)) (afterLibrary success (libraryOf (a .library .now) start)) (omega arith)))
+-- What was found of what is lent.
+abbrev Found : ℕ → ℕ → ℕ → Finding → Type 0
+Found output work most q = Says (λ (m n : ℕ). m ≡ n) (lent partBytes output work) q most
 
-returns-2 : tie.Need-returns-2
-returns-2 c =
-    let a = c .before .before .before .before .before .before .args in
-    worth (a .library .now) (a .part .now) (a .output .now) (a .work .now) (part-short (a .library .now) (a .part .now) (a .output .now) (a .work .now) (short-work partBytes (length (a .output .now)) (length (a .work .now)) (afterLibrary success (libraryOf (a .library .now) start)) (omega arith) (omega arith)))
+lend-requires : tie.Need-lend-requires
+lend-requires c κs = search needs
 
-read-library-requires : tie.Need-read-library-requires
-read-library-requires c κs = search needs
+enum-known-finding : tie.Need-enum-known-finding
+enum-known-finding c = search needs
 
 enum-told : tie.Need-enum-told
 enum-told c = search needs
 
-with-library-requires : tie.Need-with-library-requires
-with-library-requires c κs =
-    let a = c .before .before .before .before .before .before .before .before .before .before .before .args in
-    let read = c .before .before .before .before .read-library in
-    let told = c .before .before .enum-told .given in
-    (omega arith, omega arith, (libraryOf (a .library .now) start .0, library-laid (a .library .now) (read .result) (read .ensures) (told .0 .0) (told .1)))
+with-lent-requires : tie.Need-with-lent-requires
+with-lent-requires c κs =
+    let a = c .before .before .before .before .before .before .before .before .before .args in
+    let call = c .before .before .before .before .lend in
+    let said = subst (Found (length (a .output .now)) (length (a .work .now)) (call .result .most)) (c .before .before .enum-told .given .1) (call .ensures) in
+    lent-known (length (a .output .now)) (length (a .work .now)) (said .1) (said .2) .0
 
-enum-known-scan : tie.Need-enum-known-scan
-enum-known-scan c = search needs
-
-library-number-requires : tie.Need-library-number-requires
-library-number-requires c κs = search needs
+returns : tie.Need-returns
+unfolding ofReply partOutcome
+returns c =
+    let a = c .before .before .before .before .before .before .before .before .args in
+    let call = c .before .before .before .lend in
+    let told = c .before .finding .given in
+    let said = subst (Found (length (a .output .now)) (length (a .work .now)) (call .result .most)) (told .1) (call .ensures) in
+    maps-part (a .library .now) (a .part .now) (a .output .now) (a .work .now)
+    (stopped (λ (most : ℕ). sheetsAnswer most (a .library .now) (a .part .now)) (told .0 .0) (a .output .now) (a .work .now) (sparing-lent partBytes (length (a .output .now)) (length (a .work .now))) (said .0) (said .1))
 
 same-length : tie.Need-same-length
 same-length c = search needs
@@ -47,33 +51,16 @@ same-length c = search needs
 same-length-2 : tie.Need-same-length-2
 same-length-2 c = search needs
 
-returns-3 : tie.Need-returns-3
-returns-3 c =
-    let a = c .before .before .before .before .before .before .before .before .before .before .before .before .before .before .before .before .args in
-    let read = c .before .before .before .before .before .before .before .before .before .read-library in
-    let told = c .before .before .before .before .before .before .before .enum-told .given in
-    worth (a .library .now) (a .part .now) (a .output .now) (a .work .now) (library-answered (a .library .now) (a .part .now) (a .output .now) (a .work .now) (omega arith) (omega arith) (read .result) (read .ensures) (told .0 .0) (told .1)
-    (c .before .before .before .before .with-library .ensures (libraryOf (a .library .now) start .0) (library-laid (a .library .now) (read .result) (read .ensures) (told .0 .0) (told .1))))
-
-returns-4 : tie.Need-returns-4
-returns-4 c =
-    let a = c .before .before .before .before .before .before .before .before .before .before .before .args in
-    let read = c .before .before .before .before .read-library in
-    let told = c .before .before .scan .given in
-    worth (a .library .now) (a .part .now) (a .output .now) (a .work .now) (library-not-sound (a .library .now) (a .part .now) (a .output .now) (a .work .now) (omega arith) (omega arith) (read .result) (read .ensures) (told .0 .0) (told .0 .1 .0) (c .library-number .result) (told .1) (c .library-number .ensures .0))
+returns-2 : tie.Need-returns-2
+unfolding partOutcome
+returns-2 c =
+    let a = c .before .before .before .before .before .before .before .before .before .before .before .before .before .before .args in
+    let call = c .before .before .before .before .before .before .before .before .before .lend in
+    let said = subst (Found (length (a .output .now)) (length (a .work .now)) (call .result .most)) (c .before .before .before .before .before .before .before .enum-told .given .1) (call .ensures) in
+    maps-part (a .library .now) (a .part .now) (a .output .now) (a .work .now)
+    (followed (λ (most : ℕ). sheetsAnswer most (a .library .now) (a .part .now)) (said .1 ∙ ap success (said .2)) (c .before .before .before .before .with-lent .ensures (lent-known (length (a .output .now)) (length (a .work .now)) (said .1) (said .2) .1)))
 
 pub map-part-spec : {M : Type 1} → statement M
 map-part-spec =
     tie.close
-    (tie.spec
-    returns
-    returns-2
-    read-library-requires
-    enum-told
-    with-library-requires
-    enum-known-scan
-    library-number-requires
-    same-length
-    same-length-2
-    returns-3
-    returns-4)
+    (tie.spec lend-requires enum-known-finding enum-told with-lent-requires returns same-length same-length-2 returns-2)

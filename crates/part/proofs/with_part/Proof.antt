@@ -3,35 +3,35 @@ use Prim.Native.Nat.{_*_}
 use mathlib.Core.Path.{sym, subst}
 use mathlib.Core.List.{[], List, flatMap}
 use lib.Seq.{length-take-le}
+use Rattle.fields.specs.declared.Finding.{Finding}
+use Rattle.fields.specs.Inside.Promises.{Says}
 use Rattle.sheets_rules.specs.Inside.Layout.{rowWords}
 use Rattle.sheets_rules.proofs.Stored.{table-whole, few-rows}
-use Rattle.covers.specs.Capacity.{capacity}
 use Rattle.covers.specs.Cover.{Cover}
 use Rattle.covers.specs.CoverSheet.{coverSheet}
 use Rattle.result_sheets.specs.Public.{Written}
+use Rattle.map_rules.specs.Public.{ofReply}
 use Rattle.part_rules.specs.Outcome.{coversFrom}
-use Rattle.part_read.specs.declared.PartFinding.{PartFinding}
-use Rattle.part_read.specs.Inside.Decoded.{Says}
 use Rattle.part.specs.Inside.Promises.{CoversStored}
 use Rattle.part.proofs.Replies.{rows-stored, trees-refused, trees-found}
 use borrow.Author.Needs.{needs}
 use Rattle.part.proofs.with_part.Statement.{statement}
 use Rattle.part.proofs.with_part.Tie as tie
 
-mul-words : tie.Need-mul-words
-mul-words c = omega (arith, few-rows (c .before .before .before .before .pre .2 .1 .1))
+mul-filled : tie.Need-mul-filled
+mul-filled c = omega (arith, few-rows (c .before .before .before .before .pre .3 .1 .1))
 
 array-share-prefix-rows : tie.Need-array-share-prefix-rows
-array-share-prefix-rows c = let stored = c .before .before .before .before .before .pre .2 .1 .1 in omega (arith, few-rows stored, table-whole stored)
+array-share-prefix-rows c = let stored = c .before .before .before .before .before .pre .3 .1 .1 in omega (arith, few-rows stored, table-whole stored)
 
 slice-aggregate-map-trees : tie.Need-slice-aggregate-map-trees
 slice-aggregate-map-trees c =
     let first = c .before .before .before .before .before .before in
-    let stored = first .pre .2 .1 .1 in
+    let stored = first .pre .3 .1 .1 in
     sym (length-take-le (rowWords * first .args .library .total) (first .args .library .rows) (omega (arith, few-rows stored, table-whole stored)))
 
 map-trees-requires : tie.Need-map-trees-requires
-map-trees-requires c κs = let p = c .before .before .before .before .before .before .before .pre in (p .1, (p .2 .0, (p .2 .1 .0, rows-stored (p .2 .1 .1), p .2 .1 .2)))
+map-trees-requires c κs = let p = c .before .before .before .before .before .before .before .pre in (p .0, p .2, (p .3 .0, (p .3 .1 .0, rows-stored (p .3 .1 .1), p .3 .1 .2)))
 
 enum-known-finding : tie.Need-enum-known-finding
 enum-known-finding c = search needs
@@ -46,11 +46,13 @@ same-length : tie.Need-same-length
 same-length c = search needs
 
 returns : tie.Need-returns
-returns c l p stored part =
+unfolding ofReply
+returns c l p stored part is =
+    let a = c .before .before .before .before .before .before .before .before .before .before .before .before .before .args in
     let call = c .before .before .before .before .before .map-trees in
     let told = c .before .finding .given in
-    let says = subst (λ (q : PartFinding). Says (CoversStored (c .before .before .before .before .before .before .before .before .before .before .before .before .before .args .part .count)) (coversFrom capacity l (p .links) [] (p .trees)) q (call .result .covers)) (told .1) (call .ensures .1 .1 l p (rows-stored stored) part) in
-    trees-refused l p (call .ensures .0) (says .0) (says .1)
+    let says = subst (λ (q : Finding). Says (CoversStored (a .part .count)) (coversFrom (a .most) l (p .links) [] (p .trees)) q (call .result .covers)) (told .1) (call .ensures .1 .1 l p (rows-stored stored) part) in
+    trees-refused (a .most) l p is (call .ensures .0) (says .0) (says .1)
 
 same-length-2 : tie.Need-same-length-2
 same-length-2 c = search needs
@@ -59,19 +61,20 @@ same-length-3 : tie.Need-same-length-3
 same-length-3 c = search needs
 
 returns-2 : tie.Need-returns-2
-returns-2 c l p stored part =
+unfolding ofReply
+returns-2 c l p stored part is =
     let a = c .before .before .before .before .before .before .before .before .before .before .before .before .before .before .before .before .before .args in
     let call = c .before .before .before .before .before .before .before .before .before .map-trees in
     let told = c .before .before .before .before .before .enum-told .given in
     let put = c .before .before .write-sheets in
-    let says = subst (λ (q : PartFinding). Says (CoversStored (a .part .count)) (coversFrom capacity l (p .links) [] (p .trees)) q (call .result .covers)) (told .1) (call .ensures .1 .1 l p (rows-stored stored) part) in
-    trees-found l p (call .ensures .0) (says .1) (subst (λ (cs : List Cover). Written (flatMap coverSheet cs) (a .output .now) (put .last .0) (put .result)) (says .2 .covers-are) (put .ensures .0)) (put .ensures .1)
+    let says = subst (λ (q : Finding). Says (CoversStored (a .part .count)) (coversFrom (a .most) l (p .links) [] (p .trees)) q (call .result .covers)) (told .1) (call .ensures .1 .1 l p (rows-stored stored) part) in
+    trees-found (a .most) l p is (call .ensures .0) (says .1) (subst (λ (cs : List Cover). Written (flatMap coverSheet cs) (a .output .now) (put .last .0) (put .result)) (says .2 .covers-are) (put .ensures .0)) (put .ensures .1)
 
 pub with-part-spec : {M : Type 1} → statement M
 with-part-spec =
     tie.close
     (tie.spec
-    mul-words
+    mul-filled
     array-share-prefix-rows
     slice-aggregate-map-trees
     map-trees-requires

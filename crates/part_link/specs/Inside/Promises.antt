@@ -8,10 +8,12 @@ use mathlib.Core.Bool.{cond}
 use lib.Dec.{ltb}
 use Rattle.sheets_rules.specs.declared.TreeRecord.{TreeRecord}
 use Rattle.sheets_rules.specs.Model.{Tree}
+use Rattle.sheets_rules.specs.Inside.Sound.{SoundTree}
 use Rattle.sheets_rules.specs.Inside.Layout.{treeLaid}
 use Rattle.part_rules.specs.Part.{knownTree}
 use Rattle.part_rules.specs.Outcome.{lateLeaf, latestLinked}
 use Rattle.part_link.specs.declared.Lateness as Lateness
+use Rattle.part_link.specs.declared.Linked.{Linked}
 use Rattle.shapes_rules.specs.Shape.{leafSymbol}
 use Rattle.leaves.specs.Inside.Leaf.{leafOf}
 use Rattle.part_link.specs.declared.Symbol as Symbol
@@ -29,6 +31,11 @@ brought arrivals driver = Option·map (λ d. getD arrivals d 0) (driverNamed dri
 abbrev pub LinkedIs : (ℕ → Option ℕ) → Tree → Lateness.Lateness → TreeRecord → Type 0
 LinkedIs f t (Lateness.the-variants.Leaf n) r = (lateLeaf f t ≡ some n) × (n < 64)
 LinkedIs f t Lateness.the-variants.Nowhere r = (lateLeaf f t ≡ none) × (r ≡ treeLaid (knownTree f t))
+
+-- What is said of whichever sound tree the record holds, to which the drivers of its nodes bring these arrivals.
+abbrev pub LinksTree : TreeRecord → (drivers arrivals : List ℕ) → Linked → Type 0
+LinksTree tree drivers arrivals r =
+    (t : Tree) (f : ℕ → Option ℕ) → SoundTree t → tree ≡ treeLaid t → ((n : ℕ) → n < 64 → f n ≡ brought arrivals (getD drivers n 0)) → LinkedIs f t (r .lateness) (r .tree)
 
 -- With the arrival that a link brings to it, if it is a leaf.
 unfoldable pub symbolLinked : Option ℕ → ℕ → Symbol.Symbol

@@ -1,5 +1,5 @@
 use native.Mathlib.Omega.{arith}
-use Rattle.part_rules.specs.Answer.{PartBounded}
+use Rattle.fields.specs.Answer.{Bounded}
 use Rattle.part_read.proofs.Links.{not-leaf, leaf-taken, not-lower, right}
 use borrow.Author.Needs.{needs}
 use Rattle.part_read.proofs.judge_link.Statement.{statement}
@@ -24,15 +24,15 @@ array-read-if1 : tie.Need-array-read-if1
 array-read-if1 c = search needs
 
 returns : tie.Need-returns
-unfolding PartBounded
+unfolding Bounded
 returns c = ((λ trees before x h. not-leaf h (omega arith)), (omega arith, omega arith, omega arith, omega (arith, c .before .before .before .pre)))
 
 returns-2 : tie.Need-returns-2
-unfolding PartBounded
+unfolding Bounded
 returns-2 c = ((λ trees before x h. leaf-taken h (omega arith) (c .if2 .taken)), (omega arith, omega arith, omega arith, omega (arith, c .before .before .before .before .pre)))
 
 returns-3 : tie.Need-returns-3
-unfolding PartBounded
+unfolding Bounded
 returns-3 c = ((λ trees before x h. not-lower h (omega arith) (c .before .before .if2 .left) (omega arith)), (omega arith, omega arith, omega arith, omega (arith, c .before .before .before .before .before .before .pre)))
 
 returns-4 : tie.Need-returns-4

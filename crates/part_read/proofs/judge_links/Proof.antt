@@ -8,8 +8,9 @@ use Rattle.sheets_rules.specs.declared.TreeRecord.{TreeRecord}
 use Rattle.sheets_rules.specs.Model.{Tree}
 use Rattle.part_rules.specs.Part.{Link}
 use Rattle.part_rules.specs.PartRead.{linksJudged}
-use Rattle.part_read.specs.declared.PartFinding.{PartFinding}
-use Rattle.part_read.specs.Inside.Decoded.{Says, TreesStored, Marks}
+use Rattle.fields.specs.declared.Finding.{Finding}
+use Rattle.fields.specs.Inside.Promises.{Says}
+use Rattle.part_read.specs.Inside.Decoded.{TreesStored, Marks}
 use Rattle.part_read.specs.Inside.Promises.{linksLaid, FindingBounded}
 use Rattle.part_read.proofs.Links.{marks-none, Reached, reached-more, reached-stops}
 use Rattle.part_read.proofs.judge_links.Statement.{statement}
@@ -76,7 +77,7 @@ returns c =
     let call = c .before .before .judge-link in
     let told = c .enum-told2 .given in
     λ ts xs stored laid n.
-    subst (λ (q : PartFinding). Says Marks (linksJudged ts [] xs) q (i .drivers)) (sym (told .1))
+    subst (λ (q : Finding). Says Marks (linksJudged ts [] xs) q (i .drivers)) (sym (told .1))
     (reached-stops blank stored laid (omega (arith, first .pre .1)) (omega (arith, n)) (first .pre .0 (i .k)) (i .inv .2 ts xs stored laid n) (λ trees′ before x at. sym (told .1) ∙ call .ensures .0 trees′ before x at), subst FindingBounded (told .1) (call .ensures .1))
 
 add-drivers : tie.Need-add-drivers Inv-loop μ-loop

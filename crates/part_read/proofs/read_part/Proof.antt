@@ -5,9 +5,10 @@ use lib.ListN.{length, drop, length-drop}
 use lib.Seq.{take-all}
 use Rattle.fields.specs.Reading.{place, start}
 use Rattle.part_rules.specs.Part.{Part}
-use Rattle.part_rules.specs.Answer.{PartAnswer, PartBounded}
+use Rattle.fields.specs.Answer.{Answer, Bounded}
 use Rattle.part_rules.specs.PartSheet.{counts}
-use Rattle.part_read.specs.Inside.Decoded.{Says, PartStored}
+use Rattle.fields.specs.Inside.Promises.{Says}
+use Rattle.part_read.specs.Inside.Decoded.{PartStored}
 use Rattle.part_rules.specs.PartRead.{afterCounts}
 use Rattle.part_read.proofs.Laws.{part-from, part-stops, counts-room}
 use borrow.Author.Needs.{needs}
@@ -50,10 +51,10 @@ returns c =
     let h = counted .ensures in
     let rest = take-all (length s - first .result) (drop (first .result) s) (omega (arith, length-drop (first .result) s)) ∙ ap (λ (n : ℕ). drop n s) (first .ensures) in
     let from = part-from s (counted .result) h (told .0 .0) (told .1) ∙ ap (afterCounts (counted .result .trees) (counts s start .0 .links)) (sym rest) in
-    subst (λ (o : PartAnswer Part). Says PartStored o (c .read-rest .result .finding) (c .read-rest .result .part)) (sym from) (c .read-rest .ensures (counts s start .0 .links) (h .links-are) (h .counted))
+    subst (λ (o : Answer Part). Says PartStored o (c .read-rest .result .finding) (c .read-rest .result .part)) (sym from) (c .read-rest .ensures (counts s start .0 .links) (h .links-are) (h .counted))
 
 returns-2 : tie.Need-returns-2
-unfolding PartBounded
+unfolding Bounded
 returns-2 c =
     let s = c .before .before .before .before .before .before .args .s .now in
     let counted = c .before .before .before .before .read-counts in

@@ -11,14 +11,14 @@ use Rattle.bits.specs.Bits.{placeOf, bytesTo}
 use Rattle.fields.specs.declared.Fault.{Fault}
 use Rattle.fields.specs.declared.Scan.the-variants.{At}
 use Rattle.fields.specs.Reading.{place, start, Live}
-use Rattle.sheets_rules.specs.declared.TreeRead.{TreeRead}
+use Rattle.sheets_rules.specs.declared.TreeScanned.{TreeScanned}
 use Rattle.sheets_rules.specs.declared.TreeRecord.{TreeRecord}
 use Rattle.sheets_rules.specs.TreeSheet.{treeTo}
 use Rattle.sheets_rules.specs.Inside.Readers.{TreeToIs}
 use Rattle.sheets_rules.specs.Report.{treeNumber}
 use Rattle.sheets_rules.proofs.Laid.{padded-more}
 use Rattle.sheets_rules.proofs.Report.{tree-room}
-use Rattle.part_rules.specs.Answer.{refusedIn, PartBounded}
+use Rattle.fields.specs.Answer.{refusedIn, Bounded}
 use Rattle.part_rules.proofs.Trees.{trees-from}
 use Rattle.part_read.proofs.Laws.{tree-next, tree-stops, last-left}
 use Rattle.sheets_rules.specs.Model.{Tree}
@@ -36,11 +36,11 @@ unfolding treeNumber
 number-some f = omega arith
 
 -- the bytes that a tree takes up are there
-room : {s : List ℕ} {last : Bool} {read : TreeRead} → TreeToIs s last read → (c : Cursor) → read .scan ≡ At c → bytesTo (placeOf c) ≤ length s
+room : {s : List ℕ} {last : Bool} {read : TreeScanned} → TreeToIs s last read → (c : Cursor) → read .scan ≡ At c → bytesTo (placeOf c) ≤ length s
 room {s} {last} h c e = tree-room last s c (sym (h .scan-is) ∙ e)
 
 -- the tree that was read, from the bytes from its first on
-from : (s : List ℕ) (first : ℕ) (last : Bool) (read : TreeRead) → TreeToIs (take (length s - first) (drop first s)) last read → TreeToIs (drop first s) last read
+from : (s : List ℕ) (first : ℕ) (last : Bool) (read : TreeScanned) → TreeToIs (take (length s - first) (drop first s)) last read → TreeToIs (drop first s) last read
 from s first last read = subst (λ (q : List ℕ). TreeToIs q last read) (take-all (length s - first) (drop first s) (omega (arith, length-drop first s)))
 
 abbrev Inv-loop : tie.InvT-loop
@@ -97,11 +97,11 @@ enum-known-scan-2 c = search needs
 tree-number-requires : tie.Need-tree-number-requires Inv-loop μ-loop
 tree-number-requires c κs = search needs
 
-cast-tree : tie.Need-cast-tree Inv-loop μ-loop
-cast-tree c = search needs
+cast-t23 : tie.Need-cast-t23 Inv-loop μ-loop
+cast-t23 c = search needs
 
 returns : tie.Need-returns Inv-loop μ-loop
-unfolding PartBounded
+unfolding Bounded
 returns c =
     let a = c .before .before .before .before .before .before .before .before .before .before .args in
     let i = c .before .before .before .before .before .before .before .loop in
@@ -173,7 +173,7 @@ read-trees-spec =
     add-first
     enum-known-scan-2
     tree-number-requires
-    cast-tree
+    cast-t23
     returns
     add-k
     loop-less

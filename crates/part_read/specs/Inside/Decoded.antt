@@ -1,4 +1,4 @@
--- When a record holds a part, and what a finding says of an answer.
+-- When a record holds a part.
 use Prim.Native.Nat.{ℕ, _+_, _*_, _≤_, _<_}
 use mathlib.Core.Path.{_≡_}
 use mathlib.Core.List.{List, map, List·Memᴰ}
@@ -8,17 +8,9 @@ use Rattle.sheets_rules.specs.Model.{Tree}
 use Rattle.sheets_rules.specs.Inside.Sound.{SoundTree}
 use Rattle.sheets_rules.specs.Inside.Layout.{padded, treeLaid}
 use Rattle.part_rules.specs.Part.{Link, Part, driverOf}
-use Rattle.part_rules.specs.Answer.{PartAnswer, refusedIn, whole, PartBounded}
 use Rattle.part_rules.specs.PartSheet.{treesMost}
 use Rattle.part_read.specs.declared.PartRecord.{PartRecord}
-use Rattle.part_read.specs.declared.PartFinding.{PartFinding}
-use Rattle.part_read.specs.declared.PartFinding.the-variants.{Refused, Found}
 use Rattle.part_link.specs.Inside.Promises.{driverNamed}
-
--- What a finding says of an answer: its refusal, with tree, number and place, which fit a word; or that it is a success, and the record holds it.
-abbrev pub Says : {A B : Type 0} → (A → B → Type 0) → PartAnswer A → PartFinding → B → Type 0
-Says Holds o (Refused k number place) b = (o ≡ refusedIn k number place) × PartBounded (refusedIn k number place)
-Says {A} Holds o Found b = (a : A) × (o ≡ whole a) × Holds a b
 
 -- ---- a part
 

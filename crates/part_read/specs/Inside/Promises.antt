@@ -4,18 +4,18 @@ use mathlib.Core.Path.{_≡_}
 use mathlib.Core.List.{List, [], map, List·Memᴰ}
 use mathlib.Core.Option.{Option, none, some}
 use lib.ListN.{length, getD, getElem?}
+use Rattle.fields.specs.declared.Finding.{Finding}
+use Rattle.fields.specs.declared.Finding.the-variants.{Refused, Found}
 use Rattle.fields.specs.declared.Scan.{Scan}
+use Rattle.fields.specs.Answer.{Answer, refusedIn, refusal, success, Bounded}
 use Rattle.fields.specs.Reading.{place, times, start}
 use Rattle.sheets_rules.specs.declared.TreeRecord.{TreeRecord}
 use Rattle.sheets_rules.specs.Model.{Tree}
 use Rattle.sheets_rules.specs.Inside.Sound.{SoundTree}
 use Rattle.sheets_rules.specs.Inside.Layout.{padded, treeLaid}
 use Rattle.part_rules.specs.Part.{Link, driverOf}
-use Rattle.part_rules.specs.Answer.{PartAnswer, refusedIn, whole, PartBounded}
 use Rattle.part_rules.specs.PartSheet.{treesMost, linksAt, linkWidth, link, counts}
 use Rattle.part_read.specs.declared.LinkRecord.{LinkRecord}
-use Rattle.part_read.specs.declared.PartFinding.{PartFinding}
-use Rattle.part_read.specs.declared.PartFinding.the-variants.{Refused, Found}
 use Rattle.part_read.specs.Inside.Decoded.{noTree}
 use Rattle.part_link.specs.Inside.Promises.{driverNamed}
 use Rattle.part_read.specs.declared.LinkRead.{LinkRead}
@@ -70,13 +70,13 @@ laidOr none = noTree
 laidOr (some t) = treeLaid t
 
 -- What is found of an answer.
-abbrev pub findingOf : {A : Type 0} → PartAnswer A → PartFinding
-findingOf (refusedIn k number place) = Refused k number place
-findingOf (whole a) = Found
+abbrev pub answerFound : {A : Type 0} → Answer A → Finding
+answerFound (refusedIn item number place) = Refused (record { item = item; number = number; place = place })
+answerFound (success a) = Found
 
 -- A refusal fits a word.
-abbrev pub FindingBounded : PartFinding → Type 0
-FindingBounded (Refused k number place) = PartBounded (refusedIn k number place)
+abbrev pub FindingBounded : Finding → Type 0
+FindingBounded (Refused r) = Bounded (refusal r)
 FindingBounded Found = Unit {0}
 
 -- What is lent of a link after those before it: its reading tree, if it is there, itself, and its leaf's driver among those before.

@@ -4,7 +4,8 @@ use mathlib.Core.Path.{_≡_}
 use mathlib.Core.List.{List·Memᴰ}
 use lib.ListN.{length}
 use Rattle.sheets_rules.specs.declared.LibraryRecord.{LibraryRecord}
-use Rattle.sheets_rules.specs.Inside.Layout.{libraryLaid}
+use Rattle.sheets_rules.specs.declared.TreeRecord.{TreeRecord}
+use Rattle.sheets_rules.specs.Inside.Layout.{libraryLaid, treeLaid}
 use Rattle.sheets_rules.specs.Model.{Leaf, pinOf, arrivalOf, Shape, leaf, inv, nand, size, leaves, nands, Pin, Cell, Library, Tree, patterns}
 
 -- An inverter or a NAND.
@@ -52,7 +53,11 @@ pub record SoundTree (t : Tree) : Type 0 where
   pub size : size (t .shape) ≤ 64
   pub leaves : (x : Leaf) → List·Memᴰ x (leaves (t .shape)) → SoundLeaf x
 
--- A sound library in the record that its reader hands over.
+-- A sound library and a sound tree in the records that their readers hand over.
 pub record LibraryStored (l : Library) (library : LibraryRecord) : Type 0 where
   pub sound : SoundLibrary l
   pub library-is : library ≡ libraryLaid l
+
+pub record TreeStored (t : Tree) (tree : TreeRecord) : Type 0 where
+  pub sound : SoundTree t
+  pub tree-is : tree ≡ treeLaid t

@@ -16,7 +16,7 @@ use Rattle.treecover_text.proofs.put_map.Tie as tie
 -- What a reply with a sheet says of the output.
 sheet-says : (c : tie.After-reply2) → let a = c .before .before .before .before .before .before .before .before .before .before .args in Replied (a .library .now) (a .tree .now) (success (c .reply2 .given .0 .0)) (c .before .before .before .before .map .last .1 .1 .0)
 unfolding ofReply
-sheet-says c = let a = c .before .before .before .before .before .before .before .before .before .before .args in replied (a .library .now) (a .tree .now) (c .before .before .before .before .map .ensures .0) (c .reply2 .given .1)
+sheet-says c = let a = c .before .before .before .before .before .before .before .before .before .before .args in replied (a .library .now) (a .tree .now) (c .before .before .before .before .map .ensures .operated) (c .reply2 .given .1)
 
 slice-aggregate-map : tie.Need-slice-aggregate-map
 slice-aggregate-map c = search needs
@@ -33,7 +33,7 @@ enum-known-reply c = search needs
 put-refusal-requires : tie.Need-put-refusal-requires
 put-refusal-requires c κs =
     let told = c .before .before .reply .given in
-    omega (arith, refusal-short (told .0 .0) (told .0 .1 .0) (omega arith) (omega arith))
+    omega (arith, refusal-short (told .0 .0 .number) (told .0 .0 .place) (omega arith) (omega arith))
 
 enum-known-reply-2 : tie.Need-enum-known-reply-2
 enum-known-reply-2 c = search needs
@@ -55,7 +55,7 @@ unfolding ofReply
 returns c =
     let a = c .before .before .before .before .before .before .before .before .before .before .before .before .before .before .before .args in
     let put = c .before .before .put-refusal in
-    subst (λ (w : List ℕ). Appended w (a .text .now) 0 (put .last .0) (put .result)) (sym (replied (a .library .now) (a .tree .now) (c .before .before .before .before .before .before .before .before .before .map .ensures .0) (c .before .before .before .before .before .reply .given .1))) (put .ensures)
+    subst (λ (w : List ℕ). Appended w (a .text .now) 0 (put .last .0) (put .result)) (sym (replied (a .library .now) (a .tree .now) (c .before .before .before .before .before .before .before .before .before .map .ensures .operated) (c .before .before .before .before .before .reply .given .1))) (put .ensures)
 
 same-length-2 : tie.Need-same-length-2
 same-length-2 c = search needs

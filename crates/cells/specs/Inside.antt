@@ -1,0 +1,2 @@
+-- What functions inside promise each other, and what the laws about them speak of.
+pub mod Cell

@@ -1,0 +1,2 @@
+-- What the functions of `cells` promise.
+pub mod Inside

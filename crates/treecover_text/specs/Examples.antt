@@ -1,0 +1,2 @@
+-- What is printed, as examples.
+pub mod Printing
