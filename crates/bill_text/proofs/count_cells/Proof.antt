@@ -50,12 +50,6 @@ module _ (c : tie.In-loop Inv-loop μ-loop) where
 loop-holds : tie.Need-loop-holds Inv-loop μ-loop
 loop-holds c = (omega arith, omega arith, omega arith, λ l xs h m. tally-none l)
 
-array-read-row : tie.Need-array-read-row Inv-loop μ-loop
-array-read-row c = omega arith
-
-cast-row : tie.Need-cast-row Inv-loop μ-loop
-cast-row c = search needs
-
 mul-row : tie.Need-mul-row Inv-loop μ-loop
 mul-row c = let h = now-here c in omega arith
 
@@ -104,12 +98,6 @@ add-amounts-2 c = let h = now-here (c .before .before) in omega arith
 array-write-amounts : tie.Need-array-write-amounts Inv-loop μ-loop
 array-write-amounts c = let h = now-here (c .before .before) in omega arith
 
-add-k : tie.Need-add-k Inv-loop μ-loop
-add-k c = omega arith
-
-loop-less : tie.Need-loop-less Inv-loop μ-loop
-loop-less c = omega arith
-
 loop-again : tie.Need-loop-again Inv-loop μ-loop
 loop-again c =
     let turn = c .before .before in
@@ -129,31 +117,7 @@ returns c =
     λ l h. subst (λ (ys : List Placed). TallyIs l ys (i .counts) (i .amounts)) (take-all (i .k) xs (omega (arith, many (start .args .cover) (room start)))) (i .inv .3 l xs h (names start))
 
 pub count-cells-spec : {M : Type 1} → statement M
-count-cells-spec =
-    tie.close
-    (tie.spec
-    Inv-loop
-    μ-loop
-    loop-holds
-    array-read-row
-    cast-row
-    mul-row
-    add-cell
-    mul-cell
-    shared-slice-read-cell
-    cast-cell
-    mul-counts
-    array-read-counts
-    add-counts
-    array-write-counts
-    add-amounts
-    mul-amounts
-    shared-slice-read-amounts
-    mul-amounts-2
-    array-read-amounts
-    add-amounts-2
-    array-write-amounts
-    add-k
-    loop-less
-    loop-again
-    returns)
+count-cells-spec = tie.close (tie.spec Inv-loop μ-loop loop-holds (omega arith) (λ c. search needs) mul-row add-cell
+    mul-cell shared-slice-read-cell cast-cell mul-counts array-read-counts add-counts array-write-counts add-amounts
+    mul-amounts shared-slice-read-amounts mul-amounts-2 array-read-amounts add-amounts-2 array-write-amounts
+    (omega arith) (omega arith) loop-again returns)

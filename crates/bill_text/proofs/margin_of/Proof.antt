@@ -3,12 +3,6 @@ use Rattle.bill_text.proofs.Laws.{margin-fits, margin-is}
 use Rattle.bill_text.proofs.margin_of.Statement.{statement}
 use Rattle.bill_text.proofs.margin_of.Tie as tie
 
-cast-result : tie.Need-cast-result
-cast-result c = search needs
-
-cast-result-2 : tie.Need-cast-result-2
-cast-result-2 c = search needs
-
 sub-result : tie.Need-sub-result
 sub-result c = margin-fits (c .args .required) (c .args .arrival) (c .pre .0) (c .pre .1)
 
@@ -16,4 +10,4 @@ returns : tie.Need-returns
 returns c = margin-is (c .args .required) (c .args .arrival) (c .pre .0) (c .pre .1)
 
 pub margin-of-spec : {M : Type 1} → statement M
-margin-of-spec = tie.close (tie.spec cast-result cast-result-2 sub-result returns)
+margin-of-spec = tie.close (tie.spec (λ c. search needs) (λ c. search needs) sub-result returns)

@@ -35,15 +35,9 @@ returns c =
     let input = a .input .now in
     promised (length (a .text .now)) input (sym (text-none longestBill (length (a .text .now)) (spoiled input 3 true) (answer input) (omega arith))) (record { bytes = refl; output = refl })
 
-split-input-requires : tie.Need-split-input-requires
-split-input-requires c κs = search needs
-
 put-spoiled-requires : tie.Need-put-spoiled-requires
 unfolding spoiledLine line spaced
 put-spoiled-requires c κs = omega arith
-
-same-length : tie.Need-same-length
-same-length c = search needs
 
 returns-2 : tie.Need-returns-2
 unfolding billedWithin billed
@@ -54,18 +48,6 @@ returns-2 c =
     promised (length (a .text .now)) input
     (sym (text-spoiled longestBill (length (a .text .now)) (spoiled input 3 true) (answer input) (omega arith) (sym (split .before .split-input .ensures .spoiled-is) ∙ split .if2 .taken)))
     (at-front (c .before .before .put-spoiled .ensures))
-
-array-read-library : tie.Need-array-read-library
-array-read-library c = search needs
-
-array-read-tree : tie.Need-array-read-tree
-array-read-tree c = search needs
-
-array-read-cover : tie.Need-array-read-cover
-array-read-cover c = search needs
-
-array-read-end : tie.Need-array-read-end
-array-read-end c = search needs
 
 -- Where the parts of the input begin and end.
 module _ (c : tie.Else2) where
@@ -111,12 +93,6 @@ part-put-judged-start-3 c = omega (arith, up (c .before .before .before .before)
 part-put-judged-end-3 : tie.Need-part-put-judged-end-3
 part-put-judged-end-3 c = omega (arith, inside (c .before .before .before .before) 3 (omega arith))
 
-put-judged-requires : tie.Need-put-judged-requires
-put-judged-requires c κs = search needs
-
-same-length-2 : tie.Need-same-length-2
-same-length-2 c = search needs
-
 returns-3 : tie.Need-returns-3
 unfolding billedWithin billed
 returns-3 c =
@@ -128,27 +104,8 @@ returns-3 c =
     (at-front (c .before .before .put-judged .ensures))
 
 pub print-bill-spec : {M : Type 1} → statement M
-print-bill-spec =
-    tie.close
-    (tie.spec
-    returns
-    split-input-requires
-    put-spoiled-requires
-    same-length
-    returns-2
-    array-read-library
-    array-read-tree
-    array-read-cover
-    array-read-end
-    sub-put-judged
-    part-put-judged-start
-    part-put-judged-end
-    sub-put-judged-2
-    part-put-judged-start-2
-    part-put-judged-end-2
-    sub-put-judged-3
-    part-put-judged-start-3
-    part-put-judged-end-3
-    put-judged-requires
-    same-length-2
+print-bill-spec = tie.close (tie.spec returns (λ c κs. search needs) put-spoiled-requires (λ c. search needs)
+    returns-2 (λ c. search needs) (λ c. search needs) (λ c. search needs) (λ c. search needs) sub-put-judged
+    part-put-judged-start part-put-judged-end sub-put-judged-2 part-put-judged-start-2 part-put-judged-end-2
+    sub-put-judged-3 part-put-judged-start-3 part-put-judged-end-3 (λ c κs. search needs) (λ c. search needs)
     returns-3)

@@ -27,23 +27,11 @@ module _ (c : tie.After-read-cover) where
   stored : BillStored (libraryOf library start .0) (treeOf tree start .0) (c .before .before .before .before .before .read-library .result .library .rows) (c .before .before .before .before .before .read-library .result .library .count) (c .read-cover .result .cover) (c .before .before .read-tree .result .tree .required)
   stored = stored-read library tree (entry .args .cover .now) (entry .pre .1 .1) (c .before .before .read-tree .result) (c .before .before .before .before .before .read-library .ensures) (c .before .before .read-tree .ensures) (c .read-cover .ensures)
 
-read-library-requires : tie.Need-read-library-requires
-read-library-requires c κs = search needs
-
-read-tree-requires : tie.Need-read-tree-requires
-read-tree-requires c κs = search needs
-
-read-cover-requires : tie.Need-read-cover-requires
-read-cover-requires c κs = search needs
-
 slice-aggregate-put-bill : tie.Need-slice-aggregate-put-bill
 slice-aggregate-put-bill c = sym (ap length (stored (c .before .before) .rows-are) ∙ all-words (libraryOf (library (c .before .before)) start .0))
 
 put-bill-requires : tie.Need-put-bill-requires
 put-bill-requires c κs = let read = c .before .before in (entry read .pre .0, (libraryOf (library read) start .0, (treeOf (tree read) start .0, stored read)))
-
-same-length : tie.Need-same-length
-same-length c = search needs
 
 returns : tie.Need-returns
 returns c =
@@ -54,13 +42,5 @@ returns c =
     (put .ensures (libraryOf (library read) start .0) (treeOf (tree read) start .0) (stored read))
 
 pub put-accepted-spec : {M : Type 1} → statement M
-put-accepted-spec =
-    tie.close
-    (tie.spec
-    read-library-requires
-    read-tree-requires
-    read-cover-requires
-    slice-aggregate-put-bill
-    put-bill-requires
-    same-length
-    returns)
+put-accepted-spec = tie.close (tie.spec (λ c κs. search needs) (λ c κs. search needs) (λ c κs. search needs)
+    slice-aggregate-put-bill put-bill-requires (λ c. search needs) returns)

@@ -64,22 +64,11 @@ put-margin-requires c κs =
       start put .pre .0,
     )
 
-same-length : tie.Need-same-length
-same-length c = search needs
-
 returns : tie.Need-returns
 returns c =
     let put = c .before .before .before .before .before .before .before .before .before .before in
     λ l t h. bill-put h (lines-so put h) (c .before .before .before .before .before .before .put-total .ensures) (c .before .before .put-margin .ensures) (kept (put .before .before .before))
 
 pub put-bill-spec : {M : Type 1} → statement M
-put-bill-spec =
-    tie.close
-    (tie.spec
-    margin-of-requires
-    count-cells-requires
-    put-entries-requires
-    put-total-requires
-    put-margin-requires
-    same-length
-    returns)
+put-bill-spec = tie.close (tie.spec margin-of-requires count-cells-requires put-entries-requires put-total-requires
+    put-margin-requires (λ c. search needs) returns)

@@ -86,12 +86,6 @@ array-read-total c = omega (arith, below (c .before .before .before .before))
 add-total : tie.Need-add-total Inv-loop μ-loop
 add-total c = omega (arith, sums (c .before .before .before .before))
 
-add-n : tie.Need-add-n Inv-loop μ-loop
-add-n c = omega arith
-
-loop-less : tie.Need-loop-less Inv-loop μ-loop
-loop-less c = omega arith
-
 loop-again : tie.Need-loop-again Inv-loop μ-loop
 loop-again c =
     let turn = c .before .before .before .before in
@@ -108,9 +102,6 @@ loop-again c =
           ),
     )
 
-same-length : tie.Need-same-length Inv-loop μ-loop
-same-length c = omega arith
-
 returns : tie.Need-returns Inv-loop μ-loop
 returns c =
     let start = c .before .before .before .before .before in
@@ -121,22 +112,6 @@ returns c =
     record { lines-put = so .0; total-is = so .1 }
 
 pub put-entries-spec : {M : Type 1} → statement M
-put-entries-spec =
-    tie.close
-    (tie.spec
-    Inv-loop
-    μ-loop
-    loop-holds
-    mul-put-entry
-    array-read-put-entry
-    mul-put-entry-2
-    array-read-put-entry-2
-    put-entry-requires
-    mul-total
-    array-read-total
-    add-total
-    add-n
-    loop-less
-    loop-again
-    same-length
-    returns)
+put-entries-spec = tie.close (tie.spec Inv-loop μ-loop loop-holds mul-put-entry array-read-put-entry mul-put-entry-2
+    array-read-put-entry-2 put-entry-requires mul-total array-read-total add-total (omega arith) (omega arith)
+    loop-again (omega arith) returns)

@@ -27,9 +27,6 @@ put-number-requires c κs = omega (arith, simp length-append at (ap length (text
 put-last-requires : tie.Need-put-last-requires
 put-last-requires c κs = omega (arith, simp length-append at (ap length (text-is (c .before .before .before .before .before))))
 
-same-length : tie.Need-same-length
-same-length c = search needs
-
 returns-2 : tie.Need-returns-2
 returns-2 c =
     let number = c .before .before .before .before .before .before in
@@ -39,4 +36,4 @@ returns-2 c =
     subst (λ (w : List ℕ). Appended w (a .text .now) (a .at) (put .last .0) (put .result)) (text-is test) (appended-both (omega arith) (number .put-number .ensures) (put .ensures))
 
 pub put-entry-spec : {M : Type 1} → statement M
-put-entry-spec = tie.close (tie.spec returns put-number-requires put-last-requires same-length returns-2)
+put-entry-spec = tie.close (tie.spec returns put-number-requires put-last-requires (λ c. search needs) returns-2)

@@ -11,19 +11,10 @@ use Rattle.bill_rules.proofs.Demands.{shown-refusal}
 use Rattle.bill_text.proofs.put_judged.Statement.{statement}
 use Rattle.bill_text.proofs.put_judged.Tie as tie
 
-judge-cover-requires : tie.Need-judge-cover-requires
-judge-cover-requires c κs = search needs
-
-enum-known-judged : tie.Need-enum-known-judged
-enum-known-judged c = search needs
-
 put-refusal-requires : tie.Need-put-refusal-requires
 put-refusal-requires c κs =
     let told = c .before .before .judged .given in
     omega (arith, refusal-short (told .0 .0 .number) (told .0 .0 .place) (omega arith) (omega arith))
-
-enum-told : tie.Need-enum-told
-enum-told c = search needs
 
 put-accepted-requires : tie.Need-put-accepted-requires
 unfolding ofCoverJudged
@@ -31,9 +22,6 @@ put-accepted-requires c κs =
     let judged = c .before .before .before in
     let told = c .before .enum-told .given in
     (judged .before .before .before .before .before .pre, (record { area = told .0 .0; arrival = told .0 .1 .0 }, sym (judged .judge-cover .ensures .answer-is) ∙ ap ofCoverJudged (told .1)))
-
-same-length : tie.Need-same-length
-same-length c = search needs
 
 returns : tie.Need-returns
 unfolding outcomeText ofCoverJudged
@@ -46,22 +34,6 @@ returns c =
     (sym (ap outcomeText (shown-refusal (a .library .now) (a .tree .now) (a .cover .now) (sym (judged .judge-cover .ensures .answer-is) ∙ ap ofCoverJudged (told .1)))))
     (put .ensures)
 
-same-length-2 : tie.Need-same-length-2
-same-length-2 c = search needs
-
-returns-2 : tie.Need-returns-2
-returns-2 c = search needs
-
 pub put-judged-spec : {M : Type 1} → statement M
-put-judged-spec =
-    tie.close
-    (tie.spec
-    judge-cover-requires
-    enum-known-judged
-    put-refusal-requires
-    enum-told
-    put-accepted-requires
-    same-length
-    returns
-    same-length-2
-    returns-2)
+put-judged-spec = tie.close (tie.spec (λ c κs. search needs) (λ c. search needs) put-refusal-requires
+    (λ c. search needs) put-accepted-requires (λ c. search needs) returns (λ c. search needs) (λ c. search needs))

@@ -19,23 +19,14 @@ use Rattle.bill_text.proofs.put_margin.Tie as tie
 back : (c : tie.Start) → signed (toZ w32 (ofZ w32 (c .args .margin))) ≡ signed (c .args .margin)
 back c = ap signed (toZ-ofZ w32 (c .args .margin) (c .fits .margin))
 
-slice-aggregate-put-word : tie.Need-slice-aggregate-put-word
-slice-aggregate-put-word c = search needs
-
 put-word-requires : tie.Need-put-word-requires
 put-word-requires c κs = omega (arith, margin-length (c .before .before .before .args .margin))
 
 put-signed-requires : tie.Need-put-signed-requires
 put-signed-requires c κs = let start = c .before .before .before .before .before .before .before in omega (arith, margin-length (start .args .margin), ap length (back start))
 
-slice-aggregate-put-word-2 : tie.Need-slice-aggregate-put-word-2
-slice-aggregate-put-word-2 c = search needs
-
 put-word-requires-2 : tie.Need-put-word-requires-2
 put-word-requires-2 c κs = let start = c .before .before .before .before .before .before .before .before .before .before .before .before in omega (arith, margin-length (start .args .margin), ap length (back start))
-
-same-length : tie.Need-same-length
-same-length c = search needs
 
 returns : tie.Need-returns
 unfolding marginLine line spaced
@@ -46,13 +37,5 @@ returns c =
     (appended-three (omega arith) (c .before .before .before .before .before .before .before .before .before .before .before .put-word .ensures) (c .before .before .before .before .before .before .before .put-signed .ensures) (put .ensures))
 
 pub put-margin-spec : {M : Type 1} → statement M
-put-margin-spec =
-    tie.close
-    (tie.spec
-    slice-aggregate-put-word
-    put-word-requires
-    put-signed-requires
-    slice-aggregate-put-word-2
-    put-word-requires-2
-    same-length
-    returns)
+put-margin-spec = tie.close (tie.spec (λ c. search needs) put-word-requires put-signed-requires (λ c. search needs)
+    put-word-requires-2 (λ c. search needs) returns)

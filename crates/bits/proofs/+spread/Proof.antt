@@ -46,9 +46,6 @@ spread-returns t c =
     let none : a .width ≡ 0 = c .if1 .taken in
     (sym (ap (valueAt (a .s .now) (8 * a .byte + a .used)) none), pow-pos (a .width))
 
-spread-add-spread : (t : ℕ) → spread-lts.Need-add-spread (of-spread t) (spread-at t) spread.Post
-spread-add-spread t c = omega arith
-
 spread-spread-requires : (t : ℕ) → spread-lts.Need-spread-requires (of-spread t) (spread-at t) spread.Post
 spread-spread-requires t c κs = omega (arith, c .before .before .before .pre .0)
 
@@ -58,33 +55,12 @@ spread-returns-2 t c =
     let there : 8 * (a .byte + 1) + (a .used - 8) ≡ 8 * a .byte + a .used = omega (arith, c .before .if2 .taken) in
     (c .spread .ensures .0 ∙ ap (λ (i : ℕ). valueAt (a .s .now) i (a .width)) there, c .spread .ensures .1)
 
-spread-shared-slice-read-octet : (t : ℕ) → spread-lts.Need-shared-slice-read-octet (of-spread t) (spread-at t) spread.Post
-spread-shared-slice-read-octet t c = omega arith
-
-spread-octet-requires : (t : ℕ) → spread-lts.Need-octet-requires (of-spread t) (spread-at t) spread.Post
-spread-octet-requires t c κs = tt
-
-spread-sub-left : (t : ℕ) → spread-lts.Need-sub-left (of-spread t) (spread-at t) spread.Post
-spread-sub-left t c = omega arith
-
-spread-cut-requires : (t : ℕ) → spread-lts.Need-cut-requires (of-spread t) (spread-at t) spread.Post
-spread-cut-requires t c κs = omega arith
-
 spread-returns-3 : (t : ℕ) → spread-lts.Need-returns-3 (of-spread t) (spread-at t) spread.Post
 spread-returns-3 t c =
     let a = c .before .before .before .before .before .before .before .args in
     let here = c .before .before .octet in
     let e = c .cut .ensures ∙ value-part (a .s .now) (a .byte) (a .used) (a .width) (here .result) (here .ensures .0) (here .ensures .1) (omega arith) in
     (e, omega (arith, e, value-lt (a .s .now) (8 * a .byte + a .used) (a .width)))
-
-spread-sub-rest : (t : ℕ) → spread-lts.Need-sub-rest (of-spread t) (spread-at t) spread.Post
-spread-sub-rest t c = omega arith
-
-spread-cut-requires-2 : (t : ℕ) → spread-lts.Need-cut-requires-2 (of-spread t) (spread-at t) spread.Post
-spread-cut-requires-2 t c κs = omega arith
-
-spread-power-requires : (t : ℕ) → spread-lts.Need-power-requires (of-spread t) (spread-at t) spread.Post
-spread-power-requires t c κs = omega arith
 
 -- the part of the field that stands in its first byte, and the whole
 first : (t : ℕ) (c : spread-lts.After-cut2 (of-spread t) (spread-at t) spread.Post) →
@@ -107,9 +83,6 @@ spread-mul-result t c =
     let a = c .before .before .before .before .before .before .before .before .args in
     record { fits = rw (c .power .ensures .0) (straddle-fits (a .s .now) (a .byte) (a .used) (a .width) (c .before .cut2 .result) (omega arith) (omega arith) (omega arith) (first t (c .before))) }
 
-spread-add-spread-2 : (t : ℕ) → spread-lts.Need-add-spread-2 (of-spread t) (spread-at t) spread.Post
-spread-add-spread-2 t c = omega arith
-
 spread-spread-requires-2 : (t : ℕ) → spread-lts.Need-spread-requires-2 (of-spread t) (spread-at t) spread.Post
 spread-spread-requires-2 t c κs = omega (arith, c .before .before .before .before .before .before .before .before .pre .0)
 
@@ -122,23 +95,7 @@ spread-returns-4 t c =
     (whole t c, omega (arith, whole t c, value-lt (a .s .now) (8 * a .byte + a .used) (a .width)))
 
 pub +spread-spec : {M : Type 1} → statement M
-+spread-spec = close μ-spread λ t. spread-lts.spec (of-spread t)
-    (spread-at t)
-    spread.Post
-    (spread-returns t)
-    (spread-add-spread t)
-    (spread-spread-requires t)
-    (spread-returns-2 t)
-    (spread-shared-slice-read-octet t)
-    (spread-octet-requires t)
-    (spread-sub-left t)
-    (spread-cut-requires t)
-    (spread-returns-3 t)
-    (spread-sub-rest t)
-    (spread-cut-requires-2 t)
-    (spread-power-requires t)
-    (spread-mul-result t)
-    (spread-add-spread-2 t)
-    (spread-spread-requires-2 t)
-    (spread-add-result t)
-    (spread-returns-4 t)
++spread-spec = close μ-spread λ t. spread-lts.spec (of-spread t) (spread-at t) spread.Post (spread-returns t)
+    (omega arith) (spread-spread-requires t) (spread-returns-2 t) (omega arith) (λ c κs. tt) (omega arith)
+    (omega arith) (spread-returns-3 t) (omega arith) (omega arith) (omega arith) (spread-mul-result t) (omega arith)
+    (spread-spread-requires-2 t) (spread-add-result t) (spread-returns-4 t)

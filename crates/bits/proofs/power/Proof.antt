@@ -7,9 +7,6 @@ use lib.Pow.{pow-pos, pow-mono}
 use Rattle.bits.proofs.power.Statement.{statement}
 use Rattle.bits.proofs.power.Tie as tie
 
-shl-result : tie.Need-shl-result
-shl-result c = search needs
-
 returns : tie.Need-returns
 returns c =
     let k = c .args .k in
@@ -19,4 +16,4 @@ returns c =
     (e, rw e (pow-pos k))
 
 pub power-spec : {M : Type 1} → statement M
-power-spec = tie.close (tie.spec shl-result returns)
+power-spec = tie.close (tie.spec (λ c. search needs) returns)

@@ -25,44 +25,17 @@ fits c =
     let a = c .before .before .before .before .args in
     rw (made c) (digit-lt (getD (a .s .now) (a .i / 8) 0) (after (a .i)) (a .b) (omega (arith, c .before .slice-known2 .given (a .i / 8))) (after-lt (a .i)) (omega arith))
 
-weight-requires : tie.Need-weight-requires
-weight-requires c κs = search needs
-
-mul-full : tie.Need-mul-full
-mul-full c = search needs
-
-slice-read-wide : tie.Need-slice-read-wide
-slice-read-wide c = search needs
-
-wide-requires : tie.Need-wide-requires
-wide-requires c κs = search needs
-
-div-s : tie.Need-div-s
-div-s c = search needs
-
 mul-s : tie.Need-mul-s
 mul-s c = omega (arith, fits c)
 
 mul-s-2 : tie.Need-mul-s-2
 mul-s-2 c = omega (arith, fits c)
 
-rem-s : tie.Need-rem-s
-rem-s c = search needs
-
 add-s : tie.Need-add-s
 add-s c = omega (arith, fits c)
 
 add-s-2 : tie.Need-add-s-2
 add-s-2 c = omega (arith, fits c)
-
-cast-s : tie.Need-cast-s
-cast-s c = search needs
-
-slice-write-s : tie.Need-slice-write-s
-slice-write-s c = search needs
-
-same-length : tie.Need-same-length
-same-length c = search needs
 
 returns : tie.Need-returns
 unfolding withBit
@@ -71,20 +44,6 @@ returns c =
     ap (set (a .s .now) (a .i / 8)) (mod-eq-of-lt (fits c) ∙ made c)
 
 pub put-bit-spec : {M : Type 1} → statement M
-put-bit-spec =
-    tie.close
-    (tie.spec
-    weight-requires
-    mul-full
-    slice-read-wide
-    wide-requires
-    div-s
-    mul-s
-    mul-s-2
-    rem-s
-    add-s
-    add-s-2
-    cast-s
-    slice-write-s
-    same-length
-    returns)
+put-bit-spec = tie.close (tie.spec (λ c κs. search needs) (λ c. search needs) (λ c. search needs)
+    (λ c κs. search needs) (λ c. search needs) mul-s mul-s-2 (λ c. search needs) add-s add-s-2 (λ c. search needs)
+    (λ c. search needs) (λ c. search needs) returns)

@@ -9,15 +9,6 @@ use Rattle.bits.proofs.Laws.{after-lt}
 use Rattle.bits.proofs.weight.Statement.{statement}
 use Rattle.bits.proofs.weight.Tie as tie
 
-sub-result : tie.Need-sub-result
-sub-result c = search needs
-
-cast-result : tie.Need-cast-result
-cast-result c = search needs
-
-shl-result : tie.Need-shl-result
-shl-result c = search needs
-
 returns : tie.Need-returns
 unfolding after
 returns c =
@@ -28,4 +19,4 @@ returns c =
     record { worth = e; least = rw e (pow-pos k); most = rw e most }
 
 pub weight-spec : {M : Type 1} → statement M
-weight-spec = tie.close (tie.spec sub-result cast-result shl-result returns)
+weight-spec = tie.close (tie.spec (λ c. search needs) (λ c. search needs) (λ c. search needs) returns)

@@ -97,12 +97,6 @@ mul-look-up c = omega (arith, near (c .before .before .before .before .before .b
 add-look-up : tie.Need-add-look-up
 add-look-up c = let n = near (c .before .before .before .before .before .before .before) in omega (arith, n .node-small, n .bin-small)
 
-add-look-up-2 : tie.Need-add-look-up-2
-add-look-up-2 c = search needs
-
-cast-look-up : tie.Need-cast-look-up
-cast-look-up c = search needs
-
 look-up-requires : tie.Need-look-up-requires
 look-up-requires c κs = let n = near (c .before .before .before .before .before .before .before .before) in (c .before .before .before .before .before .before .before .before .pre .1 .1 .1 .0 .area, omega (arith, n .node-small, n .bin-small))
 
@@ -143,38 +137,20 @@ add-read-inputs c = omega (arith, known (c .before))
 mul-read-inputs : tie.Need-mul-read-inputs
 mul-read-inputs c = omega (arith, known (c .before))
 
-sub-read-inputs : tie.Need-sub-read-inputs
-sub-read-inputs c = search needs
-
-part-read-inputs-start : tie.Need-part-read-inputs-start
-part-read-inputs-start c = search needs
-
 part-read-inputs-end : tie.Need-part-read-inputs-end
 part-read-inputs-end c = omega (arith, known (c .before))
 
 add-read-inputs-2 : tie.Need-add-read-inputs-2
 add-read-inputs-2 c = omega (arith, few (c .before .before))
 
-sub-read-inputs-2 : tie.Need-sub-read-inputs-2
-sub-read-inputs-2 c = search needs
-
-part-read-inputs-start-2 : tie.Need-part-read-inputs-start-2
-part-read-inputs-start-2 c = search needs
-
 part-read-inputs-end-2 : tie.Need-part-read-inputs-end-2
 part-read-inputs-end-2 c = omega (arith, own-hit (c .before .before .before) .inside)
-
-cast-read-inputs : tie.Need-cast-read-inputs
-cast-read-inputs c = search needs
 
 read-inputs-requires : tie.Need-read-inputs-requires
 read-inputs-requires c κs =
     let q = c .before .before .before .before in
     let k = own-hit q in
     rw (the-pattern q, the-match q) (k .known .safe, part-length rowWords (rowWords * getD (hitAt (table (searched q)) (place q)) 0 0) (entry (searched q) .args .rows .now) (omega (arith, k .known .known)), k .long, near (entry (searched q)) .load-small)
-
-same-length : tie.Need-same-length
-same-length c = search needs
 
 returns : tie.Need-returns
 returns c = λ l t s dec drv.
@@ -186,31 +162,8 @@ returns c = λ l t s dec drv.
     (subst (λ pattern. (l : Library) (m : Match) → HitHolds l pattern (take (matchBytes * place q + matchBytes - matchBytes * place q) (drop (matchBytes * place q) (table (searched q)))) m → InputsAre l m (a .goal .load) (word q % base) x) (the-pattern q) (c .read-inputs .ensures)))
 
 pub choose-match-spec : {M : Type 1} → statement M
-choose-match-spec =
-    tie.close
-    (tie.spec
-    mul-look-up
-    add-look-up
-    add-look-up-2
-    cast-look-up
-    look-up-requires
-    find-matches-requires
-    first-reaching-requires
-    mul-first
-    add-at
-    slice-read-at
-    cast-at
-    mul-at
-    add-read-inputs
-    mul-read-inputs
-    sub-read-inputs
-    part-read-inputs-start
-    part-read-inputs-end
-    add-read-inputs-2
-    sub-read-inputs-2
-    part-read-inputs-start-2
-    part-read-inputs-end-2
-    cast-read-inputs
-    read-inputs-requires
-    same-length
-    returns)
+choose-match-spec = tie.close (tie.spec mul-look-up add-look-up (λ c. search needs) (λ c. search needs)
+    look-up-requires find-matches-requires first-reaching-requires mul-first add-at slice-read-at cast-at mul-at
+    add-read-inputs mul-read-inputs (λ c. search needs) (λ c. search needs) part-read-inputs-end add-read-inputs-2
+    (λ c. search needs) (λ c. search needs) part-read-inputs-end-2 (λ c. search needs) read-inputs-requires
+    (λ c. search needs) returns)

@@ -21,19 +21,10 @@ abbrev μ-loop : tie.MeasureT-loop
 loop-holds : tie.Need-loop-holds Inv-loop μ-loop
 loop-holds c = (omega arith, λ i h. absurd (omega arith))
 
-add-match-best : tie.Need-add-match-best Inv-loop μ-loop
-add-match-best c = omega arith
-
 match-best-requires : tie.Need-match-best-requires Inv-loop μ-loop
 match-best-requires c κs =
     let p = c .before .before .before .before .before .before .pre in
     (hit-ready (p .0) (c .before .loop .j) (omega arith), (p .0 .sources, (p .1 .0, omega arith)))
-
-add-j : tie.Need-add-j Inv-loop μ-loop
-add-j c = omega arith
-
-loop-less : tie.Need-loop-less Inv-loop μ-loop
-loop-less c = omega arith
 
 loop-again : tie.Need-loop-again Inv-loop μ-loop
 loop-again c =
@@ -62,16 +53,5 @@ returns-2 c =
     record { within = i .inv .0; before = i .inv .1; here = λ h. reached (a .w) (w .result) (a .w % base + 1) _ (omega arith) (w .ensures) (c .if1 .taken) }
 
 pub first-reaching-spec : {M : Type 1} → statement M
-first-reaching-spec =
-    tie.close
-    (tie.spec
-    Inv-loop
-    μ-loop
-    loop-holds
-    add-match-best
-    match-best-requires
-    add-j
-    loop-less
-    loop-again
-    returns
-    returns-2)
+first-reaching-spec = tie.close (tie.spec Inv-loop μ-loop loop-holds (omega arith) match-best-requires (omega arith)
+    (omega arith) loop-again returns returns-2)

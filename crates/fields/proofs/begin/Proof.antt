@@ -6,11 +6,8 @@ use Rattle.fields.proofs.Laws.{start-place}
 use Rattle.fields.proofs.begin.Statement.{statement}
 use Rattle.fields.proofs.begin.Tie as tie
 
-new-requires : tie.Need-new-requires
-new-requires c κs = search needs
-
 returns : tie.Need-returns
 returns c = (ap At (c .new .ensures), ap place (ap At (c .new .ensures)) ∙ start-place)
 
 pub begin-spec : {M : Type 1} → statement M
-begin-spec = tie.close (tie.spec new-requires returns)
+begin-spec = tie.close (tie.spec (λ c κs. search needs) returns)

@@ -7,15 +7,6 @@ use Rattle.fields.proofs.Laws.{tailed-at}
 use Rattle.fields.proofs.end.Statement.{statement}
 use Rattle.fields.proofs.end.Tie as tie
 
-enum-known-scan : tie.Need-enum-known-scan
-enum-known-scan c = search needs
-
-enum-told : tie.Need-enum-told
-enum-told c = search needs
-
-returns : tie.Need-returns
-returns c = search needs
-
 ends-requires : tie.Need-ends-requires
 ends-requires c κs = omega (arith, ap place (c .before .scan .given .1))
 
@@ -28,4 +19,5 @@ returns-2 c =
     c .tail .ensures ∙ tailed-at (endsAt (c .before .before .before .before .before .before .args .s .now)) _ (k .0 .0) (c .before .ends .result) (k .1) (c .before .ends .ensures)
 
 pub end-spec : {M : Type 1} → statement M
-end-spec = tie.close (tie.spec enum-known-scan enum-told returns ends-requires tail-requires returns-2)
+end-spec = tie.close (tie.spec (λ c. search needs) (λ c. search needs) (λ c. search needs) ends-requires tail-requires
+    returns-2)

@@ -7,15 +7,6 @@ use Rattle.fields.proofs.Laws.{tailed-at}
 use Rattle.fields.proofs.fill.Statement.{statement}
 use Rattle.fields.proofs.fill.Tie as tie
 
-enum-known-scan : tie.Need-enum-known-scan
-enum-known-scan c = search needs
-
-enum-told : tie.Need-enum-told
-enum-told c = search needs
-
-returns : tie.Need-returns
-returns c = search needs
-
 fills-requires : tie.Need-fills-requires
 fills-requires c κs = omega (arith, ap place (c .before .scan .given .1))
 
@@ -28,4 +19,5 @@ returns-2 c =
     c .tail .ensures ∙ tailed-at (filledAt (c .before .before .before .before .before .before .args .s .now)) _ (k .0 .0) (c .before .fills .result) (k .1) (c .before .fills .ensures)
 
 pub fill-spec : {M : Type 1} → statement M
-fill-spec = tie.close (tie.spec enum-known-scan enum-told returns fills-requires tail-requires returns-2)
+fill-spec = tie.close (tie.spec (λ c. search needs) (λ c. search needs) (λ c. search needs) fills-requires
+    tail-requires returns-2)

@@ -11,23 +11,8 @@ use Rattle.fields.proofs.Laws.{found-fits, reads-scanned}
 use Rattle.fields.proofs.raw.Statement.{statement}
 use Rattle.fields.proofs.raw.Tie as tie
 
-enum-known-scan : tie.Need-enum-known-scan
-enum-known-scan c = search needs
-
-enum-told : tie.Need-enum-told
-enum-told c = search needs
-
-returns : tie.Need-returns
-returns c = search needs
-
 field-requires : tie.Need-field-requires
 field-requires c κs = omega (arith, ap place (c .before .scan .given .1))
-
-enum-known-value : tie.Need-enum-known-value
-enum-known-value c = search needs
-
-enum-told-2 : tie.Need-enum-told-2
-enum-told-2 c = search needs
 
 place-requires : tie.Need-place-requires
 place-requires c κs = omega (arith, ap place (c .before .before .before .before .scan .given .1))
@@ -57,16 +42,5 @@ returns-3 c =
     (ap (scanned (placeOf (k .0 .0)) free) (sym (c .before .value .given .1)))
 
 pub raw-spec : {M : Type 1} → statement M
-raw-spec =
-    tie.close
-    (tie.spec
-    enum-known-scan
-    enum-told
-    returns
-    field-requires
-    enum-known-value
-    enum-told-2
-    place-requires
-    returns-2
-    cast-t11
-    returns-3)
+raw-spec = tie.close (tie.spec (λ c. search needs) (λ c. search needs) (λ c. search needs) field-requires
+    (λ c. search needs) (λ c. search needs) place-requires returns-2 cast-t11 returns-3)

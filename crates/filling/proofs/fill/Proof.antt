@@ -52,9 +52,6 @@ to-root c l t g =
 loop-holds : tie.Need-loop-holds Inv-loop μ-loop
 loop-holds c = ((some-node (c .before .before .before .before .pre .0 .1 .1), le-refl _), refl, refl, refl, λ l t g. begun g)
 
-sub-node : tie.Need-sub-node Inv-loop μ-loop
-sub-node c = omega arith
-
 fill-at-requires : tie.Need-fill-at-requires Inv-loop μ-loop
 fill-at-requires c κs =
     let i = loop-of c in
@@ -72,9 +69,6 @@ returns c = λ l t g.
     let call = c .before .before .before .before .before .before .before .before .fill-at in
     turn-below g (i .inv .1) (i .inv .2) (i .node - 1) (omega arith) (omega (arith, i .inv .0 .1)) (so-far d l t g) (call .ensures l t) .0
     (subst (λ (q : Bool). Exceeds (below (start-of (loop-of d) .args .bins) (start-of (loop-of d) .args .most) (i .node - 1)) q (call .result)) (c .if1 .taken) (c .before .too-many .ensures))
-
-loop-less : tie.Need-loop-less Inv-loop μ-loop
-loop-less c = omega arith
 
 loop-again : tie.Need-loop-again Inv-loop μ-loop
 loop-again c =
@@ -96,9 +90,6 @@ fill-at-requires-2 c κs =
     let p = start-of i .pre .0 in
     ((p .0, (p .1 .0, ready-root (p .1 .1) (i .loop .inv .1) (i .loop .inv .2) (to-root c (p .0) (p .1 .0) (p .1 .1)))), omega (arith, start-of i .pre .1, i .loop .inv .3))
 
-too-many-requires-2 : tie.Need-too-many-requires-2 Inv-loop μ-loop
-too-many-requires-2 c κs = omega arith
-
 returns-2 : tie.Need-returns-2 Inv-loop μ-loop
 returns-2 c = λ l t g.
     let d = c .before .before .before .before .before .before .before .before .before in
@@ -116,28 +107,7 @@ returns-3 c = λ l t g.
     turn-root g (i .inv .1) (i .inv .2) (to-root d l t g) (call .ensures l t) .1 (subst (λ (q : Bool). Exceeds (atRoot (a .t3) (a .most)) q (call .result)) (c .if2 .left) (c .before .too-many2 .ensures))
 
 pub fill-spec : {M : Type 1} → statement M
-fill-spec =
-    tie.close
-    (tie.spec
-    Inv-loop
-    μ-loop
-    loop-holds
-    sub-node
-    fill-at-requires
-    too-many-requires
-    (λ c. search needs)
-    (λ c. search needs)
-    (λ c. search needs)
-    returns
-    loop-less
-    loop-again
-    fill-at-requires-2
-    too-many-requires-2
-    (λ c. search needs)
-    (λ c. search needs)
-    (λ c. search needs)
-    returns-2
-    (λ c. search needs)
-    (λ c. search needs)
-    (λ c. search needs)
-    returns-3)
+fill-spec = tie.close (tie.spec Inv-loop μ-loop loop-holds (omega arith) fill-at-requires too-many-requires
+    (λ c. search needs) (λ c. search needs) (λ c. search needs) returns (omega arith) loop-again fill-at-requires-2
+    (omega arith) (λ c. search needs) (λ c. search needs) (λ c. search needs) returns-2 (λ c. search needs)
+    (λ c. search needs) (λ c. search needs) returns-3)

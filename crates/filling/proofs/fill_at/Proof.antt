@@ -38,15 +38,6 @@ fill-node-requires c κs =
     let f : FoundIs (p .0) (first .args .turn .node) (p .1 .1 .0) (first .args .found .now) (call .find-matches .last .1 .1 .1 .1 .0) (call .find-matches .result) = record { many = e .0; table = e .1 } in
     (gate-ready g f (gate-here (g .ready) (omega (arith, call .before .before .if1 .left))), omega (arith, count-few (g .ready) f, first .pre .1))
 
-same-length : tie.Need-same-length
-same-length c = search needs
-
-same-length-2 : tie.Need-same-length-2
-same-length-2 c = search needs
-
-same-length-3 : tie.Need-same-length-3
-same-length-3 c = search needs
-
 returns-2 : tie.Need-returns-2
 returns-2 c l t s g =
     let node = c .before .before .before .before in
@@ -55,15 +46,5 @@ returns-2 c l t s g =
     gate-done g (record { many = e .0; table = e .1 }) (gate-here (g .ready) (omega (arith, call .before .before .if1 .left))) (node .fill-node .ensures)
 
 pub fill-at-spec : {M : Type 1} → statement M
-fill-at-spec =
-    tie.close
-    (tie.spec
-    mul-if1
-    shared-slice-read-if1
-    returns
-    find-matches-requires
-    fill-node-requires
-    same-length
-    same-length-2
-    same-length-3
-    returns-2)
+fill-at-spec = tie.close (tie.spec mul-if1 shared-slice-read-if1 returns find-matches-requires fill-node-requires
+    (λ c. search needs) (λ c. search needs) (λ c. search needs) returns-2)

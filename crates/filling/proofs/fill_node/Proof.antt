@@ -39,9 +39,6 @@ so-far c =
 loop-holds : tie.Need-loop-holds Inv-loop μ-loop
 loop-holds c = (omega arith, refl, done-start (c .before .before .before .before .before .before .before .pre .0) _ refl)
 
-sub-b : tie.Need-sub-b Inv-loop μ-loop
-sub-b c = omega arith
-
 mul-t14 : tie.Need-mul-t14 Inv-loop μ-loop
 mul-t14 c = record { fits = omega (arith, start-of (c .before .before) .pre .0 .node) }
 
@@ -50,9 +47,6 @@ add-t15 c = let p = start-of (c .before .before) .pre .0 in omega (arith, p .nod
 
 array-read-t18 : tie.Need-array-read-t18 Inv-loop μ-loop
 array-read-t18 c = omega (arith, start-of (c .before .before) .pre .0 .few-bins, c .before .before .loop .inv .0)
-
-cast-t19 : tie.Need-cast-t19 Inv-loop μ-loop
-cast-t19 c = search needs
 
 curve-requires : tie.Need-curve-requires Inv-loop μ-loop
 curve-requires c κs =
@@ -80,9 +74,6 @@ array-write-points c =
     let i = c .before .before .before .before .before .before .before .before .before in
     omega (arith, start-of i .pre .0 .few-bins, i .loop .inv .0)
 
-loop-less : tie.Need-loop-less Inv-loop μ-loop
-loop-less c = omega arith
-
 loop-again : tie.Need-loop-again Inv-loop μ-loop
 loop-again c =
     let call = c .before .before .before .before in
@@ -105,22 +96,6 @@ returns c =
     done-all (start-of (c .before) .pre .0) (subst (λ (k : ℕ). Done (a .symbols .now) (a .work .now) (a .rows .now) (a .found .now) (a .count) (a .turn) k (i .work) (i .points)) none-left (i .inv .2))
 
 pub fill-node-spec : {M : Type 1} → statement M
-fill-node-spec =
-    tie.close
-    (tie.spec
-    Inv-loop
-    μ-loop
-    loop-holds
-    sub-b
-    mul-t14
-    add-t15
-    array-read-t18
-    cast-t19
-    curve-requires
-    cast-points
-    array-write-points
-    loop-less
-    loop-again
-    same-length
-    same-length-2
-    returns)
+fill-node-spec = tie.close (tie.spec Inv-loop μ-loop loop-holds (omega arith) mul-t14 add-t15 array-read-t18
+    (λ c. search needs) curve-requires cast-points array-write-points (omega arith) loop-again same-length
+    same-length-2 returns)

@@ -5,9 +5,6 @@ use Prim.Native.Nat.{_*_}
 use Rattle.frame.proofs.lacks_lengths.Statement.{statement}
 use Rattle.frame.proofs.lacks_lengths.Tie as tie
 
-mul-if1 : tie.Need-mul-if1
-mul-if1 c = search needs
-
 returns : tie.Need-returns
 returns c = rw (lt-ltb (c .before .args .bytes) (2 * c .before .args .lengths) (omega arith))
 
@@ -15,4 +12,4 @@ returns-2 : tie.Need-returns-2
 returns-2 c = rw (le-ltb (c .before .args .bytes) (2 * c .before .args .lengths) (omega arith))
 
 pub lacks-lengths-spec : {M : Type 1} → statement M
-lacks-lengths-spec = tie.close (tie.spec mul-if1 returns returns-2)
+lacks-lengths-spec = tie.close (tie.spec (λ c. search needs) returns returns-2)

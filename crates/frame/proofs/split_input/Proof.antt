@@ -6,9 +6,6 @@ use Rattle.frame.proofs.Laws.{spoiled-lacking, spoiled-by-end, lengths-
 use Rattle.frame.proofs.split_input.Statement.{statement}
 use Rattle.frame.proofs.split_input.Tie as tie
 
-lacks-lengths-requires : tie.Need-lacks-lengths-requires
-lacks-lengths-requires c κs = search needs
-
 returns : tie.Need-returns
 returns c =
     let a = c .before .before .before .args in
@@ -19,15 +16,6 @@ returns c =
 
 sheet-places-requires : tie.Need-sheet-places-requires
 sheet-places-requires c κs = let start = c .before .before .before in (start .pre, lengths-there (start .args .input .now) (start .args .lengths) (start .args .exact) (sym (c .before .lacks-lengths .ensures) ∙ c .if1 .left))
-
-mul-end : tie.Need-mul-end
-mul-end c = search needs
-
-array-read-end : tie.Need-array-read-end
-array-read-end c = search needs
-
-misfits-requires : tie.Need-misfits-requires
-misfits-requires c κs = search needs
 
 returns-2 : tie.Need-returns-2
 returns-2 c =
@@ -40,13 +28,5 @@ returns-2 c =
     }
 
 pub split-input-spec : {M : Type 1} → statement M
-split-input-spec =
-    tie.close
-    (tie.spec
-    lacks-lengths-requires
-    returns
-    sheet-places-requires
-    mul-end
-    array-read-end
-    misfits-requires
-    returns-2)
+split-input-spec = tie.close (tie.spec (λ c κs. search needs) returns sheet-places-requires (λ c. search needs)
+    (λ c. search needs) (λ c κs. search needs) returns-2)

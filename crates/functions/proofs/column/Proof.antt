@@ -24,12 +24,6 @@ rule : every 6 (λ pin. right pin (getD columns pin 0)) ≡ true
 unfolding every bitOf pinIn
 rule = refl
 
-mul-result : tie.Need-mul-result
-mul-result c = search needs
-
-array-read-result : tie.Need-array-read-result
-array-read-result c = search needs
-
 returns : tie.Need-returns
 returns c =
     let word = getD columns (c .args .pin) 0 in
@@ -37,4 +31,4 @@ returns c =
     record { small = ltb-true word (2 ^ wordSettings) (r .0); bits = λ k h. eqb-true (bitOf wordSettings word k) (pinIn k (c .args .pin)) (every-each wordSettings _ (r .1) k h) }
 
 pub column-spec : {M : Type 1} → statement M
-column-spec = tie.close (tie.spec mul-result array-read-result returns)
+column-spec = tie.close (tie.spec (λ c. search needs) (λ c. search needs) returns)

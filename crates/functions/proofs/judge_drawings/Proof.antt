@@ -28,24 +28,6 @@ loop-holds c =
     let p = c .before .before .pre in
     (omega arith, rows-few (p .1 .1), rows-long (p .1 .1), p .0, λ l h g. refl)
 
-mul-first : tie.Need-mul-first Inv-loop μ-loop
-mul-first c = record { fits = omega arith }
-
-add-computes : tie.Need-add-computes Inv-loop μ-loop
-add-computes c = record { fits = omega arith }
-
-mul-computes : tie.Need-mul-computes Inv-loop μ-loop
-mul-computes c = record { fits = omega arith }
-
-sub-computes : tie.Need-sub-computes Inv-loop μ-loop
-sub-computes c = omega arith
-
-part-computes-start : tie.Need-part-computes-start Inv-loop μ-loop
-part-computes-start c = omega arith
-
-part-computes-end : tie.Need-part-computes-end Inv-loop μ-loop
-part-computes-end c = omega arith
-
 computes-requires : tie.Need-computes-requires Inv-loop μ-loop
 computes-requires c κs =
     let p = c .before .before .before .before .before .pre in
@@ -61,12 +43,6 @@ returns c =
     λ l h g e.
     judged-other (first .functions .now) (countsOf l) (patterns l) (i .number) (omega (arith, h .total-is)) (i .inv .4 l h g)
     (sym (call .ensures (patternAt l (i .number)) (row-holds h (i .number) (omega arith) (46 * i .number + 46 - 46 * i .number) (omega arith)) (stated-fits h (i .number) (omega arith) (first .functions .now) g)) ∙ not-true (call .result) (c .if1 .taken))
-
-add-number : tie.Need-add-number Inv-loop μ-loop
-add-number c = record { fits = omega arith }
-
-loop-less : tie.Need-loop-less Inv-loop μ-loop
-loop-less c = omega arith
 
 loop-again : tie.Need-loop-again Inv-loop μ-loop
 loop-again c =
@@ -92,21 +68,6 @@ returns-2 c =
     ∙ judged-all (first .functions .now) (countsOf l) (patterns l) (i .number) (omega (arith, h .total-is)) (i .inv .4 l h g)
 
 pub judge-drawings-spec : {M : Type 1} → statement M
-judge-drawings-spec =
-    tie.close
-    (tie.spec
-    Inv-loop
-    μ-loop
-    loop-holds
-    mul-first
-    add-computes
-    mul-computes
-    sub-computes
-    part-computes-start
-    part-computes-end
-    computes-requires
-    returns
-    add-number
-    loop-less
-    loop-again
-    returns-2)
+judge-drawings-spec = tie.close (tie.spec Inv-loop μ-loop loop-holds (λ c. record { fits = omega arith })
+    (λ c. record { fits = omega arith }) (λ c. record { fits = omega arith }) (omega arith) (omega arith)
+    (omega arith) computes-requires returns (λ c. record { fits = omega arith }) (omega arith) loop-again returns-2)

@@ -12,15 +12,6 @@ use Rattle.functions.proofs.Sheet.{library-limited}
 use Rattle.functions.proofs.judge_functions.Statement.{statement}
 use Rattle.functions.proofs.judge_functions.Tie as tie
 
-read-library-requires : tie.Need-read-library-requires
-read-library-requires c κs = search needs
-
-enum-known-finding : tie.Need-enum-known-finding
-enum-known-finding c = search needs
-
-enum-told : tie.Need-enum-told
-enum-told c = search needs
-
 with-library-requires : tie.Need-with-library-requires
 with-library-requires c κs =
     let read = c .before .before .read-library in
@@ -52,4 +43,5 @@ returns-2 c =
     (e, (subst (FunctionDemands ls fs) (sym e) (demands ls fs), call .ensures .1))
 
 pub judge-functions-spec : {M : Type 1} → statement M
-judge-functions-spec = tie.close (tie.spec read-library-requires enum-known-finding enum-told with-library-requires returns returns-2)
+judge-functions-spec = tie.close (tie.spec (λ c κs. search needs) (λ c. search needs) (λ c. search needs)
+    with-library-requires returns returns-2)

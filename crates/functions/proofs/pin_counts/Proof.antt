@@ -22,32 +22,11 @@ abbrev μ-loop : tie.MeasureT-loop
 loop-holds : tie.Need-loop-holds Inv-loop μ-loop
 loop-holds c = (omega arith, rows-few (c .pre .1), rows-long (c .pre .1), refl, λ l h i j. absurd (omega arith))
 
-mul-first : tie.Need-mul-first Inv-loop μ-loop
-mul-first c = record { fits = omega arith }
-
-add-counts : tie.Need-add-counts Inv-loop μ-loop
-add-counts c = record { fits = omega arith }
-
-mul-counts : tie.Need-mul-counts Inv-loop μ-loop
-mul-counts c = record { fits = omega arith }
-
-shared-slice-read-counts : tie.Need-shared-slice-read-counts Inv-loop μ-loop
-shared-slice-read-counts c = omega arith
-
 cast-counts : tie.Need-cast-counts Inv-loop μ-loop
 cast-counts c =
     let h = c .before .before .before .pre .1 in
     let k = c .before .before .loop .k in
     record { fits = omega (arith, pins-at h k (omega arith), known h k (omega arith) .cell .few-pins) }
-
-add-counts-2 : tie.Need-add-counts-2 Inv-loop μ-loop
-add-counts-2 c = record { fits = omega arith }
-
-mul-counts-2 : tie.Need-mul-counts-2 Inv-loop μ-loop
-mul-counts-2 c = record { fits = omega arith }
-
-shared-slice-read-counts-2 : tie.Need-shared-slice-read-counts-2 Inv-loop μ-loop
-shared-slice-read-counts-2 c = omega arith
 
 cast-counts-2 : tie.Need-cast-counts-2 Inv-loop μ-loop
 cast-counts-2 c =
@@ -60,12 +39,6 @@ array-write-counts c =
     let h = c .before .before .before .before .pre .1 in
     let k = c .before .before .before .loop .k in
     omega (arith, number-at h k (omega arith), known h k (omega arith) .number-small, h .sound .few-cells)
-
-add-k : tie.Need-add-k Inv-loop μ-loop
-add-k c = record { fits = omega arith }
-
-loop-less : tie.Need-loop-less Inv-loop μ-loop
-loop-less c = omega arith
 
 loop-again : tie.Need-loop-again Inv-loop μ-loop
 loop-again c =
@@ -84,23 +57,7 @@ returns c =
     (i .inv .3, λ l h. noted-all h (i .counts) (i .inv .3) (λ k g. i .inv .4 l h k (omega arith)))
 
 pub pin-counts-spec : {M : Type 1} → statement M
-pin-counts-spec =
-    tie.close
-    (tie.spec
-    Inv-loop
-    μ-loop
-    loop-holds
-    mul-first
-    add-counts
-    mul-counts
-    shared-slice-read-counts
-    cast-counts
-    add-counts-2
-    mul-counts-2
-    shared-slice-read-counts-2
-    cast-counts-2
-    array-write-counts
-    add-k
-    loop-less
-    loop-again
-    returns)
+pin-counts-spec = tie.close (tie.spec Inv-loop μ-loop loop-holds (λ c. record { fits = omega arith })
+    (λ c. record { fits = omega arith }) (λ c. record { fits = omega arith }) (omega arith) cast-counts
+    (λ c. record { fits = omega arith }) (λ c. record { fits = omega arith }) (omega arith) cast-counts-2
+    array-write-counts (λ c. record { fits = omega arith }) (omega arith) loop-again returns)

@@ -28,9 +28,6 @@ Inv-loop s cells counts functions₀ at₀ k₀ functions at k =
 abbrev μ-loop : tie.MeasureT-loop
 μ-loop s cells counts functions₀ at₀ k₀ functions at k = cells - k
 
-begin-requires : tie.Need-begin-requires Inv-loop μ-loop
-begin-requires c κs = tt
-
 loop-holds : tie.Need-loop-holds Inv-loop μ-loop
 unfolding times
 loop-holds c = (omega arith, c .before .before .pre, refl, c .begin .ensures .0, omega (arith, c .begin .ensures .1))
@@ -55,9 +52,6 @@ array-write-functions c = omega (arith, c .before .before .before .loop .inv .1 
 
 add-k : tie.Need-add-k Inv-loop μ-loop
 add-k c = record { fits = omega (arith, c .before .before .before .loop .inv .1 .few-cells) }
-
-loop-less : tie.Need-loop-less Inv-loop μ-loop
-loop-less c = omega arith
 
 loop-again : tie.Need-loop-again Inv-loop μ-loop
 loop-again c =
@@ -90,21 +84,6 @@ returns c =
     }
 
 pub read-functions-spec : {M : Type 1} → statement M
-read-functions-spec =
-    tie.close
-    (tie.spec
-    Inv-loop
-    μ-loop
-    begin-requires
-    loop-holds
-    array-read-settings
-    cast-settings
-    settings-requires
-    raw-wide-requires
-    mul-functions
-    array-write-functions
-    add-k
-    loop-less
-    loop-again
-    end-requires
-    returns)
+read-functions-spec = tie.close (tie.spec Inv-loop μ-loop (λ c κs. tt) loop-holds array-read-settings cast-settings
+    settings-requires raw-wide-requires mul-functions array-write-functions add-k (omega arith) loop-again
+    end-requires returns)

@@ -5,9 +5,6 @@ use lib.Pow.{pow-mono, pow-pos}
 use Rattle.functions.proofs.settings.Statement.{statement}
 use Rattle.functions.proofs.settings.Tie as tie
 
-shl-result : tie.Need-shl-result
-shl-result c = search needs
-
 returns : tie.Need-returns
 returns c =
     let n = c .args .pins in
@@ -17,4 +14,4 @@ returns c =
     (omega arith, omega arith, omega arith)
 
 pub settings-spec : {M : Type 1} → statement M
-settings-spec = tie.close (tie.spec shl-result returns)
+settings-spec = tie.close (tie.spec (λ c. search needs) returns)

@@ -36,9 +36,6 @@ read-functions-requires c κs =
     let counts = c .pin-counts in
     pins-few (p .1 .sound) (counts .result) _ (counts .ensures .0) (cell-count (p .1)) (counts .ensures .1 (p .0) (rows-hold (p .1)))
 
-enum-told : tie.Need-enum-told
-enum-told c = search needs
-
 array-share-prefix-rows-2 : tie.Need-array-share-prefix-rows-2
 array-share-prefix-rows-2 c =
     let p = c .before .before .before .before .before .before .before .before .pre .1 in
@@ -50,9 +47,6 @@ slice-aggregate-judge-drawings c =
     let library = first .args .library in
     sym (length-take-le (46 * library .total) (library .rows) (omega (arith, few-rows (first .pre .1), table-whole (first .pre .1))))
 
-slice-aggregate-judge-drawings-2 : tie.Need-slice-aggregate-judge-drawings-2
-slice-aggregate-judge-drawings-2 c = search needs
-
 judge-drawings-requires : tie.Need-judge-drawings-requires
 judge-drawings-requires c κs =
     let p = c .before .before .before .before .before .before .before .before .before .before .pre in
@@ -60,15 +54,6 @@ judge-drawings-requires c κs =
     let read = c .before .before .before .before .before .read-functions in
     let are = own-pins (p .1 .sound) _ (counts .result) _ (read .result) (cell-count (p .1)) (counts .ensures .1 (p .0) (rows-hold (p .1))) (read .ensures) in
     (functions-long (p .1 .sound) _ (read .result) are, (p .0, rows-hold (p .1)))
-
-enum-known-scan : tie.Need-enum-known-scan
-enum-known-scan c = search needs
-
-library-number-requires : tie.Need-library-number-requires
-library-number-requires c κs = search needs
-
-add-number : tie.Need-add-number
-add-number c = search needs
 
 returns : tie.Need-returns
 returns c =
@@ -105,21 +90,7 @@ returns-2 c =
     )
 
 pub with-library-spec : {M : Type 1} → statement M
-with-library-spec =
-    tie.close
-    (tie.spec
-    mul-words
-    array-share-prefix-rows
-    slice-aggregate-pin-counts
-    pin-counts-requires
-    read-functions-requires
-    enum-told
-    array-share-prefix-rows-2
-    slice-aggregate-judge-drawings
-    slice-aggregate-judge-drawings-2
-    judge-drawings-requires
-    enum-known-scan
-    library-number-requires
-    add-number
-    returns
-    returns-2)
+with-library-spec = tie.close (tie.spec mul-words array-share-prefix-rows slice-aggregate-pin-counts
+    pin-counts-requires read-functions-requires (λ c. search needs) array-share-prefix-rows-2
+    slice-aggregate-judge-drawings (λ c. search needs) judge-drawings-requires (λ c. search needs)
+    (λ c κs. search needs) (λ c. search needs) returns returns-2)

@@ -11,9 +11,6 @@ use Rattle.interface.proofs.counts_word.Tie as tie
 abbrev Within : LibraryJudged → Type 0
 Within q = Bounded (onSuccess libraryWord (ofLibraryJudged q))
 
-enum-known-judged : tie.Need-enum-known-judged
-enum-known-judged c = search needs
-
 mul-result : tie.Need-mul-result
 unfolding ofLibraryJudged libraryWord onSuccess Bounded
 mul-result c = omega (arith, subst Within (c .before .judged .given .1) (c .before .before .before .pre))
@@ -21,9 +18,6 @@ mul-result c = omega (arith, subst Within (c .before .judged .given .1) (c .befo
 add-result : tie.Need-add-result
 unfolding ofLibraryJudged libraryWord onSuccess Bounded
 add-result c = omega (arith, subst Within (c .before .judged .given .1) (c .before .before .before .pre))
-
-enum-known-judged-2 : tie.Need-enum-known-judged-2
-enum-known-judged-2 c = search needs
 
 refusal-word-requires : tie.Need-refusal-word-requires
 unfolding ofLibraryJudged onSuccess Bounded
@@ -38,13 +32,5 @@ unfolding ofLibraryJudged onSuccess word
 returns-2 c = c .refusal-word .ensures ∙ sym (ap (λ q. word (onSuccess libraryWord (ofLibraryJudged q))) (c .before .before .judged2 .given .1))
 
 pub counts-word-spec : {M : Type 1} → statement M
-counts-word-spec =
-    tie.close
-    (tie.spec
-    enum-known-judged
-    mul-result
-    add-result
-    enum-known-judged-2
-    refusal-word-requires
-    returns
-    returns-2)
+counts-word-spec = tie.close (tie.spec (λ c. search needs) mul-result add-result (λ c. search needs)
+    refusal-word-requires returns returns-2)

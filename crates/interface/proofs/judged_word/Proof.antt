@@ -11,12 +11,6 @@ use Rattle.interface.proofs.judged_word.Tie as tie
 abbrev Within : CoverJudged → Type 0
 Within q = PointBounded (ofCoverJudged q)
 
-enum-known-judged : tie.Need-enum-known-judged
-enum-known-judged c = search needs
-
-cast-result : tie.Need-cast-result
-cast-result c = search needs
-
 mul-result : tie.Need-mul-result
 unfolding ofCoverJudged PointBounded
 mul-result c = omega (arith, subst Within (c .before .judged .given .1) (c .before .before .before .pre))
@@ -25,15 +19,9 @@ add-result : tie.Need-add-result
 unfolding ofCoverJudged PointBounded
 add-result c = omega (arith, subst Within (c .before .judged .given .1) (c .before .before .before .pre))
 
-cast-result-2 : tie.Need-cast-result-2
-cast-result-2 c = search needs
-
 add-result-2 : tie.Need-add-result-2
 unfolding ofCoverJudged PointBounded
 add-result-2 c = let h = subst Within (c .before .judged .given .1) (c .before .before .before .pre) in omega (arith, h .0, h .1)
-
-enum-known-judged-2 : tie.Need-enum-known-judged-2
-enum-known-judged-2 c = search needs
 
 refusal-word-requires : tie.Need-refusal-word-requires
 unfolding ofCoverJudged PointBounded
@@ -48,16 +36,5 @@ unfolding ofCoverJudged pointWord
 returns-2 c = c .refusal-word .ensures ∙ sym (ap (λ q. pointWord (ofCoverJudged q)) (c .before .before .judged2 .given .1))
 
 pub judged-word-spec : {M : Type 1} → statement M
-judged-word-spec =
-    tie.close
-    (tie.spec
-    enum-known-judged
-    cast-result
-    mul-result
-    add-result
-    cast-result-2
-    add-result-2
-    enum-known-judged-2
-    refusal-word-requires
-    returns
-    returns-2)
+judged-word-spec = tie.close (tie.spec (λ c. search needs) (λ c. search needs) mul-result add-result
+    (λ c. search needs) add-result-2 (λ c. search needs) refusal-word-requires returns returns-2)

@@ -6,23 +6,14 @@ use Rattle.map_rules.specs.declared.Reply.{Reply}
 use Rattle.interface.proofs.reply_word.Statement.{statement}
 use Rattle.interface.proofs.reply_word.Tie as tie
 
-enum-known-reply : tie.Need-enum-known-reply
-enum-known-reply c = search needs
-
 refusal-word-requires : tie.Need-refusal-word-requires
 unfolding ofReply Bounded
 refusal-word-requires c κs = let h = subst (λ (r : Reply). Bounded (ofReply r)) (c .before .reply .given .1) (c .before .before .before .pre) in (h .0, h .2, h .3)
-
-enum-known-reply-2 : tie.Need-enum-known-reply-2
-enum-known-reply-2 c = search needs
 
 returns : tie.Need-returns
 unfolding ofReply word
 returns c = c .refusal-word .ensures ∙ sym (ap (λ r. word (ofReply r)) (c .before .before .reply .given .1))
 
-returns-2 : tie.Need-returns-2
-unfolding ofReply word
-returns-2 c = search needs
-
 pub reply-word-spec : {M : Type 1} → statement M
-reply-word-spec = tie.close (tie.spec enum-known-reply refusal-word-requires enum-known-reply-2 returns returns-2)
+reply-word-spec = tie.close (tie.spec (λ c. search needs) refusal-word-requires (λ c. search needs) returns
+    (λ c. unfold ofReply word in search needs))

@@ -6,9 +6,6 @@ use Rattle.judge_rules.specs.Public.{ofCoverJudged, Judges}
 use Rattle.interface.proofs.treecover_judge_cover.Statement.{statement}
 use Rattle.interface.proofs.treecover_judge_cover.Tie as tie
 
-judge-cover-requires : tie.Need-judge-cover-requires
-judge-cover-requires c κs = search needs
-
 judged-word-requires : tie.Need-judged-word-requires
 judged-word-requires c κs = c .judge-cover .ensures .bounded
 
@@ -21,4 +18,4 @@ returns c =
     (word .ensures ∙ ap pointWord (call .ensures .answer-is), subst (Judges (a .library .now) (a .tree .now) (a .cover .now)) (sym said) (call .ensures))
 
 pub treecover-judge-cover-spec : {M : Type 1} → statement M
-treecover-judge-cover-spec = tie.close (tie.spec judge-cover-requires judged-word-requires returns)
+treecover-judge-cover-spec = tie.close (tie.spec (λ c κs. search needs) judged-word-requires returns)

@@ -7,12 +7,6 @@ use Rattle.functions_rules.specs.Demands.{FunctionDemands}
 use Rattle.interface.proofs.treecover_judge_functions.Statement.{statement}
 use Rattle.interface.proofs.treecover_judge_functions.Tie as tie
 
-judge-functions-requires : tie.Need-judge-functions-requires
-judge-functions-requires c κs = search needs
-
-counts-word-requires : tie.Need-counts-word-requires
-counts-word-requires c κs = search needs
-
 returns : tie.Need-returns
 returns c =
     let a = c .before .before .before .before .args in
@@ -23,4 +17,4 @@ returns c =
     (got .ensures ∙ ap (λ q. word (onSuccess libraryWord q)) (call .ensures .0), subst (FunctionDemands (a .library .now) (a .functions .now)) (sym said) (call .ensures .1 .0))
 
 pub treecover-judge-functions-spec : {M : Type 1} → statement M
-treecover-judge-functions-spec = tie.close (tie.spec judge-functions-requires counts-word-requires returns)
+treecover-judge-functions-spec = tie.close (tie.spec (λ c κs. search needs) (λ c κs. search needs) returns)

@@ -5,14 +5,8 @@ use Rattle.sheets_rules.specs.Report.{libraryWord}
 use Rattle.interface.proofs.treecover_judge_library.Statement.{statement}
 use Rattle.interface.proofs.treecover_judge_library.Tie as tie
 
-judge-library-requires : tie.Need-judge-library-requires
-judge-library-requires c κs = search needs
-
-counts-word-requires : tie.Need-counts-word-requires
-counts-word-requires c κs = search needs
-
 returns : tie.Need-returns
 returns c = c .counts-word .ensures ∙ ap (λ q. word (onSuccess libraryWord q)) (c .before .judge-library .ensures .0)
 
 pub treecover-judge-library-spec : {M : Type 1} → statement M
-treecover-judge-library-spec = tie.close (tie.spec judge-library-requires counts-word-requires returns)
+treecover-judge-library-spec = tie.close (tie.spec (λ c κs. search needs) (λ c κs. search needs) returns)

@@ -6,15 +6,6 @@ use Rattle.sheets_rules.specs.Report.{ofTreeJudged}
 use Rattle.interface.proofs.treecover_judge_tree.Statement.{statement}
 use Rattle.interface.proofs.treecover_judge_tree.Tie as tie
 
-judge-tree-requires : tie.Need-judge-tree-requires
-judge-tree-requires c κs = search needs
-
-enum-known-judged : tie.Need-enum-known-judged
-enum-known-judged c = search needs
-
-enum-known-judged-2 : tie.Need-enum-known-judged-2
-enum-known-judged-2 c = search needs
-
 refusal-word-requires : tie.Need-refusal-word-requires
 unfolding ofTreeJudged Bounded
 refusal-word-requires c κs = let h = subst (λ (q : TreeJudged). Bounded (ofTreeJudged q)) (c .before .judged2 .given .1) (c .before .before .before .judge-tree .ensures .1 .0) in (h .0, h .2, h .3)
@@ -28,4 +19,5 @@ unfolding ofTreeJudged word
 returns-2 c = c .refusal-word .ensures ∙ ap word (sym (ap ofTreeJudged (c .before .before .judged2 .given .1)) ∙ c .before .before .before .before .judge-tree .ensures .0)
 
 pub treecover-judge-tree-spec : {M : Type 1} → statement M
-treecover-judge-tree-spec = tie.close (tie.spec judge-tree-requires enum-known-judged enum-known-judged-2 refusal-word-requires returns returns-2)
+treecover-judge-tree-spec = tie.close (tie.spec (λ c κs. search needs) (λ c. search needs) (λ c. search needs)
+    refusal-word-requires returns returns-2)

@@ -8,17 +8,8 @@ use Rattle.map_rules.specs.Public.{ofReply}
 use Rattle.interface.proofs.treecover_map.Statement.{statement}
 use Rattle.interface.proofs.treecover_map.Tie as tie
 
-map-requires : tie.Need-map-requires
-map-requires c κs = search needs
-
 reply-word-requires : tie.Need-reply-word-requires
 reply-word-requires c κs = c .before .before .before .before .map .ensures .operated .bounded
-
-same-length : tie.Need-same-length
-same-length c = search needs
-
-same-length-2 : tie.Need-same-length-2
-same-length-2 c = search needs
 
 returns : tie.Need-returns
 returns c =
@@ -27,4 +18,5 @@ returns c =
     subst (Maps (a .library .now) (a .tree .now) (a .output .now) (call .last .1 .1 .0) (a .work .now) (call .last .1 .1 .1 .0)) (sym (ap ofWord (c .reply-word .ensures) ∙ word-reads (ofReply (call .result)) (call .ensures .operated .bounded))) (call .ensures)
 
 pub treecover-map-spec : {M : Type 1} → statement M
-treecover-map-spec = tie.close (tie.spec map-requires reply-word-requires same-length same-length-2 returns)
+treecover-map-spec = tie.close (tie.spec (λ c κs. search needs) reply-word-requires (λ c. search needs)
+    (λ c. search needs) returns)

@@ -6,12 +6,6 @@ use Rattle.judge.proofs.is_crossing.Tie as tie
 returns : tie.Need-returns
 returns c = λ d e. crossing-large d (c .before .args .crossing) (c .if1 .taken)
 
-cast-result : tie.Need-cast-result
-cast-result c = search needs
-
-shr-result : tie.Need-shr-result
-shr-result c = search needs
-
 rem-result : tie.Need-rem-result
 rem-result c = some-left (c .before .args .nands) (c .before .pre)
 
@@ -19,4 +13,4 @@ returns-2 : tie.Need-returns-2
 returns-2 c = λ d e. crossing-tested d (c .before .args .nands) (c .before .args .crossing) (c .before .pre) e (c .if1 .left)
 
 pub is-crossing-spec : {M : Type 1} → statement M
-is-crossing-spec = tie.close (tie.spec returns cast-result shr-result rem-result returns-2)
+is-crossing-spec = tie.close (tie.spec returns (λ c. search needs) (λ c. search needs) rem-result returns-2)

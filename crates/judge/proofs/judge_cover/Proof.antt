@@ -13,15 +13,6 @@ use Rattle.judge.proofs.Judged.{judges}
 use Rattle.judge.proofs.judge_cover.Statement.{statement}
 use Rattle.judge.proofs.judge_cover.Tie as tie
 
-read-library-requires : tie.Need-read-library-requires
-read-library-requires c κs = search needs
-
-enum-known-finding : tie.Need-enum-known-finding
-enum-known-finding c = search needs
-
-enum-told : tie.Need-enum-told
-enum-told c = search needs
-
 with-library-requires : tie.Need-with-library-requires
 with-library-requires c κs =
     let read = c .before .before .read-library in
@@ -49,4 +40,5 @@ returns-2 c =
     (says-bounded LibraryStored (librarySaid (a .library .now)) (read .result .finding) (read .result .library) (read .ensures .said)) (λ l e. call .ensures .1)
 
 pub judge-cover-spec : {M : Type 1} → statement M
-judge-cover-spec = tie.close (tie.spec read-library-requires enum-known-finding enum-told with-library-requires returns returns-2)
+judge-cover-spec = tie.close (tie.spec (λ c κs. search needs) (λ c. search needs) (λ c. search needs)
+    with-library-requires returns returns-2)

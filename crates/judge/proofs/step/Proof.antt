@@ -11,32 +11,14 @@ use Rattle.judge.proofs.step.Tie as tie
 returns : tie.Need-returns
 returns c = let a = c .before .before .before .before .args in λ l t k w h. wrong-past h (a .node) (a .pattern) (a .crossing) (c .if1 .taken)
 
-sub-if2 : tie.Need-sub-if2
-sub-if2 c = search needs
-
 element-copy-out-if2 : tie.Need-element-copy-out-if2
 element-copy-out-if2 c = let h = c .before .before .before .before .pre .1 .1 .1 .1 in omega (arith, count-few h)
 
 returns-2 : tie.Need-returns-2
 returns-2 c = let a = c .before .before .before .before .before .before .args in λ l t k w h. wrong-node h (a .node) (a .pattern) (a .crossing) (omega (arith, c .before .before .if1 .left)) (c .if2 .taken)
 
-mul-first : tie.Need-mul-first
-mul-first c = search needs
-
 returns-3 : tie.Need-returns-3
 returns-3 c = let a = c .before .before .before .before .before .before .before .args in λ l t k w h. wrong-pattern h (a .node) (a .pattern) (a .crossing) (omega (arith, c .before .before .before .if1 .left)) (c .before .if2 .left) (c .if3 .taken)
-
-add-take-match : tie.Need-add-take-match
-add-take-match c = search needs
-
-mul-take-match : tie.Need-mul-take-match
-mul-take-match c = search needs
-
-sub-take-match : tie.Need-sub-take-match
-sub-take-match c = search needs
-
-part-take-match-start : tie.Need-part-take-match-start
-part-take-match-start c = search needs
 
 part-take-match-end : tie.Need-part-take-match-end
 part-take-match-end c =
@@ -60,19 +42,6 @@ returns-4 c =
     (c .take-match .ensures l t k (patternAt l (a .pattern)) _ w (a .pattern) (taking h (a .node) (a .pattern) (a .crossing) (omega (arith, c .before .before .before .before .before .if1 .left)) (c .before .before .before .if2 .left) (omega (arith, c .before .before .if3 .left)) (at + rowWords - at) (omega arith)))
 
 pub step-spec : {M : Type 1} → statement M
-step-spec =
-    tie.close
-    (tie.spec
-    returns
-    sub-if2
-    element-copy-out-if2
-    returns-2
-    mul-first
-    returns-3
-    add-take-match
-    mul-take-match
-    sub-take-match
-    part-take-match-start
-    part-take-match-end
-    take-match-requires
-    returns-4)
+step-spec = tie.close (tie.spec returns (λ c. search needs) element-copy-out-if2 returns-2 (λ c. search needs)
+    returns-3 (λ c. search needs) (λ c. search needs) (λ c. search needs) (λ c. search needs) part-take-match-end
+    take-match-requires returns-4)

@@ -20,14 +20,8 @@ sub-top c = top (c .before .before .before .pre .1 .1 .1 .1 .1 .1) .some
 element-copy-out-node : tie.Need-element-copy-out-node
 element-copy-out-node c = let t = top (c .before .before .before .pre .1 .1 .1 .1 .1 .1) in omega (arith, t .some, t .few)
 
-cast-node : tie.Need-cast-node
-cast-node c = search needs
-
 element-copy-out-load : tie.Need-element-copy-out-load
 element-copy-out-load c = let t = top (c .before .before .before .before .pre .1 .1 .1 .1 .1 .1) in omega (arith, t .some, t .few)
-
-cast-load : tie.Need-cast-load
-cast-load c = search needs
 
 mul-delay : tie.Need-mul-delay
 mul-delay c = let t = top (c .before .before .before .before .before .pre .1 .1 .1 .1 .1 .1) in omega (arith, t .some, t .few)
@@ -43,12 +37,6 @@ returns c = λ l t k p s w number h. wrong-load h number _ (c .before .is-legal 
 
 measure-requires : tie.Need-measure-requires
 measure-requires c κs = let p = entry (c .before) .pre .1 .1 .1 in (p .0 .drawing, (p .1 .1 .1 .drawn, p .1 .1 .1 .drawing .size))
-
-array-read-is-crossing : tie.Need-array-read-is-crossing
-array-read-is-crossing c = search needs
-
-cast-is-crossing : tie.Need-cast-is-crossing
-cast-is-crossing c = search needs
 
 is-crossing-requires : tie.Need-is-crossing-requires
 is-crossing-requires c κs = nands-read (entry (c .before .before .before) .pre .1 .1 .1 .1 .1 .1) (c .before .measure .ensures) .few
@@ -95,26 +83,7 @@ returns-4 c = λ l t k p s w number h.
     f .makes (c .visit-inputs .result) (c .visit-inputs .ensures l (f .m) (f .below) (f .enters))
 
 pub take-match-spec : {M : Type 1} → statement M
-take-match-spec =
-    tie.close
-    (tie.spec
-    sub-top
-    element-copy-out-node
-    cast-node
-    element-copy-out-load
-    cast-load
-    mul-delay
-    element-copy-out-delay
-    is-legal-requires
-    returns
-    measure-requires
-    array-read-is-crossing
-    cast-is-crossing
-    is-crossing-requires
-    returns-2
-    walk-requires
-    returns-3
-    shared-slice-read-pop
-    pop-requires
-    visit-inputs-requires
-    returns-4)
+take-match-spec = tie.close (tie.spec sub-top element-copy-out-node (λ c. search needs) element-copy-out-load
+    (λ c. search needs) mul-delay element-copy-out-delay is-legal-requires returns measure-requires
+    (λ c. search needs) (λ c. search needs) is-crossing-requires returns-2 walk-requires returns-3
+    shared-slice-read-pop pop-requires visit-inputs-requires returns-4)

@@ -7,21 +7,6 @@ use Rattle.judge.proofs.Stored.{visit-arrived, visit-pushed}
 use Rattle.judge.proofs.visit.Statement.{statement}
 use Rattle.judge.proofs.visit.Tie as tie
 
-leaf-arrival-requires : tie.Need-leaf-arrival-requires
-leaf-arrival-requires c κs = search needs
-
-cast-arrive : tie.Need-cast-arrive
-cast-arrive c = search needs
-
-add-arrive : tie.Need-add-arrive
-add-arrive c = search needs
-
-arrive-requires : tie.Need-arrive-requires
-arrive-requires c κs = search needs
-
-push-requires : tie.Need-push-requires
-push-requires c κs = search needs
-
 returns : tie.Need-returns
 returns c = λ w s k o.
     let a = c .before .before .before .args in
@@ -34,4 +19,5 @@ returns-2 c = λ w s k o.
     subst (WalkStored _) (sym (c .push .ensures)) (visit-pushed k (a .symbol) (a .load) (a .delay) (a .node) s o (omega (arith, c .before .if1 .left)) (c .before .before .pre .1))
 
 pub visit-spec : {M : Type 1} → statement M
-visit-spec = tie.close (tie.spec leaf-arrival-requires cast-arrive add-arrive arrive-requires returns push-requires returns-2)
+visit-spec = tie.close (tie.spec (λ c κs. search needs) (λ c. search needs) (λ c. search needs) (λ c κs. search needs)
+    returns (λ c κs. search needs) returns-2)

@@ -57,12 +57,6 @@ listed : (c : tie.In-loop Inv-loop μ-loop) →
     drop (c .before .loop .k) xs ≡ record { node = getD (a .cover .nodes) (c .before .loop .k) 0; pattern = getD (a .cover .patterns) (c .before .loop .k) 0; crossing = getD (a .cover .crossings) (c .before .loop .k) 0 } ∷ drop (suc (c .before .loop .k)) xs
 listed c = let a = entry (c .before) .args in placed-drop (a .cover .nodes) (a .cover .patterns) (a .cover .crossings) (a .cover .count) (c .before .loop .k) (c .loop-test .taken) (room (entry (c .before)))
 
-begin-requires : tie.Need-begin-requires Inv-loop μ-loop
-begin-requires c κs = search needs
-
-array-read-visit : tie.Need-array-read-visit Inv-loop μ-loop
-array-read-visit c = search needs
-
 cast-visit : tie.Need-cast-visit Inv-loop μ-loop
 cast-visit c = omega (arith, load-small (c .before .before .before .before .before .before .before .before .pre .1 .1 .1))
 
@@ -144,25 +138,6 @@ unfolding ofCoverJudged
 returns-3 c = λ l t h. gone-end l t _ (gone-all (c .before .before) l t h) (none-listed (entry (c .before .before .before))) (omega (arith, c .if2 .left))
 
 pub walk-cover-spec : {M : Type 1} → statement M
-walk-cover-spec =
-    tie.close
-    (tie.spec
-    Inv-loop
-    μ-loop
-    begin-requires
-    array-read-visit
-    cast-visit
-    visit-requires
-    loop-holds
-    slice-aggregate-step
-    slice-aggregate-step-2
-    array-read-step
-    array-read-step-2
-    array-read-step-3
-    step-requires
-    returns
-    add-k
-    loop-less
-    loop-again
-    returns-2
-    returns-3)
+walk-cover-spec = tie.close (tie.spec Inv-loop μ-loop (λ c κs. search needs) (λ c. search needs) cast-visit
+    visit-requires loop-holds slice-aggregate-step slice-aggregate-step-2 array-read-step array-read-step-2
+    array-read-step-3 step-requires returns add-k loop-less loop-again returns-2 returns-3)

@@ -13,15 +13,6 @@ use Rattle.judge_rules.specs.Public.{ofCoverJudged}
 use Rattle.judge.proofs.with_library.Statement.{statement}
 use Rattle.judge.proofs.with_library.Tie as tie
 
-read-tree-requires : tie.Need-read-tree-requires
-read-tree-requires c κs = search needs
-
-enum-known-finding : tie.Need-enum-known-finding
-enum-known-finding c = search needs
-
-enum-told : tie.Need-enum-told
-enum-told c = search needs
-
 with-tree-requires : tie.Need-with-tree-requires
 with-tree-requires c κs =
     let first = c .before .before .before .before .before in
@@ -46,4 +37,5 @@ returns-2 c =
     (λ l h. c .with-tree .ensures l (said .0) (sheets-stored h (said .2)) ∙ sym (after-success (coverJudged (coverRead (a .cover .now) start) l) (said .1)), says-bounded TreeStored (treeSaid (a .tree .now)) (read .result .finding) (read .result .tree) (read .ensures))
 
 pub with-library-spec : {M : Type 1} → statement M
-with-library-spec = tie.close (tie.spec read-tree-requires enum-known-finding enum-told with-tree-requires returns returns-2)
+with-library-spec = tie.close (tie.spec (λ c κs. search needs) (λ c. search needs) (λ c. search needs)
+    with-tree-requires returns returns-2)

@@ -26,13 +26,11 @@ walk-cover-requires c κs =
     let p = c .before .before .before .pre in
     (p .0, (p .1 .0, (p .1 .1 .0, record { decoded = decoded-of (p .1 .1 .1); tree-is = p .1 .1 .1 .tree-is })))
 
-compare-requires : tie.Need-compare-requires
-compare-requires c κs = search needs
-
 returns : tie.Need-returns
 returns c = λ l t h.
     let a = c .before .before .before .before .before .args in
     c .compare .ensures ∙ ap (figures (record { area = a .cover .area; arrival = a .cover .arrival })) (c .before .walk-cover .ensures l t (record { decoded = decoded-of h; tree-is = h .tree-is }))
 
 pub with-records-spec : {M : Type 1} → statement M
-with-records-spec = tie.close (tie.spec mul-words array-share-prefix-rows slice-aggregate-walk-cover walk-cover-requires compare-requires returns)
+with-records-spec = tie.close (tie.spec mul-words array-share-prefix-rows slice-aggregate-walk-cover
+    walk-cover-requires (λ c κs. search needs) returns)

@@ -3,18 +3,6 @@ use Rattle.judge.proofs.Judged.{cover-answered, cover-not-read}
 use Rattle.judge.proofs.with_tree.Statement.{statement}
 use Rattle.judge.proofs.with_tree.Tie as tie
 
-read-cover-requires : tie.Need-read-cover-requires
-read-cover-requires c κs = search needs
-
-enum-told : tie.Need-enum-told
-enum-told c = search needs
-
-with-records-requires : tie.Need-with-records-requires
-with-records-requires c κs = search needs
-
-enum-known-scan : tie.Need-enum-known-scan
-enum-known-scan c = search needs
-
 returns : tie.Need-returns
 returns c = λ l t h.
     let first = c .before .before .before .before .before in
@@ -30,4 +18,5 @@ returns-2 c = λ l t h.
     cover-not-read (first .args .cover .now) (read .result) (read .ensures) l t (told .0 .0) (told .0 .1 .0) (told .1)
 
 pub with-tree-spec : {M : Type 1} → statement M
-with-tree-spec = tie.close (tie.spec read-cover-requires enum-told with-records-requires enum-known-scan returns returns-2)
+with-tree-spec = tie.close (tie.spec (λ c κs. search needs) (λ c. search needs) (λ c κs. search needs)
+    (λ c. search needs) returns returns-2)

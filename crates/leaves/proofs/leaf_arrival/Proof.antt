@@ -11,9 +11,6 @@ use Rattle.leaves.proofs.leaf_arrival.Tie as tie
 added : (symbol load : ℕ) → symbol ≤ symbolLimit → load ≤ 255 → (symbol - 2) / 1048576 * load ≤ 255 * 255
 added symbol load h g = let drive : (symbol - 2) / 1048576 ≤ 255 = omega arith in mul-le-mul drive g
 
-sub-packed : tie.Need-sub-packed
-sub-packed c = search needs
-
 mul-result : tie.Need-mul-result
 mul-result c = let a = c .args in omega (arith, added (a .symbol) (a .load) (c .pre .1) (c .pre .2))
 
@@ -28,4 +25,4 @@ unfolding leafArrival leafOf
 returns c = let a = c .args in omega (arith, added (a .symbol) (a .load) (c .pre .1) (c .pre .2))
 
 pub leaf-arrival-spec : {M : Type 1} → statement M
-leaf-arrival-spec = tie.close (tie.spec sub-packed mul-result add-result cast-result returns)
+leaf-arrival-spec = tie.close (tie.spec (λ c. search needs) mul-result add-result cast-result returns)

@@ -15,17 +15,11 @@ use Rattle.lending.proofs.lend.Tie as tie
 abbrev Told : ℕ → ℕ → ℕ → Lent → Type 0
 Told least output work q = Says (λ (m n : ℕ). m ≡ n) (lent least output work) (q .finding) (q .most)
 
-short-requires : tie.Need-short-requires
-short-requires c κs = search needs
-
 returns : tie.Need-returns
 unfolding Bounded
 returns c =
     let a = c .before .before .args in
     subst (Told (a .least) (a .output) (a .work)) (sym (c .short .ensures)) (short-output (a .least) (a .output) (a .work) (omega arith), omega arith)
-
-short-requires-2 : tie.Need-short-requires-2
-short-requires-2 c κs = search needs
 
 returns-2 : tie.Need-returns-2
 unfolding Bounded
@@ -38,4 +32,4 @@ unfolding allowed
 returns-3 c = let a = c .before .before .args in (allowed (a .work), lent-enough (a .least) (a .output) (a .work) (omega arith) (omega arith), refl)
 
 pub lend-spec : {M : Type 1} → statement M
-lend-spec = tie.close (tie.spec short-requires returns short-requires-2 returns-2 returns-3)
+lend-spec = tie.close (tie.spec (λ c κs. search needs) returns (λ c κs. search needs) returns-2 returns-3)

@@ -8,12 +8,6 @@ use Rattle.sheets_rules.proofs.LibrarySheet.{complete-dead, complete-whole}
 use Rattle.library.proofs.completed.Statement.{statement}
 use Rattle.library.proofs.completed.Tie as tie
 
-enum-told : tie.Need-enum-told
-enum-told c = search needs
-
-enum-told-2 : tie.Need-enum-told-2
-enum-told-2 c = search needs
-
 returns : tie.Need-returns
 returns c =
     let a = c .before .before .args in
@@ -31,4 +25,4 @@ returns-3 c =
     sym (ap₂ (λ (b : Bool) (q : Scan). complete b (a .first) q) (c .if1 .left) (c .before .enum-told .given .1))
 
 pub completed-spec : {M : Type 1} → statement M
-completed-spec = tie.close (tie.spec enum-told enum-told-2 returns returns-2 returns-3)
+completed-spec = tie.close (tie.spec (λ c. search needs) (λ c. search needs) returns returns-2 returns-3)

@@ -17,24 +17,6 @@ abbrev μ-loop : tie.MeasureT-loop
 loop-holds : tie.Need-loop-holds Inv-loop μ-loop
 loop-holds c = (omega arith, refl, refl)
 
-mul-symbols : tie.Need-mul-symbols Inv-loop μ-loop
-mul-symbols c = omega arith
-
-shared-slice-read-symbols : tie.Need-shared-slice-read-symbols Inv-loop μ-loop
-shared-slice-read-symbols c = omega arith
-
-mul-symbols-2 : tie.Need-mul-symbols-2 Inv-loop μ-loop
-mul-symbols-2 c = omega arith
-
-slice-write-symbols : tie.Need-slice-write-symbols Inv-loop μ-loop
-slice-write-symbols c = omega arith
-
-add-k : tie.Need-add-k Inv-loop μ-loop
-add-k c = omega arith
-
-loop-less : tie.Need-loop-less Inv-loop μ-loop
-loop-less c = omega arith
-
 loop-again : tie.Need-loop-again Inv-loop μ-loop
 loop-again c =
     let a = c .before .before .before .args in
@@ -53,18 +35,5 @@ returns c =
     i .inv .2 ∙ ap (λ (k : ℕ). sets (a .symbols .now) 0 (take k (a .drawn .now))) all
 
 pub copy-spec : {M : Type 1} → statement M
-copy-spec =
-    tie.close
-    (tie.spec
-    Inv-loop
-    μ-loop
-    loop-holds
-    mul-symbols
-    shared-slice-read-symbols
-    mul-symbols-2
-    slice-write-symbols
-    add-k
-    loop-less
-    loop-again
-    same-length
-    returns)
+copy-spec = tie.close (tie.spec Inv-loop μ-loop loop-holds (omega arith) (omega arith) (omega arith) (omega arith)
+    (omega arith) (omega arith) loop-again same-length returns)

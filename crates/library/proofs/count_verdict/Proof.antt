@@ -5,17 +5,11 @@ use Rattle.sheets_rules.specs.LibrarySheet.{countVerdict}
 use Rattle.library.proofs.count_verdict.Statement.{statement}
 use Rattle.library.proofs.count_verdict.Tie as tie
 
-add-if1 : tie.Need-add-if1
-add-if1 c = search needs
-
 returns : tie.Need-returns
 unfolding countVerdict
 returns c =
     let a = c .before .args in
     simp (lt-leb (a .total + a .count) 128 (c .if1 .taken))
-
-in-range-requires : tie.Need-in-range-requires
-in-range-requires c κs = search needs
 
 returns-2 : tie.Need-returns-2
 unfolding countVerdict
@@ -24,4 +18,4 @@ returns-2 c =
     simp (le-leb (a .total + a .count) 128 (c .before .if1 .left), c .in-range .ensures)
 
 pub count-verdict-spec : {M : Type 1} → statement M
-count-verdict-spec = tie.close (tie.spec add-if1 returns in-range-requires returns-2)
+count-verdict-spec = tie.close (tie.spec (λ c. search needs) returns (λ c κs. search needs) returns-2)

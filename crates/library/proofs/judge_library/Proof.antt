@@ -8,20 +8,8 @@ use Rattle.library.proofs.Whole.{library-judged}
 use Rattle.library.proofs.judge_library.Statement.{statement}
 use Rattle.library.proofs.judge_library.Tie as tie
 
-slice-aggregate-read-sheet : tie.Need-slice-aggregate-read-sheet
-slice-aggregate-read-sheet c = refl
-
 read-sheet-requires : tie.Need-read-sheet-requires
 read-sheet-requires c κs = inr refl
-
-finding-of-requires : tie.Need-finding-of-requires
-finding-of-requires c κs = search needs
-
-enum-told : tie.Need-enum-told
-enum-told c = search needs
-
-enum-known-refusal : tie.Need-enum-known-refusal
-enum-known-refusal c = search needs
 
 returns : tie.Need-returns
 unfolding ofLibraryJudged onSuccess
@@ -37,13 +25,5 @@ returns-2 c =
     library-judged (c .before .before .before .before .before .before .before .before .args .s .now) _ _ (r .result) (r .ensures) (Finding.Refused (told .0 .0)) (sym (told .1) ∙ c .before .before .before .finding-of .ensures)
 
 pub judge-library-spec : {M : Type 1} → statement M
-judge-library-spec =
-    tie.close
-    (tie.spec
-    slice-aggregate-read-sheet
-    read-sheet-requires
-    finding-of-requires
-    enum-told
-    enum-known-refusal
-    returns
-    returns-2)
+judge-library-spec = tie.close (tie.spec (λ c. refl) read-sheet-requires (λ c κs. search needs) (λ c. search needs)
+    (λ c. search needs) returns returns-2)

@@ -5,21 +5,6 @@ use Rattle.sheets_rules.specs.Report.{libraryNumber}
 use Rattle.library.proofs.library_number.Statement.{statement}
 use Rattle.library.proofs.library_number.Tie as tie
 
-enum-told : tie.Need-enum-told
-enum-told c = search needs
-
-enum-told-2 : tie.Need-enum-told-2
-enum-told-2 c = search needs
-
-enum-told-3 : tie.Need-enum-told-3
-enum-told-3 c = search needs
-
-enum-told-4 : tie.Need-enum-told-4
-enum-told-4 c = search needs
-
-enum-told-5 : tie.Need-enum-told-5
-enum-told-5 c = search needs
-
 returns : tie.Need-returns
 unfolding libraryNumber
 returns c = (sym (ap libraryNumber (c .enum-told .given .1)), omega arith)
@@ -41,16 +26,5 @@ unfolding libraryNumber
 returns-5 c = (sym (ap libraryNumber (c .enum-told5 .given .1)), omega arith)
 
 pub library-number-spec : {M : Type 1} → statement M
-library-number-spec =
-    tie.close
-    (tie.spec
-    enum-told
-    enum-told-2
-    enum-told-3
-    enum-told-4
-    enum-told-5
-    returns
-    returns-2
-    returns-3
-    returns-4
-    returns-5)
+library-number-spec = tie.close (tie.spec (λ c. search needs) (λ c. search needs) (λ c. search needs)
+    (λ c. search needs) (λ c. search needs) returns returns-2 returns-3 returns-4 returns-5)

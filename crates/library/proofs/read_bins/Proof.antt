@@ -30,27 +30,6 @@ loop-holds : tie.Need-loop-holds Inv-loop μ-loop
 unfolding times last
 loop-holds c = (omega arith, refl, refl, omega arith, refl, omega arith)
 
-add-ranged : tie.Need-add-ranged Inv-loop μ-loop
-add-ranged c = omega arith
-
-ranged-requires : tie.Need-ranged-requires Inv-loop μ-loop
-ranged-requires c κs = omega arith
-
-cast-loads : tie.Need-cast-loads Inv-loop μ-loop
-cast-loads c = omega arith
-
-cast-loads-2 : tie.Need-cast-loads-2 Inv-loop μ-loop
-cast-loads-2 c = omega arith
-
-array-write-loads : tie.Need-array-write-loads Inv-loop μ-loop
-array-write-loads c = omega arith
-
-add-k : tie.Need-add-k Inv-loop μ-loop
-add-k c = omega arith
-
-loop-less : tie.Need-loop-less Inv-loop μ-loop
-loop-less c = omega arith
-
 loop-again : tie.Need-loop-again Inv-loop μ-loop
 loop-again c =
     let a = c .before .before .before .before .args in
@@ -80,18 +59,5 @@ returns c =
     }
 
 pub read-bins-spec : {M : Type 1} → statement M
-read-bins-spec =
-    tie.close
-    (tie.spec
-    Inv-loop
-    μ-loop
-    loop-holds
-    add-ranged
-    ranged-requires
-    cast-loads
-    cast-loads-2
-    array-write-loads
-    add-k
-    loop-less
-    loop-again
-    returns)
+read-bins-spec = tie.close (tie.spec Inv-loop μ-loop loop-holds (omega arith) (omega arith) (omega arith)
+    (omega arith) (omega arith) (omega arith) (omega arith) loop-again returns)

@@ -37,18 +37,6 @@ read-cell-requires c κs =
     let i = c .before .before .loop in
     (omega arith, table-same (c .before .before .before .before .before .args .rows .now) (i .rows) (i .inv .1) (c .before .before .before .before .before .pre .1), omega arith, omega arith)
 
-cast-total : tie.Need-cast-total Inv-loop μ-loop
-cast-total c = omega arith
-
-add-total : tie.Need-add-total Inv-loop μ-loop
-add-total c = omega arith
-
-add-k : tie.Need-add-k Inv-loop μ-loop
-add-k c = omega arith
-
-loop-less : tie.Need-loop-less Inv-loop μ-loop
-loop-less c = omega arith
-
 loop-again : tie.Need-loop-again Inv-loop μ-loop
 loop-again c =
     let a = c .before .before .before .before .before .before .before .before .before .args in
@@ -82,4 +70,5 @@ returns c =
     }
 
 pub read-cells-spec : {M : Type 1} → statement M
-read-cells-spec = tie.close (tie.spec Inv-loop μ-loop loop-holds read-cell-requires cast-total add-total add-k loop-less loop-again same-length returns)
+read-cells-spec = tie.close (tie.spec Inv-loop μ-loop loop-holds read-cell-requires (omega arith) (omega arith)
+    (omega arith) (omega arith) loop-again same-length returns)

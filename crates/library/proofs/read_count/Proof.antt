@@ -6,15 +6,6 @@ use Rattle.sheets_rules.proofs.LibrarySheet.{count-passes, count-fits}
 use Rattle.library.proofs.read_count.Statement.{statement}
 use Rattle.library.proofs.read_count.Tie as tie
 
-raw-requires : tie.Need-raw-requires
-raw-requires c κs = search needs
-
-count-verdict-requires : tie.Need-count-verdict-requires
-count-verdict-requires c κs = search needs
-
-settle-requires : tie.Need-settle-requires
-settle-requires c κs = search needs
-
 returns : tie.Need-returns
 returns c =
     let a = c .before .before .before .before .args in
@@ -25,4 +16,4 @@ returns c =
     record { reads = r; fits = rw (r .value) (count-fits (a .s .now) (a .total) (a .scan) (omega arith)) }
 
 pub read-count-spec : {M : Type 1} → statement M
-read-count-spec = tie.close (tie.spec raw-requires count-verdict-requires settle-requires returns)
+read-count-spec = tie.close (tie.spec (λ c κs. search needs) (λ c κs. search needs) (λ c κs. search needs) returns)

@@ -9,24 +9,6 @@ use Rattle.sheets_rules.specs.LibrarySheet.{head}
 use Rattle.library.proofs.read_head.Statement.{statement}
 use Rattle.library.proofs.read_head.Tie as tie
 
-ranged-requires : tie.Need-ranged-requires
-ranged-requires c κs = search needs
-
-ranged-requires-2 : tie.Need-ranged-requires-2
-ranged-requires-2 c κs = search needs
-
-ranged-requires-3 : tie.Need-ranged-requires-3
-ranged-requires-3 c κs = search needs
-
-ranged-requires-4 : tie.Need-ranged-requires-4
-ranged-requires-4 c κs = search needs
-
-cast-t12 : tie.Need-cast-t12
-cast-t12 c = search needs
-
-cast-t13 : tie.Need-cast-t13
-cast-t13 c = search needs
-
 returns : tie.Need-returns
 unfolding head
 returns c =
@@ -46,13 +28,5 @@ returns c =
     }
 
 pub read-head-spec : {M : Type 1} → statement M
-read-head-spec =
-    tie.close
-    (tie.spec
-    ranged-requires
-    ranged-requires-2
-    ranged-requires-3
-    ranged-requires-4
-    cast-t12
-    cast-t13
-    returns)
+read-head-spec = tie.close (tie.spec (λ c κs. search needs) (λ c κs. search needs) (λ c κs. search needs)
+    (λ c κs. search needs) (λ c. search needs) (λ c. search needs) returns)

@@ -5,14 +5,8 @@ use Rattle.library.proofs.Whole.{library-is}
 use Rattle.library.proofs.read_library.Statement.{statement}
 use Rattle.library.proofs.read_library.Tie as tie
 
-slice-aggregate-read-sheet : tie.Need-slice-aggregate-read-sheet
-slice-aggregate-read-sheet c = refl
-
 read-sheet-requires : tie.Need-read-sheet-requires
 read-sheet-requires c κs = inl refl
-
-finding-of-requires : tie.Need-finding-of-requires
-finding-of-requires c κs = search needs
 
 returns : tie.Need-returns
 returns c =
@@ -20,4 +14,4 @@ returns c =
     library-is (c .before .before .before .before .before .before .args .s .now) (read .last .1 .0) (read .result) (c .finding-of .result) (read .ensures) (c .finding-of .ensures)
 
 pub read-library-spec : {M : Type 1} → statement M
-read-library-spec = tie.close (tie.spec slice-aggregate-read-sheet read-sheet-requires finding-of-requires returns)
+read-library-spec = tie.close (tie.spec (λ c. refl) read-sheet-requires (λ c κs. search needs) returns)

@@ -10,36 +10,6 @@ use Rattle.sheets_rules.specs.LibrarySheet.{pin}
 use Rattle.library.proofs.read_pin.Statement.{statement}
 use Rattle.library.proofs.read_pin.Tie as tie
 
-cast-last-of : tie.Need-cast-last-of
-cast-last-of c = search needs
-
-last-of-requires : tie.Need-last-of-requires
-last-of-requires c κs = search needs
-
-ranged-requires : tie.Need-ranged-requires
-ranged-requires c κs = search needs
-
-ranged-requires-2 : tie.Need-ranged-requires-2
-ranged-requires-2 c κs = search needs
-
-ranged-requires-3 : tie.Need-ranged-requires-3
-ranged-requires-3 c κs = search needs
-
-cast-t13 : tie.Need-cast-t13
-cast-t13 c = search needs
-
-cast-t14 : tie.Need-cast-t14
-cast-t14 c = search needs
-
-array-read-t17 : tie.Need-array-read-t17
-array-read-t17 c = search needs
-
-cast-t18 : tie.Need-cast-t18
-cast-t18 c = search needs
-
-cast-t19 : tie.Need-cast-t19
-cast-t19 c = search needs
-
 returns : tie.Need-returns
 unfolding pin
 returns c =
@@ -59,4 +29,6 @@ returns c =
     }
 
 pub read-pin-spec : {M : Type 1} → statement M
-read-pin-spec = tie.close (tie.spec cast-last-of last-of-requires ranged-requires ranged-requires-2 ranged-requires-3 cast-t13 cast-t14 array-read-t17 cast-t18 cast-t19 returns)
+read-pin-spec = tie.close (tie.spec (λ c. search needs) (λ c κs. search needs) (λ c κs. search needs)
+    (λ c κs. search needs) (λ c κs. search needs) (λ c. search needs) (λ c. search needs) (λ c. search needs)
+    (λ c. search needs) (λ c. search needs) returns)

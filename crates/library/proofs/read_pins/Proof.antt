@@ -31,42 +31,6 @@ loop-holds : tie.Need-loop-holds Inv-loop μ-loop
 unfolding times
 loop-holds c = (omega arith, refl, refl, refl, refl, refl, omega arith)
 
-read-pin-requires : tie.Need-read-pin-requires Inv-loop μ-loop
-read-pin-requires c κs = omega arith
-
-cast-numbers : tie.Need-cast-numbers Inv-loop μ-loop
-cast-numbers c = omega arith
-
-array-write-numbers : tie.Need-array-write-numbers Inv-loop μ-loop
-array-write-numbers c = omega arith
-
-cast-loads : tie.Need-cast-loads Inv-loop μ-loop
-cast-loads c = omega arith
-
-array-write-loads : tie.Need-array-write-loads Inv-loop μ-loop
-array-write-loads c = omega arith
-
-cast-intrinsics : tie.Need-cast-intrinsics Inv-loop μ-loop
-cast-intrinsics c = omega arith
-
-mul-intrinsics : tie.Need-mul-intrinsics Inv-loop μ-loop
-mul-intrinsics c = omega arith
-
-array-write-intrinsics : tie.Need-array-write-intrinsics Inv-loop μ-loop
-array-write-intrinsics c = omega arith
-
-cast-drives : tie.Need-cast-drives Inv-loop μ-loop
-cast-drives c = omega arith
-
-array-write-drives : tie.Need-array-write-drives Inv-loop μ-loop
-array-write-drives c = omega arith
-
-add-k : tie.Need-add-k Inv-loop μ-loop
-add-k c = omega arith
-
-loop-less : tie.Need-loop-less Inv-loop μ-loop
-loop-less c = omega arith
-
 loop-again : tie.Need-loop-again Inv-loop μ-loop
 unfolding pin
 loop-again c =
@@ -101,4 +65,6 @@ returns c =
     }
 
 pub read-pins-spec : {M : Type 1} → statement M
-read-pins-spec = tie.close (tie.spec Inv-loop μ-loop loop-holds read-pin-requires cast-numbers array-write-numbers cast-loads array-write-loads cast-intrinsics mul-intrinsics array-write-intrinsics cast-drives array-write-drives add-k loop-less loop-again returns)
+read-pins-spec = tie.close (tie.spec Inv-loop μ-loop loop-holds (omega arith) (omega arith) (omega arith)
+    (omega arith) (omega arith) (omega arith) (omega arith) (omega arith) (omega arith) (omega arith) (omega arith)
+    (omega arith) loop-again returns)

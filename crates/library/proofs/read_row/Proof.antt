@@ -17,20 +17,11 @@ kept c =
     let l = c .before .before .before .before .before .before .before .write-cell .last .0 in
     same-len-mid symbolsAt (length l - symbolsAt) l (c .before .before .read-pattern .last .1 .1 .1 .0) (c .before .before .read-pattern .kept .1 .1 .1 .0)
 
-write-cell-requires : tie.Need-write-cell-requires
-write-cell-requires c κs = search needs
-
-cast-read-pattern : tie.Need-cast-read-pattern
-cast-read-pattern c = search needs
-
 sub-read-pattern : tie.Need-sub-read-pattern
 sub-read-pattern c = omega (arith, c .before .before .before .write-cell .kept .0)
 
 part-read-pattern-start : tie.Need-part-read-pattern-start
 part-read-pattern-start c = omega (arith, c .before .before .before .write-cell .kept .0)
-
-part-read-pattern-end : tie.Need-part-read-pattern-end
-part-read-pattern-end c = search needs
 
 read-pattern-requires : tie.Need-read-pattern-requires
 read-pattern-requires c κs =
@@ -54,4 +45,5 @@ returns c =
     row-is (a .s .now) (a .numbered) (a .scan) (a .row .now) (w .last .0) (r .last .1 .1 .1 .0) (r .result) (omega arith) (w .ensures) (r .ensures)
 
 pub read-row-spec : {M : Type 1} → statement M
-read-row-spec = tie.close (tie.spec write-cell-requires cast-read-pattern sub-read-pattern part-read-pattern-start part-read-pattern-end read-pattern-requires slice-write-row same-length returns)
+read-row-spec = tie.close (tie.spec (λ c κs. search needs) (λ c. search needs) sub-read-pattern
+    part-read-pattern-start (λ c. search needs) read-pattern-requires slice-write-row same-length returns)

@@ -29,22 +29,10 @@ loop-holds : tie.Need-loop-holds Inv-loop μ-loop
 unfolding times tableFrom
 loop-holds c = (omega arith, refl, refl, λ q. refl, omega arith)
 
-cast-keep-row : tie.Need-cast-keep-row Inv-loop μ-loop
-cast-keep-row c = omega arith
-
-add-keep-row : tie.Need-add-keep-row Inv-loop μ-loop
-add-keep-row c = omega arith
-
 keep-row-requires : tie.Need-keep-row-requires Inv-loop μ-loop
 keep-row-requires c κs =
     let i = c .before .before .loop in
     (omega arith, table-same (c .before .before .before .before .before .args .rows .now) (i .rows) (i .inv .1) (c .before .before .before .before .before .pre .1), omega arith, omega (arith, i .inv .4))
-
-add-k : tie.Need-add-k Inv-loop μ-loop
-add-k c = omega arith
-
-loop-less : tie.Need-loop-less Inv-loop μ-loop
-loop-less c = omega arith
 
 loop-again : tie.Need-loop-again Inv-loop μ-loop
 loop-again c =
@@ -70,17 +58,5 @@ returns c =
     }
 
 pub read-rows-spec : {M : Type 1} → statement M
-read-rows-spec =
-    tie.close
-    (tie.spec
-    Inv-loop
-    μ-loop
-    loop-holds
-    cast-keep-row
-    add-keep-row
-    keep-row-requires
-    add-k
-    loop-less
-    loop-again
-    same-length
-    returns)
+read-rows-spec = tie.close (tie.spec Inv-loop μ-loop loop-holds (omega arith) (omega arith) keep-row-requires
+    (omega arith) (omega arith) loop-again same-length returns)

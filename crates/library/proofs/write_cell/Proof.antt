@@ -6,21 +6,6 @@ use Rattle.sheets_rules.proofs.Rows.{cell-written}
 use Rattle.library.proofs.write_cell.Statement.{statement}
 use Rattle.library.proofs.write_cell.Tie as tie
 
-slice-write-row : tie.Need-slice-write-row
-slice-write-row c = search needs
-
-mark-requires : tie.Need-mark-requires
-mark-requires c κs = search needs
-
-cast-write-words : tie.Need-cast-write-words
-cast-write-words c = search needs
-
-cast-write-words-2 : tie.Need-cast-write-words-2
-cast-write-words-2 c = search needs
-
-cast-write-words-3 : tie.Need-cast-write-words-3
-cast-write-words-3 c = search needs
-
 write-words-requires : tie.Need-write-words-requires
 write-words-requires c κs = let a = c .before .before .before .before .before .before .before .args in omega (arith, length-set (a .row .now) 0 (a .numbered .number), c .before .before .before .before .before .before .before .pre)
 
@@ -37,4 +22,5 @@ returns c =
     (c .before .before .before .before .before .before .before .before .before .before .mark .ensures) (c .before .before .before .before .before .before .write-words .ensures) (c .before .before .write-figures .ensures)
 
 pub write-cell-spec : {M : Type 1} → statement M
-write-cell-spec = tie.close (tie.spec slice-write-row mark-requires cast-write-words cast-write-words-2 cast-write-words-3 write-words-requires write-figures-requires same-length returns)
+write-cell-spec = tie.close (tie.spec (λ c. search needs) (λ c κs. search needs) (λ c. search needs)
+    (λ c. search needs) (λ c. search needs) write-words-requires write-figures-requires same-length returns)

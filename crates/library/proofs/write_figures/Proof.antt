@@ -20,50 +20,8 @@ loop-holds : tie.Need-loop-holds Inv-loop μ-loop
 unfolding figures
 loop-holds c = (omega arith, refl, refl)
 
-cast-loop : tie.Need-cast-loop Inv-loop μ-loop
-cast-loop c = omega arith
-
-mul-write-words : tie.Need-mul-write-words Inv-loop μ-loop
-mul-write-words c = omega arith
-
-add-write-words : tie.Need-add-write-words Inv-loop μ-loop
-add-write-words c = omega arith
-
-element-copy-out-write-words : tie.Need-element-copy-out-write-words Inv-loop μ-loop
-element-copy-out-write-words c = omega arith
-
-cast-write-words : tie.Need-cast-write-words Inv-loop μ-loop
-cast-write-words c = search needs
-
-element-copy-out-write-words-2 : tie.Need-element-copy-out-write-words-2 Inv-loop μ-loop
-element-copy-out-write-words-2 c = omega arith
-
-cast-write-words-2 : tie.Need-cast-write-words-2 Inv-loop μ-loop
-cast-write-words-2 c = search needs
-
-mul-write-words-2 : tie.Need-mul-write-words-2 Inv-loop μ-loop
-mul-write-words-2 c = omega arith
-
-element-copy-out-write-words-3 : tie.Need-element-copy-out-write-words-3 Inv-loop μ-loop
-element-copy-out-write-words-3 c = omega arith
-
-cast-write-words-3 : tie.Need-cast-write-words-3 Inv-loop μ-loop
-cast-write-words-3 c = search needs
-
-element-copy-out-write-words-4 : tie.Need-element-copy-out-write-words-4 Inv-loop μ-loop
-element-copy-out-write-words-4 c = omega arith
-
-cast-write-words-4 : tie.Need-cast-write-words-4 Inv-loop μ-loop
-cast-write-words-4 c = search needs
-
 write-words-requires : tie.Need-write-words-requires Inv-loop μ-loop
 write-words-requires c κs = omega (arith, c .before .before .before .before .before .before .loop .inv .1, c .before .before .before .before .before .before .before .before .pre)
-
-add-p : tie.Need-add-p Inv-loop μ-loop
-add-p c = omega arith
-
-loop-less : tie.Need-loop-less Inv-loop μ-loop
-loop-less c = omega arith
 
 loop-again : tie.Need-loop-again Inv-loop μ-loop
 unfolding pinFigures
@@ -84,4 +42,7 @@ returns c =
     i .inv .2 ∙ ap (λ (p : ℕ). sets (a .row .now) figuresAt (figures (a .t2) p)) done
 
 pub write-figures-spec : {M : Type 1} → statement M
-write-figures-spec = tie.close (tie.spec Inv-loop μ-loop loop-holds cast-loop mul-write-words add-write-words element-copy-out-write-words cast-write-words element-copy-out-write-words-2 cast-write-words-2 mul-write-words-2 element-copy-out-write-words-3 cast-write-words-3 element-copy-out-write-words-4 cast-write-words-4 write-words-requires add-p loop-less loop-again same-length returns)
+write-figures-spec = tie.close (tie.spec Inv-loop μ-loop loop-holds (omega arith) (omega arith) (omega arith)
+    (omega arith) (λ c. search needs) (omega arith) (λ c. search needs) (omega arith) (omega arith)
+    (λ c. search needs) (omega arith) (λ c. search needs) write-words-requires (omega arith) (omega arith) loop-again
+    same-length returns)

@@ -6,12 +6,6 @@ use Rattle.map.proofs.least_output.Tie as tie
 use Rattle.map.proofs.least_output.Reads as reads
 use Rattle.map.proofs.least_output.Lts as lts
 
-enum-told : tie.Need-enum-told
-enum-told c = search needs
-
-enum-told-2 : tie.Need-enum-told-2
-enum-told-2 c = search needs
-
 returns : tie.Need-returns
 unfolding leastOutput
 returns c = sym (ap leastOutput (c .enum-told .given .1))
@@ -21,4 +15,4 @@ unfolding leastOutput
 returns-2 c = sym (ap leastOutput (c .enum-told2 .given .1))
 
 pub least-output-spec : {M : Type 1} → statement M
-least-output-spec = tie.close (tie.spec enum-told enum-told-2 returns returns-2)
+least-output-spec = tie.close (tie.spec (λ c. search needs) (λ c. search needs) returns returns-2)

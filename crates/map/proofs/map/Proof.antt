@@ -5,18 +5,9 @@ use Rattle.map.specs.Inside.Promises.{leastOutput, taskAnswer}
 use Rattle.map.proofs.map.Statement.{statement}
 use Rattle.map.proofs.map.Tie as tie
 
-operate-requires : tie.Need-operate-requires
-operate-requires c κs = search needs
-
-same-length : tie.Need-same-length
-same-length c = search needs
-
-same-length-2 : tie.Need-same-length-2
-same-length-2 c = search needs
-
 returns : tie.Need-returns
 unfolding mapOutcome leastOutput taskAnswer
 returns c = let a = c .before .before .before .before .before .before .before .before .before .before .before .args in maps (a .library .now) (a .tree .now) (a .output .now) (a .work .now) (c .before .before .before .before .operate .ensures)
 
 pub map-spec : {M : Type 1} → statement M
-map-spec = tie.close (tie.spec operate-requires same-length same-length-2 returns)
+map-spec = tie.close (tie.spec (λ c κs. search needs) (λ c. search needs) (λ c. search needs) returns)

@@ -14,18 +14,6 @@ use Rattle.map.specs.Inside.Promises.{leastOutput, sheetsAnswer}
 use Rattle.map.proofs.operate.Statement.{statement}
 use Rattle.map.proofs.operate.Tie as tie
 
-least-output-requires : tie.Need-least-output-requires
-least-output-requires c κs = search needs
-
-lend-requires : tie.Need-lend-requires
-lend-requires c κs = search needs
-
-enum-known-finding : tie.Need-enum-known-finding
-enum-known-finding c = search needs
-
-enum-told : tie.Need-enum-told
-enum-told c = search needs
-
 -- What was found of what is lent.
 abbrev Found : ℕ → ℕ → ℕ → ℕ → Finding → Type 0
 Found output work most least q = Says (λ (m n : ℕ). m ≡ n) (lent least output work) q most
@@ -46,12 +34,6 @@ returns c =
     let said = subst₂ (Found (length (a .output .now)) (length (a .work .now)) (call .result .most)) (c .before .before .before .before .least-output .ensures) (told .1) (call .ensures) in
     stopped (λ (most : ℕ). sheetsAnswer (a .task) most (a .library .now) (a .tree .now)) (told .0 .0) (a .output .now) (a .work .now) (sparing-lent (leastOutput (a .task)) (length (a .output .now)) (length (a .work .now))) (said .0) (said .1)
 
-same-length : tie.Need-same-length
-same-length c = search needs
-
-same-length-2 : tie.Need-same-length-2
-same-length-2 c = search needs
-
 returns-2 : tie.Need-returns-2
 unfolding operation
 returns-2 c =
@@ -61,15 +43,5 @@ returns-2 c =
     followed (λ (most : ℕ). sheetsAnswer (a .task) most (a .library .now) (a .tree .now)) (said .1 ∙ ap success (said .2)) (c .before .before .before .before .with-lent .ensures (lent-known (a .task) (length (a .output .now)) (length (a .work .now)) (said .1) (said .2) .1))
 
 pub operate-spec : {M : Type 1} → statement M
-operate-spec =
-    tie.close
-    (tie.spec
-    least-output-requires
-    lend-requires
-    enum-known-finding
-    enum-told
-    with-lent-requires
-    returns
-    same-length
-    same-length-2
-    returns-2)
+operate-spec = tie.close (tie.spec (λ c κs. search needs) (λ c κs. search needs) (λ c. search needs)
+    (λ c. search needs) with-lent-requires returns (λ c. search needs) (λ c. search needs) returns-2)

@@ -12,15 +12,6 @@ use Rattle.map.specs.Inside.Promises.{treeAnswer}
 use Rattle.map.proofs.with_lent.Statement.{statement}
 use Rattle.map.proofs.with_lent.Tie as tie
 
-read-library-requires : tie.Need-read-library-requires
-read-library-requires c κs = search needs
-
-enum-known-finding : tie.Need-enum-known-finding
-enum-known-finding c = search needs
-
-enum-told : tie.Need-enum-told
-enum-told c = search needs
-
 with-library-requires : tie.Need-with-library-requires
 with-library-requires c κs =
     let first = c .before .before .before .before .before .before .before .before .before in
@@ -37,12 +28,6 @@ returns c e =
     let said = subst (λ (q : Finding). Says LibraryStored (librarySaid (a .library .now)) q (read .result .library)) (told .1) (read .ensures .said) in
     stopped (λ (l : Library). treeAnswer (a .task) (a .most) l (a .tree .now)) (told .0 .0) (a .output .now) (a .work .now) (sparing-library (a .library .now)) (said .0) (said .1)
 
-same-length : tie.Need-same-length
-same-length c = search needs
-
-same-length-2 : tie.Need-same-length-2
-same-length-2 c = search needs
-
 returns-2 : tie.Need-returns-2
 returns-2 c e =
     let a = c .before .before .before .before .before .before .before .before .before .before .before .before .before .before .args in
@@ -52,14 +37,5 @@ returns-2 c e =
     followed (λ (l : Library). treeAnswer (a .task) (a .most) l (a .tree .now)) (said .1) (call .ensures (said .0) (said .2) e)
 
 pub with-lent-spec : {M : Type 1} → statement M
-with-lent-spec =
-    tie.close
-    (tie.spec
-    read-library-requires
-    enum-known-finding
-    enum-told
-    with-library-requires
-    returns
-    same-length
-    same-length-2
-    returns-2)
+with-lent-spec = tie.close (tie.spec (λ c κs. search needs) (λ c. search needs) (λ c. search needs)
+    with-library-requires returns (λ c. search needs) (λ c. search needs) returns-2)

@@ -13,15 +13,6 @@ use Rattle.map.specs.Inside.Promises.{taskAnswer}
 use Rattle.map.proofs.with_library.Statement.{statement}
 use Rattle.map.proofs.with_library.Tie as tie
 
-read-tree-requires : tie.Need-read-tree-requires
-read-tree-requires c κs = search needs
-
-enum-known-finding : tie.Need-enum-known-finding
-enum-known-finding c = search needs
-
-enum-told : tie.Need-enum-told
-enum-told c = search needs
-
 with-records-requires : tie.Need-with-records-requires
 with-records-requires c κs =
     let first = c .before .before .before .before .before .before .before .before in
@@ -39,12 +30,6 @@ returns c l stored e =
     let said = subst (λ (q : Finding). Says TreeStored (treeSaid (a .tree .now)) q (read .result .tree)) (told .1) (read .ensures) in
     stopped (taskAnswer (a .task) (a .most) l) (told .0 .0) (a .output .now) (a .work .now) (sparing-tree (a .tree .now)) (said .0) (said .1)
 
-same-length : tie.Need-same-length
-same-length c = search needs
-
-same-length-2 : tie.Need-same-length-2
-same-length-2 c = search needs
-
 returns-2 : tie.Need-returns-2
 returns-2 c l stored e =
     let a = c .before .before .before .before .before .before .before .before .before .before .before .before .before .args in
@@ -54,14 +39,5 @@ returns-2 c l stored e =
     followed (taskAnswer (a .task) (a .most) l) (said .1) (task-operated (a .task) l (said .0) e (call .ensures .1 l (said .0) (sheets-stored stored (said .2))) (call .ensures .0))
 
 pub with-library-spec : {M : Type 1} → statement M
-with-library-spec =
-    tie.close
-    (tie.spec
-    read-tree-requires
-    enum-known-finding
-    enum-told
-    with-records-requires
-    returns
-    same-length
-    same-length-2
-    returns-2)
+with-library-spec = tie.close (tie.spec (λ c κs. search needs) (λ c. search needs) (λ c. search needs)
+    with-records-requires returns (λ c. search needs) (λ c. search needs) returns-2)

@@ -32,12 +32,6 @@ slice-aggregate-write-solved c =
     let g = first .pre .2 .1 .1 in
     sym (length-take-le (rowWords * first .args .library .total) (first .args .library .rows) (omega (arith, total-few g, rows-long g)))
 
-sub-write-solved : tie.Need-sub-write-solved
-sub-write-solved c = search needs
-
-part-write-solved-start : tie.Need-part-write-solved-start
-part-write-solved-start c = search needs
-
 part-write-solved-end : tie.Need-part-write-solved-end
 part-write-solved-end c = omega (arith, c .before .before .before .before .before .before .before .before .before .before .before .before .pre .1, c .before .before .before .before .before .before .words .ensures, c .before .before .before .before .clear .kept .0)
 
@@ -58,12 +52,6 @@ clear-requires-2 c κs =
     let clear = c .before .before .before .before .before .before .before .before .before .before .before .clear in
     (p .0 .allowed .bounded, omega (arith, p .1, clear .kept .0, same-len-mid 0 (c .before .before .before .before .before .before .before .before .before .before .before .before .before .words .result - 0) (clear .last .0) (call .last .1 .1 .1 .1 .1 .1 .0) (call .kept .1 .1 .1 .1 .1 .1 .0)))
 
-same-length : tie.Need-same-length
-same-length c = search needs
-
-same-length-2 : tie.Need-same-length-2
-same-length-2 c = search needs
-
 returns : tie.Need-returns
 returns c =
     let first = c .before .before .before .before .before .before .before .before .before .before .before .before .before .before .before .before .before .before .before .before .before .before in
@@ -78,19 +66,6 @@ returns c =
     )
 
 pub with-records-spec : {M : Type 1} → statement M
-with-records-spec =
-    tie.close
-    (tie.spec
-    mul-filled
-    words-requires
-    clear-requires
-    array-share-prefix-rows
-    slice-aggregate-write-solved
-    sub-write-solved
-    part-write-solved-start
-    part-write-solved-end
-    write-solved-requires
-    clear-requires-2
-    same-length
-    same-length-2
-    returns)
+with-records-spec = tie.close (tie.spec mul-filled words-requires clear-requires array-share-prefix-rows
+    slice-aggregate-write-solved (λ c. search needs) (λ c. search needs) part-write-solved-end write-solved-requires
+    clear-requires-2 (λ c. search needs) (λ c. search needs) returns)

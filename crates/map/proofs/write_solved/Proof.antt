@@ -16,15 +16,6 @@ use Rattle.map.proofs.write_solved.Tie as tie
 solve-requires : tie.Need-solve-requires
 solve-requires c κs = c .before .before .before .before .pre .1
 
-enum-known-finding : tie.Need-enum-known-finding
-enum-known-finding c = search needs
-
-enum-told : tie.Need-enum-told
-enum-told c = search needs
-
-enum-told-2 : tie.Need-enum-told-2
-enum-told-2 c = search needs
-
 write-cover-requires : tie.Need-write-cover-requires
 unfolding leastOutput
 write-cover-requires c κs =
@@ -35,9 +26,6 @@ write-cover-requires c κs =
     let m = subst (λ (k : Task). SolvedIs k (first .args .most) (p .1 .0) (p .1 .1 .0) (call .last .1 .1 .1 .1 .1 .0) (call .result)) told (call .ensures (p .1 .0) (p .1 .1 .0) (p .1 .1 .1)) in
     let long = subst (λ (k : Task). leastOutput k ≤ length (first .args .output .now)) told (p .0 .long) in
     (omega (arith, m .few), omega (arith, m .few, long))
-
-enum-told-3 : tie.Need-enum-told-3
-enum-told-3 c = search needs
 
 write-list-requires : tie.Need-write-list-requires
 unfolding leastOutput
@@ -51,9 +39,6 @@ write-list-requires c κs =
     let few = p .0 .allowed .listed in
     (omega (arith, m .few, few), omega (arith, m .few, call .kept .1 .1 .1 .1 .1 .0, p .1 .1 .1 .work-length), omega (arith, m .few, few, long), m .small)
 
-same-length : tie.Need-same-length
-same-length c = search needs
-
 returns : tie.Need-returns
 unfolding ofReply
 returns c l t start =
@@ -61,12 +46,6 @@ returns c l t start =
     let call = c .before .before .before .before .before .solve in
     let told = c .before .finding .given in
     solved-refused (first .args .most) l t (call .last .1 .1 .1 .1 .1 .0) (call .result) (first .args .task) (told .0 .0) (start .decoded .tree) (call .ensures l t start) (told .1) refl
-
-same-length-2 : tie.Need-same-length-2
-same-length-2 c = search needs
-
-same-length-3 : tie.Need-same-length-3
-same-length-3 c = search needs
 
 returns-2 : tie.Need-returns-2
 unfolding ofReply
@@ -77,12 +56,6 @@ returns-2 c l t start =
     let told = c .before .before .before .before .before .enum-told2 .given .1 in
     let m = subst (λ (k : Task). SolvedIs k (first .args .most) l t (call .last .1 .1 .1 .1 .1 .0) (call .result)) told (call .ensures l t start) in
     subst (λ (k : Task). Replied (taskAnswer k (first .args .most) l t) (first .args .output .now) (w .last .0) (success (w .result))) (sym told) (map-found (first .args .most) l t (call .last .1 .1 .1 .1 .1 .0) (call .result) m (c .before .before .before .before .before .before .before .enum-told .given .1) (w .ensures))
-
-same-length-4 : tie.Need-same-length-4
-same-length-4 c = search needs
-
-same-length-5 : tie.Need-same-length-5
-same-length-5 c = search needs
 
 returns-3 : tie.Need-returns-3
 unfolding ofReply
@@ -95,21 +68,6 @@ returns-3 c l t start =
     subst (λ (k : Task). Replied (taskAnswer k (first .args .most) l t) (first .args .output .now) (w .last .0) (success (w .result))) (sym told) (list-found (first .args .most) l t (call .last .1 .1 .1 .1 .1 .0) (call .result) (first .pre .0 .allowed) m (c .before .before .before .before .before .before .before .enum-told .given .1) (w .ensures))
 
 pub write-solved-spec : {M : Type 1} → statement M
-write-solved-spec =
-    tie.close
-    (tie.spec
-    solve-requires
-    enum-known-finding
-    enum-told
-    enum-told-2
-    write-cover-requires
-    enum-told-3
-    write-list-requires
-    same-length
-    returns
-    same-length-2
-    same-length-3
-    returns-2
-    same-length-4
-    same-length-5
-    returns-3)
+write-solved-spec = tie.close (tie.spec solve-requires (λ c. search needs) (λ c. search needs) (λ c. search needs)
+    write-cover-requires (λ c. search needs) write-list-requires (λ c. search needs) returns (λ c. search needs)
+    (λ c. search needs) returns-2 (λ c. search needs) (λ c. search needs) returns-3)

@@ -18,18 +18,6 @@ abbrev μ-loop : tie.MeasureT-loop
 loop-holds : tie.Need-loop-holds Inv-loop μ-loop
 loop-holds c = (omega arith, refl)
 
-mul-if1 : tie.Need-mul-if1 Inv-loop μ-loop
-mul-if1 c = search needs
-
-shared-slice-read-if1 : tie.Need-shared-slice-read-if1 Inv-loop μ-loop
-shared-slice-read-if1 c = omega arith
-
-add-k : tie.Need-add-k Inv-loop μ-loop
-add-k c = search needs
-
-loop-less : tie.Need-loop-less Inv-loop μ-loop
-loop-less c = omega arith
-
 loop-again : tie.Need-loop-again Inv-loop μ-loop
 loop-again c =
     let i = c .before .before .before .loop in
@@ -49,16 +37,5 @@ returns-2 c =
     (i .inv .0, counted-end (c .before .before .before .before .args .curve .now) (i .k) (omega (arith, e)) (i .inv .1))
 
 pub count-points-spec : {M : Type 1} → statement M
-count-points-spec =
-    tie.close
-    (tie.spec
-    Inv-loop
-    μ-loop
-    loop-holds
-    mul-if1
-    shared-slice-read-if1
-    add-k
-    loop-less
-    loop-again
-    returns
-    returns-2)
+count-points-spec = tie.close (tie.spec Inv-loop μ-loop loop-holds (λ c. search needs) (omega arith)
+    (λ c. search needs) (omega arith) loop-again returns returns-2)

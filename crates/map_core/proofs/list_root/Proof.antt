@@ -12,45 +12,21 @@ use Rattle.map_core.proofs.list_root.Lts as lts
 use Rattle.leaves.proofs.leaf_arrival.Reads as leaf-arrival-reads
 use Rattle.map_core.proofs.count_points.Reads as count-points-reads
 
-array-read-symbol : tie.Need-array-read-symbol
-array-read-symbol c = search needs
-
-cast-leaf-arrival : tie.Need-cast-leaf-arrival
-cast-leaf-arrival c = search needs
-
 leaf-arrival-requires : tie.Need-leaf-arrival-requires
 leaf-arrival-requires c κs =
     let p = c .before .before .before .before .pre in
     let e = c .before .if1 in
     (omega (arith, e), leaf-small (p .1 .1 .1 .1), search needs)
 
-slice-write-work : tie.Need-slice-write-work
-slice-write-work c = search needs
-
-same-length : tie.Need-same-length
-same-length c = search needs
-
 returns : tie.Need-returns
 returns c l t rows room given =
     let e = c .before .before .if1 in
     leaf-listed given (omega (arith, e)) (c .leaf-arrival .result) (c .leaf-arrival .ensures .0) (c .leaf-arrival .ensures .1)
 
-add-count-points : tie.Need-add-count-points
-add-count-points c = search needs
-
-slice-reshare-prefix-count-points : tie.Need-slice-reshare-prefix-count-points
-slice-reshare-prefix-count-points c = search needs
-
 slice-aggregate-count-points : tie.Need-slice-aggregate-count-points
 slice-aggregate-count-points c =
     let first = c .before .before .before .before in
     sym (length-take-le (first .args .most + 1) (first .args .work .now) (omega (arith, first .pre .1 .1 .1 .1 .prepared .area .room)))
-
-count-points-requires : tie.Need-count-points-requires
-count-points-requires c κs = search needs
-
-same-length-2 : tie.Need-same-length-2
-same-length-2 c = search needs
 
 returns-2 : tie.Need-returns-2
 returns-2 c l t rows room given =
@@ -58,9 +34,6 @@ returns-2 c l t rows room given =
     let k = c .before .count-points in
     let z = c .if2 in
     gate-empty given (omega (arith, e)) (k .result) (k .ensures .0) (k .ensures .1) (omega (arith, z))
-
-same-length-3 : tie.Need-same-length-3
-same-length-3 c = search needs
 
 returns-3 : tie.Need-returns-3
 returns-3 c l t rows room given =
@@ -70,20 +43,6 @@ returns-3 c l t rows room given =
     gate-listed given (omega (arith, e)) (k .result) (k .ensures .0) (k .ensures .1) (λ y. omega (arith, z, y))
 
 pub list-root-spec : {M : Type 1} → statement M
-list-root-spec =
-    tie.close
-    (tie.spec
-    array-read-symbol
-    cast-leaf-arrival
-    leaf-arrival-requires
-    slice-write-work
-    same-length
-    returns
-    add-count-points
-    slice-reshare-prefix-count-points
-    slice-aggregate-count-points
-    count-points-requires
-    same-length-2
-    returns-2
-    same-length-3
-    returns-3)
+list-root-spec = tie.close (tie.spec (λ c. search needs) (λ c. search needs) leaf-arrival-requires (λ c. search needs)
+    (λ c. search needs) returns (λ c. search needs) (λ c. search needs) slice-aggregate-count-points
+    (λ c κs. search needs) (λ c. search needs) returns-2 (λ c. search needs) returns-3)

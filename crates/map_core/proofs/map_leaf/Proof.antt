@@ -10,24 +10,12 @@ use Rattle.map_core.proofs.map_leaf.Statement.{statement}
 use Rattle.map_core.proofs.map_leaf.Tie as tie
 use Rattle.leaves.specs.Inside.Leaf.{leafOf}
 
-leaf-arrival-requires : tie.Need-leaf-arrival-requires
-leaf-arrival-requires c κs = search needs
-
-cast-arrival : tie.Need-cast-arrival
-cast-arrival c = search needs
-
-refuse-requires : tie.Need-refuse-requires
-refuse-requires c κs = search needs
-
 returns : tie.Need-returns
 unfolding refusedWith bareCover
 returns c =
     let a = c .before .before .before .args in
     let arrival = c .before .before .leaf-arrival .ensures .0 in
     (λ l. ap ofMapped (c .refuse .ensures) ∙ leaf-late l (a .load) (leafOf (a .symbol)) (a .time) (omega (arith, arrival, c .before .if1)), ap (λ (r : Mapped). r .cover .count) (c .refuse .ensures))
-
-bare-requires : tie.Need-bare-requires
-bare-requires c κs = search needs
 
 returns-2 : tie.Need-returns-2
 unfolding bareCover
@@ -38,6 +26,5 @@ returns-2 c =
     (λ l. ap ofMapped whole ∙ leaf-timely l (a .load) (leafOf (a .symbol)) (a .time) _ arrival (omega (arith, c .before .if1)), ap (λ (k : CoverRecord). k .count) (c .bare .ensures))
 
 pub map-leaf-spec : {M : Type 1} → statement M
-map-leaf-spec =
-    tie.close
-    (tie.spec leaf-arrival-requires cast-arrival refuse-requires returns bare-requires returns-2)
+map-leaf-spec = tie.close (tie.spec (λ c κs. search needs) (λ c. search needs) (λ c κs. search needs) returns
+    (λ c κs. search needs) returns-2)

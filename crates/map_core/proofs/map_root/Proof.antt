@@ -11,12 +11,6 @@ use Rattle.map_core.proofs.Root.{sizes-long, leaf-small, leaf-mapped, g
 use Rattle.map_core.proofs.map_root.Statement.{statement}
 use Rattle.map_core.proofs.map_root.Tie as tie
 
-cast-load : tie.Need-cast-load
-cast-load c = search needs
-
-array-read-symbol : tie.Need-array-read-symbol
-array-read-symbol c = search needs
-
 map-leaf-requires : tie.Need-map-leaf-requires
 map-leaf-requires c κs =
     let p = c .before .before .before .before .before .before .before .pre in
@@ -27,18 +21,6 @@ returns : tie.Need-returns
 returns c l t asked =
     let e = c .before .if1 in
     record { answer-is = leaf-mapped asked (omega (arith, e)) (c .map-leaf .result) (c .map-leaf .ensures .0 l); few = omega (arith, c .map-leaf .ensures .1) }
-
-cast-look-up : tie.Need-cast-look-up
-cast-look-up c = search needs
-
-add-look-up : tie.Need-add-look-up
-add-look-up c = search needs
-
-look-up-requires : tie.Need-look-up-requires
-look-up-requires c κs = search needs
-
-refuse-requires : tie.Need-refuse-requires
-refuse-requires c κs = search needs
 
 returns-2 : tie.Need-returns-2
 returns-2 c l t asked =
@@ -54,15 +36,6 @@ cast-bare c =
     let f = c .before .look-up in
     let z = c .if2 in
     omega (arith, gate-small (p .1 .1) (omega (arith, e)) (f .result) (f .ensures) (λ y. omega (arith, z, y)))
-
-cast-bare-2 : tie.Need-cast-bare-2
-cast-bare-2 c = search needs
-
-bare-requires : tie.Need-bare-requires
-bare-requires c κs = search needs
-
-slice-aggregate-choose : tie.Need-slice-aggregate-choose
-slice-aggregate-choose c = search needs
 
 slice-aggregate-choose-2 : tie.Need-slice-aggregate-choose-2
 slice-aggregate-choose-2 c = sym (sizes-long (c .before .before .before .before .before .before .before .before .before .before .before .before .pre .1 .1))
@@ -86,9 +59,6 @@ choose-requires c κs =
       ),
     )
 
-same-length : tie.Need-same-length
-same-length c = search needs
-
 returns-3 : tie.Need-returns-3
 returns-3 c l t asked =
     let first = c .before .before .before .before .before .before .before .before .before .before .before .before .before .before .before .before in
@@ -104,23 +74,7 @@ returns-3 c l t asked =
     ∙ ap (λ (k : CoverRecord). appended k (d .placed)) (none .ensures))
 
 pub map-root-spec : {M : Type 1} → statement M
-map-root-spec =
-    tie.close
-    (tie.spec
-    cast-load
-    array-read-symbol
-    map-leaf-requires
-    returns
-    cast-look-up
-    add-look-up
-    look-up-requires
-    refuse-requires
-    returns-2
-    cast-bare
-    cast-bare-2
-    bare-requires
-    slice-aggregate-choose
-    slice-aggregate-choose-2
-    choose-requires
-    same-length
-    returns-3)
+map-root-spec = tie.close (tie.spec (λ c. search needs) (λ c. search needs) map-leaf-requires returns
+    (λ c. search needs) (λ c. search needs) (λ c κs. search needs) (λ c κs. search needs) returns-2 cast-bare
+    (λ c. search needs) (λ c κs. search needs) (λ c. search needs) slice-aggregate-choose-2 choose-requires
+    (λ c. search needs) returns-3)

@@ -9,15 +9,6 @@ use Rattle.map_core.proofs.map_tree.Tie as tie
 fill-requires : tie.Need-fill-requires
 fill-requires c κs = c .before .before .before .before .before .before .before .pre
 
-enum-known-filling : tie.Need-enum-known-filling
-enum-known-filling c = search needs
-
-refuse-requires : tie.Need-refuse-requires
-refuse-requires c κs = search needs
-
-enum-told : tie.Need-enum-told
-enum-told c = search needs
-
 map-root-requires : tie.Need-map-root-requires
 map-root-requires c κs =
     let first = c .before .before .before .before .before .before .before .before .before .before .before .before .before .before .before .before .before .before in
@@ -26,30 +17,12 @@ map-root-requires c κs =
     let whole = subst (FillingIs (first .args .most) (p .0) (p .1 .0) (f .last .1 .1 .1 .1 .1 .0)) (c .before .before .enum-told .given .1) (f .ensures (p .0) (p .1 .0) (p .1 .1)) in
     (p .0, (p .1 .0, core-curved (p .1 .1) (f .last .1 .1 .1 .1 .1 .0) (f .last .1 .1 .1 .1 .0) (f .kept .1 .1 .1 .1 .0) (f .kept .1 .1 .1 .1 .1 .0) whole))
 
-same-length : tie.Need-same-length
-same-length c = search needs
-
-same-length-2 : tie.Need-same-length-2
-same-length-2 c = search needs
-
-same-length-3 : tie.Need-same-length-3
-same-length-3 c = search needs
-
 returns : tie.Need-returns
 returns c l t start =
     let first = c .before .before .before .before .before .before .before .before .before .before .before .before .before .before .before .before .before .before in
     let f = c .before .before .before .before .before .before .before .before .before .before .fill in
     let told = c .before .before .filling .given in
     subst (MappedIs (first .args .most) l t) (sym (c .refuse .ensures)) (map-overfull (first .args .most) l t (f .last .1 .1 .1 .1 .1 .0) (told .0 .0) (subst (FillingIs (first .args .most) l t (f .last .1 .1 .1 .1 .1 .0)) (told .1) (f .ensures l t start)))
-
-same-length-4 : tie.Need-same-length-4
-same-length-4 c = search needs
-
-same-length-5 : tie.Need-same-length-5
-same-length-5 c = search needs
-
-same-length-6 : tie.Need-same-length-6
-same-length-6 c = search needs
 
 returns-2 : tie.Need-returns-2
 returns-2 c l t start =
@@ -59,19 +32,6 @@ returns-2 c l t start =
     c .before .before .map-root .ensures l t (core-curved start (f .last .1 .1 .1 .1 .1 .0) (f .last .1 .1 .1 .1 .0) (f .kept .1 .1 .1 .1 .0) (f .kept .1 .1 .1 .1 .1 .0) whole)
 
 pub map-tree-spec : {M : Type 1} → statement M
-map-tree-spec =
-    tie.close
-    (tie.spec
-    fill-requires
-    enum-known-filling
-    refuse-requires
-    enum-told
-    map-root-requires
-    same-length
-    same-length-2
-    same-length-3
-    returns
-    same-length-4
-    same-length-5
-    same-length-6
-    returns-2)
+map-tree-spec = tie.close (tie.spec fill-requires (λ c. search needs) (λ c κs. search needs) (λ c. search needs)
+    map-root-requires (λ c. search needs) (λ c. search needs) (λ c. search needs) returns (λ c. search needs)
+    (λ c. search needs) (λ c. search needs) returns-2)

@@ -6,12 +6,9 @@ use Rattle.map_core.specs.Inside.Found.{refusedWith}
 use Rattle.map_core.proofs.refuse.Statement.{statement}
 use Rattle.map_core.proofs.refuse.Tie as tie
 
-bare-requires : tie.Need-bare-requires
-bare-requires c κs = search needs
-
 returns : tie.Need-returns
 unfolding refusedWith
 returns c = ap (λ (k : CoverRecord). record { finding = Refused (record { item = 0; number = c .before .args .number; place = c .before .args .place }); cover = k }) (c .bare .ensures)
 
 pub refuse-spec : {M : Type 1} → statement M
-refuse-spec = tie.close (tie.spec bare-requires returns)
+refuse-spec = tie.close (tie.spec (λ c κs. search needs) returns)

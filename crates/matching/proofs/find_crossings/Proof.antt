@@ -76,9 +76,6 @@ walked-here c p s t = c .walk .ensures (p .drawing) s (t .walkable _ (measured (
 measure-requires : tie.Need-measure-requires Inv-loop μ-loop
 measure-requires c κs = let t = c .before .before .before .before .pre in (t .0 .drawing, (t .1 .1 .drawing, t .1 .1 .sound .size))
 
-array-read-nands : tie.Need-array-read-nands Inv-loop μ-loop
-array-read-nands c = omega arith
-
 cast-nands : tie.Need-cast-nands Inv-loop μ-loop
 cast-nands c =
     let g : Fits w8 (getD (c .before .measure .result .words) 0 0) = search needs in
@@ -133,9 +130,6 @@ wrote-few c =
 add-found : tie.Need-add-found Inv-loop μ-loop
 add-found c = let b = bounds (c .before .before .before .before .before) in omega (arith, wrote-few (c .before .before))
 
-deciding-requires : tie.Need-deciding-requires Inv-loop μ-loop
-deciding-requires c κs = tt
-
 next-crossing-requires : tie.Need-next-crossing-requires Inv-loop μ-loop
 next-crossing-requires c κs =
     let q = c .before .before .before .before .before .before in
@@ -187,26 +181,6 @@ returns c = λ p s t.
     (r .1 ∙ ap (λ ms. a .count + length ms) all, r .2 ∙ ap (λ ms. tableFrom matchBytes (a .table .now) (a .count) (map hitOf ms)) all)
 
 pub find-crossings-spec : {M : Type 1} → statement M
-find-crossings-spec =
-    tie.close
-    (tie.spec
-    Inv-loop
-    μ-loop
-    measure-requires
-    array-read-nands
-    cast-nands
-    loop-holds
-    walk-requires
-    mul-at
-    add-write-match
-    sub-write-match
-    part-write-match-start
-    part-write-match-end
-    write-match-requires
-    add-found
-    deciding-requires
-    next-crossing-requires
-    loop-less
-    loop-again
-    same-length
-    returns)
+find-crossings-spec = tie.close (tie.spec Inv-loop μ-loop measure-requires (omega arith) cast-nands loop-holds
+    walk-requires mul-at add-write-match sub-write-match part-write-match-start part-write-match-end
+    write-match-requires add-found (λ c κs. tt) next-crossing-requires loop-less loop-again same-length returns)

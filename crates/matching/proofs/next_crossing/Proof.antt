@@ -9,23 +9,8 @@ use Rattle.matching.proofs.next_crossing.Tie as tie
 use Rattle.matching.proofs.next_crossing.Reads as reads
 use Rattle.matching.proofs.next_crossing.Lts as lts
 
-sub-unused : tie.Need-sub-unused
-sub-unused c = search needs
-
-cast-result : tie.Need-cast-result
-cast-result c = search needs
-
-shr-result : tie.Need-shr-result
-shr-result c = search needs
-
 add-result : tie.Need-add-result
 add-result c = let a = c .args in omega (arith, shr-le (a .crossing) (5 - a .bits))
-
-cast-result-2 : tie.Need-cast-result-2
-cast-result-2 c = search needs
-
-shl-result : tie.Need-shl-result
-shl-result c = search needs
 
 returns : tie.Need-returns
 returns c =
@@ -36,6 +21,5 @@ returns c =
     (same, rw same (next-above (a .crossing) k), rw same (next-limit (a .crossing) k (c .pre .0) (omega arith)))
 
 pub next-crossing-spec : {M : Type 1} → statement M
-next-crossing-spec =
-    tie.close
-    (tie.spec sub-unused cast-result shr-result add-result cast-result-2 shl-result returns)
+next-crossing-spec = tie.close (tie.spec (λ c. search needs) (λ c. search needs) (λ c. search needs) add-result
+    (λ c. search needs) (λ c. search needs) returns)

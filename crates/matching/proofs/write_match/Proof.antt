@@ -15,23 +15,8 @@ use Rattle.matching.proofs.write_inputs.Reads as write-inputs-reads
 returns : tie.Need-returns
 returns c = λ o w p. wrote-none _ _ p _ (missing w (not-true _ (c .if1 .taken)))
 
-cast-table : tie.Need-cast-table
-cast-table c = search needs
-
-slice-write-table : tie.Need-slice-write-table
-slice-write-table c = search needs
-
-cast-table-2 : tie.Need-cast-table-2
-cast-table-2 c = search needs
-
-slice-write-table-2 : tie.Need-slice-write-table-2
-slice-write-table-2 c = search needs
-
 cast-table-3 : tie.Need-cast-table-3
 cast-table-3 c = let h = there (c .before .before .before .before .pre .3 .1) (not-false _ (c .before .if1 .left)) in omega (arith, h .writable .walked-is .count-is, h .writable .few)
-
-slice-write-table-3 : tie.Need-slice-write-table-3
-slice-write-table-3 c = search needs
 
 write-inputs-requires : tie.Need-write-inputs-requires
 write-inputs-requires c κs =
@@ -48,16 +33,5 @@ returns-2 c = λ o w p.
     wrote-one _ _ p _ (h .inputs) (h .is-there) (h .writable .walked-is .count-is) (c .before .before .write-inputs .ensures (h .inputs) (h .writable .walked-is) (h .writable .few))
 
 pub write-match-spec : {M : Type 1} → statement M
-write-match-spec =
-    tie.close
-    (tie.spec
-    returns
-    cast-table
-    slice-write-table
-    cast-table-2
-    slice-write-table-2
-    cast-table-3
-    slice-write-table-3
-    write-inputs-requires
-    same-length
-    returns-2)
+write-match-spec = tie.close (tie.spec returns (λ c. search needs) (λ c. search needs) (λ c. search needs)
+    (λ c. search needs) cast-table-3 (λ c. search needs) write-inputs-requires same-length returns-2)

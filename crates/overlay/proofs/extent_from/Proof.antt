@@ -24,9 +24,6 @@ add-first c = omega (arith, gate c)
 array-read-first : tie.Need-array-read-first
 array-read-first c = omega (arith, gate c)
 
-cast-first : tie.Need-cast-first
-cast-first c = search needs
-
 add-result : tie.Need-add-result
 add-result c =
     let a = c .before .before .args in
@@ -51,9 +48,6 @@ add-result-4 c = omega (arith, nand c)
 array-read-result : tie.Need-array-read-result
 array-read-result c = omega (arith, nand c)
 
-cast-result : tie.Need-cast-result
-cast-result c = search needs
-
 add-result-5 : tie.Need-add-result-5
 add-result-5 c =
     let a = c .before .before .args in
@@ -65,19 +59,5 @@ returns-3 : tie.Need-returns-3
 returns-3 c = let a = c .before .before .args in λ s e. extent-nand (a .symbol) (a .t2) (a .k) s e (omega arith) (c .if2 .left)
 
 pub extent-from-spec : {M : Type 1} → statement M
-extent-from-spec =
-    tie.close
-    (tie.spec
-    returns
-    add-first
-    array-read-first
-    cast-first
-    add-result
-    returns-2
-    add-result-2
-    add-result-3
-    add-result-4
-    array-read-result
-    cast-result
-    add-result-5
-    returns-3)
+extent-from-spec = tie.close (tie.spec returns add-first array-read-first (λ c. search needs) add-result returns-2
+    add-result-2 add-result-3 add-result-4 array-read-result (λ c. search needs) add-result-5 returns-3)

@@ -37,15 +37,6 @@ loop-holds c =
     let p = c .before .before .pre .1 in
     (omega (arith, p .0 .size-is, p .1), refl, λ d h g. (omega (arith, h .size-is), measured-none d (replicate 16 0) (omega (arith, h .size-is))))
 
-sub-k : tie.Need-sub-k Inv-loop μ-loop
-sub-k c = omega arith
-
-add-extent-from : tie.Need-add-extent-from Inv-loop μ-loop
-add-extent-from c = omega arith
-
-mul-extent-from : tie.Need-mul-extent-from Inv-loop μ-loop
-mul-extent-from c = omega arith
-
 shared-slice-read-extent-from : tie.Need-shared-slice-read-extent-from Inv-loop μ-loop
 shared-slice-read-extent-from c = omega (arith, c .before .before .before .before .before .pre .1 .0 .long)
 
@@ -61,12 +52,6 @@ cast-words c =
     let f = next (c .before .before) (p .0) (p .1 .0) (p .1 .1) in
     omega (arith, c .extent-from .ensures (f .0) (f .1), f .2)
 
-array-write-words : tie.Need-array-write-words Inv-loop μ-loop
-array-write-words c = omega arith
-
-loop-less : tie.Need-loop-less Inv-loop μ-loop
-loop-less c = omega arith
-
 loop-again : tie.Need-loop-again Inv-loop μ-loop
 loop-again c =
     let i = c .before .before .before .loop in (
@@ -79,21 +64,6 @@ returns : tie.Need-returns Inv-loop μ-loop
 returns c = let i = c .before .loop .inv in λ d h g. record { long = i .1; each = λ x m. i .2 d h g .1 x m (omega arith) }
 
 pub measure-spec : {M : Type 1} → statement M
-measure-spec =
-    tie.close
-    (tie.spec
-    Inv-loop
-    μ-loop
-    shared-slice-read-k
-    cast-k
-    loop-holds
-    sub-k
-    add-extent-from
-    mul-extent-from
-    shared-slice-read-extent-from
-    extent-from-requires
-    cast-words
-    array-write-words
-    loop-less
-    loop-again
+measure-spec = tie.close (tie.spec Inv-loop μ-loop shared-slice-read-k cast-k loop-holds (omega arith) (omega arith)
+    (omega arith) shared-slice-read-extent-from extent-from-requires cast-words (omega arith) (omega arith) loop-again
     returns)

@@ -11,18 +11,6 @@ use borrow.Author.Needs.{needs}
 use Rattle.part.proofs.map_linked.Statement.{statement}
 use Rattle.part.proofs.map_linked.Tie as tie
 
-link-tree-requires : tie.Need-link-tree-requires
-link-tree-requires c κs = search needs
-
-enum-known-lateness : tie.Need-enum-known-lateness
-enum-known-lateness c = search needs
-
-refuse-requires : tie.Need-refuse-requires
-refuse-requires c κs = search needs
-
-enum-told : tie.Need-enum-told
-enum-told c = search needs
-
 map-one-requires : tie.Need-map-one-requires
 map-one-requires c κs =
     let first = c .before .before .before .before .before .before .before .before in
@@ -44,9 +32,6 @@ returns c =
       λ l t f rows sound e brings. let is = subst (λ (q : Lateness). LinkedIs f t q (call .result .tree)) (told .1) (call .ensures t f sound e brings) in linked-late (a .most) l f t (told .0 .0) (c .refuse .result) (omega (arith, is .1)) (is .0) (c .refuse .ensures),
     )
 
-same-length : tie.Need-same-length
-same-length c = search needs
-
 returns-2 : tie.Need-returns-2
 returns-2 c =
     let a = c .before .before .before .before .before .before .before .before .before .before .before .args in
@@ -58,14 +43,5 @@ returns-2 c =
     )
 
 pub map-linked-spec : {M : Type 1} → statement M
-map-linked-spec =
-    tie.close
-    (tie.spec
-    link-tree-requires
-    enum-known-lateness
-    refuse-requires
-    enum-told
-    map-one-requires
-    returns
-    same-length
-    returns-2)
+map-linked-spec = tie.close (tie.spec (λ c κs. search needs) (λ c. search needs) (λ c κs. search needs)
+    (λ c. search needs) map-one-requires returns (λ c. search needs) returns-2)

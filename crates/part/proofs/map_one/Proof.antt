@@ -15,12 +15,6 @@ use Rattle.part.proofs.map_one.Tie as tie
 words-requires : tie.Need-words-requires
 words-requires c κs = c .before .before .pre .0 .allowed .bounded
 
-sub-solve : tie.Need-sub-solve
-sub-solve c = search needs
-
-part-solve-start : tie.Need-part-solve-start
-part-solve-start c = search needs
-
 part-solve-end : tie.Need-part-solve-end
 part-solve-end c = omega (arith, c .before .before .before .pre .0 .long, c .words .ensures)
 
@@ -38,9 +32,6 @@ clear-requires c κs =
     let call = c .before .before .before .solve in
     (first .pre .0 .allowed .bounded, omega (arith, first .pre .0 .long, same-len-mid 0 (c .before .before .before .before .before .words .result - 0) (first .args .work .now) (call .last .1 .1 .1 .1 .1 .0) (call .kept .1 .1 .1 .1 .1 .0)))
 
-same-length : tie.Need-same-length
-same-length c = search needs
-
 returns : tie.Need-returns
 returns c =
     let first = c .before .before .before .before .before .before .before .before .before .before .before .before in
@@ -54,6 +45,5 @@ returns c =
     )
 
 pub map-one-spec : {M : Type 1} → statement M
-map-one-spec =
-    tie.close
-    (tie.spec words-requires sub-solve part-solve-start part-solve-end solve-requires clear-requires same-length returns)
+map-one-spec = tie.close (tie.spec words-requires (λ c. search needs) (λ c. search needs) part-solve-end
+    solve-requires clear-requires (λ c. search needs) returns)

@@ -19,15 +19,6 @@ use Rattle.part.proofs.map_part.Tie as tie
 abbrev Found : ℕ → ℕ → ℕ → Finding → Type 0
 Found output work most q = Says (λ (m n : ℕ). m ≡ n) (lent partBytes output work) q most
 
-lend-requires : tie.Need-lend-requires
-lend-requires c κs = search needs
-
-enum-known-finding : tie.Need-enum-known-finding
-enum-known-finding c = search needs
-
-enum-told : tie.Need-enum-told
-enum-told c = search needs
-
 with-lent-requires : tie.Need-with-lent-requires
 with-lent-requires c κs =
     let a = c .before .before .before .before .before .before .before .before .before .args in
@@ -45,12 +36,6 @@ returns c =
     maps-part (a .library .now) (a .part .now) (a .output .now) (a .work .now)
     (stopped (λ (most : ℕ). sheetsAnswer most (a .library .now) (a .part .now)) (told .0 .0) (a .output .now) (a .work .now) (sparing-lent partBytes (length (a .output .now)) (length (a .work .now))) (said .0) (said .1))
 
-same-length : tie.Need-same-length
-same-length c = search needs
-
-same-length-2 : tie.Need-same-length-2
-same-length-2 c = search needs
-
 returns-2 : tie.Need-returns-2
 unfolding partOutcome
 returns-2 c =
@@ -61,6 +46,5 @@ returns-2 c =
     (followed (λ (most : ℕ). sheetsAnswer most (a .library .now) (a .part .now)) (said .1 ∙ ap success (said .2)) (c .before .before .before .before .with-lent .ensures (lent-known (length (a .output .now)) (length (a .work .now)) (said .1) (said .2) .1)))
 
 pub map-part-spec : {M : Type 1} → statement M
-map-part-spec =
-    tie.close
-    (tie.spec lend-requires enum-known-finding enum-told with-lent-requires returns same-length same-length-2 returns-2)
+map-part-spec = tie.close (tie.spec (λ c κs. search needs) (λ c. search needs) (λ c. search needs) with-lent-requires
+    returns (λ c. search needs) (λ c. search needs) returns-2)

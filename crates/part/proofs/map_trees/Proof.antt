@@ -30,9 +30,6 @@ Inv-loop rows bins most work₀ trees drivers count covers₀ arrivals₀ k₀ w
 abbrev μ-loop : tie.MeasureT-loop
 μ-loop rows bins most work₀ trees drivers count covers₀ arrivals₀ k₀ work covers arrivals k = count - k
 
-bare-requires : tie.Need-bare-requires Inv-loop μ-loop
-bare-requires c κs = search needs
-
 clear-requires : tie.Need-clear-requires Inv-loop μ-loop
 clear-requires c κs = let p = c .before .before .before .before .before .before .pre in (p .0 .bounded, p .1)
 
@@ -52,12 +49,6 @@ mul-first c = omega (arith, c .before .before .loop .inv .1)
 
 add-map-linked : tie.Need-add-map-linked Inv-loop μ-loop
 add-map-linked c = omega (arith, c .before .before .loop .inv .1)
-
-sub-map-linked : tie.Need-sub-map-linked Inv-loop μ-loop
-sub-map-linked c = omega arith
-
-part-map-linked-start : tie.Need-part-map-linked-start Inv-loop μ-loop
-part-map-linked-start c = omega arith
 
 part-map-linked-end : tie.Need-part-map-linked-end Inv-loop μ-loop
 part-map-linked-end c = omega (arith, c .before .before .before .loop .inv .1, c .before .before .before .before .before .before .before .before .before .before .before .before .before .pre .2 .1 .2 .drivers-are .long)
@@ -81,9 +72,6 @@ map-linked-requires c κs =
       λ j. omega (arith, drivers-small (a .part .drivers) (64 * i .k) m (stored .drivers-are .small) j, i .inv .4),
       (q .2 .0, (h .0, q .2 .1 .1, h .3, h .4)),
     )
-
-enum-known-finding : tie.Need-enum-known-finding Inv-loop μ-loop
-enum-known-finding c = search needs
 
 cast-tree : tie.Need-cast-tree Inv-loop μ-loop
 cast-tree c = omega (arith, c .before .before .before .before .before .before .before .before .before .before .before .before .loop .inv .1)
@@ -119,9 +107,6 @@ returns c =
       ),
     )
 
-enum-told : tie.Need-enum-told Inv-loop μ-loop
-enum-told c = search needs
-
 mul-covers : tie.Need-mul-covers Inv-loop μ-loop
 mul-covers c = omega (arith, c .before .before .before .before .before .before .before .before .before .before .before .before .loop .inv .1)
 
@@ -136,9 +121,6 @@ array-write-arrivals c = omega (arith, c .before .before .before .before .before
 
 add-k : tie.Need-add-k Inv-loop μ-loop
 add-k c = omega (arith, c .before .before .before .before .before .before .before .before .before .before .before .before .loop .inv .1)
-
-loop-less : tie.Need-loop-less Inv-loop μ-loop
-loop-less c = omega arith
 
 loop-again : tie.Need-loop-again Inv-loop μ-loop
 loop-again c =
@@ -160,9 +142,6 @@ loop-again c =
       λ l p rows stored. going-more stored (omega (arith, test, stored .count-is)) (i .inv .5 l p rows stored) blank (call .result) (mapped l p rows stored) (omega (arith, test, i .inv .3 .long, i .inv .1)) (told .1),
     )
 
-same-length-2 : tie.Need-same-length-2 Inv-loop μ-loop
-same-length-2 c = search needs
-
 returns-2 : tie.Need-returns-2 Inv-loop μ-loop
 returns-2 c =
     let a = c .before .before .before .before .before .before .before .before .before .before .before .args in
@@ -179,34 +158,8 @@ returns-2 c =
     )
 
 pub map-trees-spec : {M : Type 1} → statement M
-map-trees-spec =
-    tie.close
-    (tie.spec
-    Inv-loop
-    μ-loop
-    bare-requires
-    clear-requires
-    loop-holds
-    mul-tree
-    array-copy-out-tree
-    mul-first
-    add-map-linked
-    sub-map-linked
-    part-map-linked-start
-    part-map-linked-end
-    slice-aggregate-map-linked
-    map-linked-requires
-    enum-known-finding
-    cast-tree
-    same-length
-    returns
-    enum-told
-    mul-covers
-    array-set-from-covers
-    mul-arrivals
-    array-write-arrivals
-    add-k
-    loop-less
-    loop-again
-    same-length-2
-    returns-2)
+map-trees-spec = tie.close (tie.spec Inv-loop μ-loop (λ c κs. search needs) clear-requires loop-holds mul-tree
+    array-copy-out-tree mul-first add-map-linked (omega arith) (omega arith) part-map-linked-end
+    slice-aggregate-map-linked map-linked-requires (λ c. search needs) cast-tree same-length returns
+    (λ c. search needs) mul-covers array-set-from-covers mul-arrivals array-write-arrivals add-k (omega arith)
+    loop-again (λ c. search needs) returns-2)

@@ -11,15 +11,6 @@ use Rattle.part.proofs.Replies.{sparing-part}
 use Rattle.part.proofs.with_library.Statement.{statement}
 use Rattle.part.proofs.with_library.Tie as tie
 
-read-part-requires : tie.Need-read-part-requires
-read-part-requires c κs = search needs
-
-enum-known-finding : tie.Need-enum-known-finding
-enum-known-finding c = search needs
-
-enum-told : tie.Need-enum-told
-enum-told c = search needs
-
 with-part-requires : tie.Need-with-part-requires
 with-part-requires c κs =
     let first = c .before .before .before .before .before .before .before .before in
@@ -37,12 +28,6 @@ returns c l stored is =
     let says = subst (λ (q : Finding). Says PartStored (part (a .part .now)) q (read .result .part)) (told .1) (read .ensures) in
     stopped (partSheets (a .most) l) (told .0 .0) (a .output .now) (a .work .now) (sparing-part (a .part .now)) (says .0) (says .1)
 
-same-length : tie.Need-same-length
-same-length c = search needs
-
-same-length-2 : tie.Need-same-length-2
-same-length-2 c = search needs
-
 returns-2 : tie.Need-returns-2
 returns-2 c l stored is =
     let a = c .before .before .before .before .before .before .before .before .before .before .before .before .before .args in
@@ -51,14 +36,5 @@ returns-2 c l stored is =
     followed (partSheets (a .most) l) (says .1) (c .before .before .before .before .with-part .ensures l (says .0) stored (says .2) is)
 
 pub with-library-spec : {M : Type 1} → statement M
-with-library-spec =
-    tie.close
-    (tie.spec
-    read-part-requires
-    enum-known-finding
-    enum-told
-    with-part-requires
-    returns
-    same-length
-    same-length-2
-    returns-2)
+with-library-spec = tie.close (tie.spec (λ c κs. search needs) (λ c. search needs) (λ c. search needs)
+    with-part-requires returns (λ c. search needs) (λ c. search needs) returns-2)

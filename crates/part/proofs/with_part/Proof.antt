@@ -33,18 +33,6 @@ slice-aggregate-map-trees c =
 map-trees-requires : tie.Need-map-trees-requires
 map-trees-requires c κs = let p = c .before .before .before .before .before .before .before .pre in (p .0, p .2, (p .3 .0, (p .3 .1 .0, rows-stored (p .3 .1 .1), p .3 .1 .2)))
 
-enum-known-finding : tie.Need-enum-known-finding
-enum-known-finding c = search needs
-
-enum-told : tie.Need-enum-told
-enum-told c = search needs
-
-write-sheets-requires : tie.Need-write-sheets-requires
-write-sheets-requires c κs = search needs
-
-same-length : tie.Need-same-length
-same-length c = search needs
-
 returns : tie.Need-returns
 unfolding ofReply
 returns c l p stored part is =
@@ -53,12 +41,6 @@ returns c l p stored part is =
     let told = c .before .finding .given in
     let says = subst (λ (q : Finding). Says (CoversStored (a .part .count)) (coversFrom (a .most) l (p .links) [] (p .trees)) q (call .result .covers)) (told .1) (call .ensures .1 .1 l p (rows-stored stored) part) in
     trees-refused (a .most) l p is (call .ensures .0) (says .0) (says .1)
-
-same-length-2 : tie.Need-same-length-2
-same-length-2 c = search needs
-
-same-length-3 : tie.Need-same-length-3
-same-length-3 c = search needs
 
 returns-2 : tie.Need-returns-2
 unfolding ofReply
@@ -71,18 +53,6 @@ returns-2 c l p stored part is =
     trees-found (a .most) l p is (call .ensures .0) (says .1) (subst (λ (cs : List Cover). Written (flatMap coverSheet cs) (a .output .now) (put .last .0) (put .result)) (says .2 .covers-are) (put .ensures .0)) (put .ensures .1)
 
 pub with-part-spec : {M : Type 1} → statement M
-with-part-spec =
-    tie.close
-    (tie.spec
-    mul-filled
-    array-share-prefix-rows
-    slice-aggregate-map-trees
-    map-trees-requires
-    enum-known-finding
-    enum-told
-    write-sheets-requires
-    same-length
-    returns
-    same-length-2
-    same-length-3
-    returns-2)
+with-part-spec = tie.close (tie.spec mul-filled array-share-prefix-rows slice-aggregate-map-trees map-trees-requires
+    (λ c. search needs) (λ c. search needs) (λ c κs. search needs) (λ c. search needs) returns (λ c. search needs)
+    (λ c. search needs) returns-2)

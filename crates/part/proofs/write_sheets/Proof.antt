@@ -25,21 +25,6 @@ loop-holds : tie.Need-loop-holds Inv-loop μ-loop
 unfolding flatMap
 loop-holds c = (omega arith, omega arith, refl, record { bytes = refl; output = refl })
 
-mul-cover : tie.Need-mul-cover Inv-loop μ-loop
-mul-cover c = search needs
-
-array-copy-out-cover : tie.Need-array-copy-out-cover Inv-loop μ-loop
-array-copy-out-cover c = search needs
-
-sub-write-cover : tie.Need-sub-write-cover Inv-loop μ-loop
-sub-write-cover c = search needs
-
-part-write-cover-start : tie.Need-part-write-cover-start Inv-loop μ-loop
-part-write-cover-start c = search needs
-
-part-write-cover-end : tie.Need-part-write-cover-end Inv-loop μ-loop
-part-write-cover-end c = search needs
-
 write-cover-requires : tie.Need-write-cover-requires Inv-loop μ-loop
 write-cover-requires c κs =
     let p = c .before .before .before .before .before .pre in
@@ -54,12 +39,6 @@ add-at c =
     let i = c .before .before .before .before .before .before .loop in
     let w = c .before .before .write-cover in
     omega (arith, w .ensures .bytes, sheet-short (getD (c .before .before .before .before .before .before .before .before .args .t2) (i .k) noCover) (p .2 .few (i .k)), i .inv .1, p .0)
-
-add-k : tie.Need-add-k Inv-loop μ-loop
-add-k c = search needs
-
-loop-less : tie.Need-loop-less Inv-loop μ-loop
-loop-less c = search needs
 
 loop-again : tie.Need-loop-again Inv-loop μ-loop
 loop-again c =
@@ -78,9 +57,6 @@ loop-again c =
           (written-more (flatMap coverSheet (map coverOf (take (i .k) (a .t2)))) (coverSheet (coverOf cover)) (a .output .now) (i .output) (w .last .0) (i .at) (w .result) inside (i .inv .3) (w .ensures)),
     )
 
-same-length : tie.Need-same-length Inv-loop μ-loop
-same-length c = search needs
-
 returns : tie.Need-returns Inv-loop μ-loop
 returns c =
     let a = c .before .before .before .args in
@@ -89,21 +65,6 @@ returns c =
     (subst (λ (n : ℕ). Written (flatMap coverSheet (map coverOf (take n (a .t2)))) (a .output .now) (i .output) (i .at)) done (i .inv .3), omega (arith, i .inv .1, c .before .before .before .pre .0))
 
 pub write-sheets-spec : {M : Type 1} → statement M
-write-sheets-spec =
-    tie.close
-    (tie.spec
-    Inv-loop
-    μ-loop
-    loop-holds
-    mul-cover
-    array-copy-out-cover
-    sub-write-cover
-    part-write-cover-start
-    part-write-cover-end
-    write-cover-requires
-    add-at
-    add-k
-    loop-less
-    loop-again
-    same-length
-    returns)
+write-sheets-spec = tie.close (tie.spec Inv-loop μ-loop loop-holds (λ c. search needs) (λ c. search needs)
+    (λ c. search needs) (λ c. search needs) (λ c. search needs) write-cover-requires add-at (λ c. search needs)
+    (λ c. search needs) loop-again (λ c. search needs) returns)

@@ -19,23 +19,11 @@ returns-2 : tie.Need-returns-2
 unfolding symbolLinked
 returns-2 c = let a = c .before .before .before .args in sym (rw (brought-some (a .arrivals .now) (a .driver) (c .before .if1 .left), lt-ltb (a .symbol) 2 (omega arith)) refl)
 
-sub-arrival : tie.Need-sub-arrival
-sub-arrival c = search needs
-
-mul-arrival : tie.Need-mul-arrival
-mul-arrival c = search needs
-
-shared-slice-read-arrival : tie.Need-shared-slice-read-arrival
-shared-slice-read-arrival c = search needs
-
 returns-3 : tie.Need-returns-3
 unfolding symbolLinked
 returns-3 c =
     let a = c .before .before .before .before .before .args in
     sym (rw (brought-some (a .arrivals .now) (a .driver) (c .before .before .before .if1 .left), le-ltb (a .symbol) 2 (omega arith), lt-ltb latestLinked (getD (a .arrivals .now) (a .driver - 1) 0) (omega arith)) refl)
-
-with-arrival-requires : tie.Need-with-arrival-requires
-with-arrival-requires c κs = search needs
 
 returns-4 : tie.Need-returns-4
 unfolding symbolLinked
@@ -44,14 +32,5 @@ returns-4 c =
     ap Is (c .with-arrival .ensures) ∙ sym (rw (brought-some (a .arrivals .now) (a .driver) (c .before .before .before .before .if1 .left), le-ltb (a .symbol) 2 (omega arith), le-ltb latestLinked (getD (a .arrivals .now) (a .driver - 1) 0) (omega arith)) refl)
 
 pub link-symbol-spec : {M : Type 1} → statement M
-link-symbol-spec =
-    tie.close
-    (tie.spec
-    returns
-    returns-2
-    sub-arrival
-    mul-arrival
-    shared-slice-read-arrival
-    returns-3
-    with-arrival-requires
-    returns-4)
+link-symbol-spec = tie.close (tie.spec returns returns-2 (λ c. search needs) (λ c. search needs) (λ c. search needs)
+    returns-3 (λ c κs. search needs) returns-4)

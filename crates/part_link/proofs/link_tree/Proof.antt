@@ -51,17 +51,11 @@ shared-slice-read-link-symbol c = omega (arith, c .before .before .loop .inv .1,
 link-symbol-requires : tie.Need-link-symbol-requires Inv-loop μ-loop
 link-symbol-requires c κs = let i = c .before .before .loop in (i .inv .2 (i .n) (omega arith), c .before .before .before .before .before .before .pre .1 (i .n))
 
-enum-known-linked : tie.Need-enum-known-linked Inv-loop μ-loop
-enum-known-linked c = search needs
-
 mul-symbols : tie.Need-mul-symbols Inv-loop μ-loop
 mul-symbols c = omega (arith, c .before .before .before .before .before .before .loop .inv .1)
 
 array-write-symbols : tie.Need-array-write-symbols Inv-loop μ-loop
 array-write-symbols c = omega (arith, c .before .before .before .before .before .before .loop .inv .1)
-
-enum-told : tie.Need-enum-told Inv-loop μ-loop
-enum-told c = search needs
 
 returns : tie.Need-returns Inv-loop μ-loop
 returns c t f sound e brings =
@@ -69,12 +63,6 @@ returns c t f sound e brings =
     let here : i .n < size (t .shape) = below t e (omega arith) in
     let call = c .before .before .link-symbol in
     (linking-late sound here (i .inv .3 t f sound e brings) (ap (λ (o : Option ℕ). symbolLinked o (getD (i .symbols) (i .n) 0)) (brings (i .n) (omega (arith, i .inv .1))) ∙ sym (call .ensures) ∙ c .enum-told .given .1), omega (arith, i .inv .1))
-
-add-n : tie.Need-add-n Inv-loop μ-loop
-add-n c = omega arith
-
-loop-less : tie.Need-loop-less Inv-loop μ-loop
-loop-less c = omega arith
 
 loop-again : tie.Need-loop-again Inv-loop μ-loop
 loop-again c =
@@ -94,22 +82,6 @@ returns-2 c t f sound e brings =
     (all .0, tree-linked f t e (all .1))
 
 pub link-tree-spec : {M : Type 1} → statement M
-link-tree-spec =
-    tie.close
-    (tie.spec
-    Inv-loop
-    μ-loop
-    loop-holds
-    mul-link-symbol
-    array-read-link-symbol
-    shared-slice-read-link-symbol
-    link-symbol-requires
-    enum-known-linked
-    mul-symbols
-    array-write-symbols
-    enum-told
-    returns
-    add-n
-    loop-less
-    loop-again
-    returns-2)
+link-tree-spec = tie.close (tie.spec Inv-loop μ-loop loop-holds mul-link-symbol array-read-link-symbol
+    shared-slice-read-link-symbol link-symbol-requires (λ c. search needs) mul-symbols array-write-symbols
+    (λ c. search needs) returns (omega arith) (omega arith) loop-again returns-2)

@@ -5,24 +5,6 @@ use borrow.Author.Needs.{needs}
 use Rattle.part_read.proofs.judge_link.Statement.{statement}
 use Rattle.part_read.proofs.judge_link.Tie as tie
 
-cast-node : tie.Need-cast-node
-cast-node c = search needs
-
-mul-leaf-field : tie.Need-mul-leaf-field
-mul-leaf-field c = search needs
-
-add-leaf-field : tie.Need-add-leaf-field
-add-leaf-field c = search needs
-
-add-leaf-field-2 : tie.Need-add-leaf-field-2
-add-leaf-field-2 c = search needs
-
-mul-if1 : tie.Need-mul-if1
-mul-if1 c = search needs
-
-array-read-if1 : tie.Need-array-read-if1
-array-read-if1 c = search needs
-
 returns : tie.Need-returns
 unfolding Bounded
 returns c = ((λ trees before x h. not-leaf h (omega arith)), (omega arith, omega arith, omega arith, omega (arith, c .before .before .before .pre)))
@@ -39,16 +21,5 @@ returns-4 : tie.Need-returns-4
 returns-4 c = ((λ trees before x h. right h (omega arith) (c .before .before .if2 .left) (omega arith)), tt)
 
 pub judge-link-spec : {M : Type 1} → statement M
-judge-link-spec =
-    tie.close
-    (tie.spec
-    cast-node
-    mul-leaf-field
-    add-leaf-field
-    add-leaf-field-2
-    mul-if1
-    array-read-if1
-    returns
-    returns-2
-    returns-3
-    returns-4)
+judge-link-spec = tie.close (tie.spec (λ c. search needs) (λ c. search needs) (λ c. search needs) (λ c. search needs)
+    (λ c. search needs) (λ c. search needs) returns returns-2 returns-3 returns-4)

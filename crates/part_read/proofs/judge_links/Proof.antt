@@ -34,26 +34,11 @@ abbrev μ-loop : tie.MeasureT-loop
 loop-holds : tie.Need-loop-holds Inv-loop μ-loop
 loop-holds c = (omega arith, refl, λ ts xs h e n. record { before = []; rest = xs; all = refl; many = refl; judged = refl; marks = marks-none })
 
-mul-link : tie.Need-mul-link Inv-loop μ-loop
-mul-link c = omega arith
-
-array-copy-out-link : tie.Need-array-copy-out-link Inv-loop μ-loop
-array-copy-out-link c = omega arith
-
-cast-reading : tie.Need-cast-reading Inv-loop μ-loop
-cast-reading c = omega arith
-
-mul-tree : tie.Need-mul-tree Inv-loop μ-loop
-mul-tree c = omega arith
-
 array-copy-out-tree : tie.Need-array-copy-out-tree Inv-loop μ-loop
 array-copy-out-tree c = omega (arith, c .before .before .before .before .pre .0 (c .before .before .before .loop .k) .reading)
 
 mul-at : tie.Need-mul-at Inv-loop μ-loop
 mul-at c = omega (arith, c .before .before .before .before .before .pre .0 (c .before .before .before .before .loop .k) .reading)
-
-cast-at : tie.Need-cast-at Inv-loop μ-loop
-cast-at c = omega arith
 
 add-at : tie.Need-add-at Inv-loop μ-loop
 add-at c = let small = c .before .before .before .before .before .before .pre .0 (c .before .before .before .before .before .loop .k) in omega (arith, small .reading, small .node)
@@ -63,12 +48,6 @@ array-read-judge-link c = let small = c .before .before .before .before .before 
 
 judge-link-requires : tie.Need-judge-link-requires Inv-loop μ-loop
 judge-link-requires c κs = let p = c .before .before .before .before .before .before .pre in (p .0 (c .before .before .before .before .before .loop .k), omega (arith, p .1))
-
-enum-told : tie.Need-enum-told Inv-loop μ-loop
-enum-told c = search needs
-
-enum-told-2 : tie.Need-enum-told-2 Inv-loop μ-loop
-enum-told-2 c = search needs
 
 returns : tie.Need-returns Inv-loop μ-loop
 returns c =
@@ -85,12 +64,6 @@ add-drivers c = let small = c .before .before .before .before .before .before .b
 
 array-write-drivers : tie.Need-array-write-drivers Inv-loop μ-loop
 array-write-drivers c = let small = c .before .before .before .before .before .before .before .before .before .before .pre .0 (c .before .before .before .before .before .before .before .before .before .loop .k) in omega (arith, small .reading, small .node)
-
-add-k : tie.Need-add-k Inv-loop μ-loop
-add-k c = omega arith
-
-loop-less : tie.Need-loop-less Inv-loop μ-loop
-loop-less c = omega arith
 
 loop-again : tie.Need-loop-again Inv-loop μ-loop
 loop-again c =
@@ -109,28 +82,7 @@ returns-2 c ts xs stored laid n =
     (h .before, h .judged ∙ ap (linksJudged ts (h .before)) none-left, h .marks)
 
 pub judge-links-spec : {M : Type 1} → statement M
-judge-links-spec =
-    tie.close
-    (tie.spec
-    Inv-loop
-    μ-loop
-    loop-holds
-    mul-link
-    array-copy-out-link
-    cast-reading
-    mul-tree
-    array-copy-out-tree
-    mul-at
-    cast-at
-    add-at
-    array-read-judge-link
-    judge-link-requires
-    enum-told
-    enum-told-2
-    returns
-    add-drivers
-    array-write-drivers
-    add-k
-    loop-less
-    loop-again
-    returns-2)
+judge-links-spec = tie.close (tie.spec Inv-loop μ-loop loop-holds (omega arith) (omega arith) (omega arith)
+    (omega arith) array-copy-out-tree mul-at (omega arith) add-at array-read-judge-link judge-link-requires
+    (λ c. search needs) (λ c. search needs) returns add-drivers array-write-drivers (omega arith) (omega arith)
+    loop-again returns-2)

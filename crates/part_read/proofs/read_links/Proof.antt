@@ -28,21 +28,6 @@ loop-holds c = (omega arith, refl, refl, small-none, omega arith)
 read-link-requires : tie.Need-read-link-requires Inv-loop μ-loop
 read-link-requires c κs = (omega arith, c .before .before .before .pre .1)
 
-cast-links : tie.Need-cast-links Inv-loop μ-loop
-cast-links c = omega arith
-
-mul-links : tie.Need-mul-links Inv-loop μ-loop
-mul-links c = omega arith
-
-array-set-from-links : tie.Need-array-set-from-links Inv-loop μ-loop
-array-set-from-links c = omega arith
-
-add-k : tie.Need-add-k Inv-loop μ-loop
-add-k c = omega arith
-
-loop-less : tie.Need-loop-less Inv-loop μ-loop
-loop-less c = omega arith
-
 loop-again : tie.Need-loop-again Inv-loop μ-loop
 unfolding link
 loop-again c =
@@ -73,17 +58,5 @@ returns c =
     }
 
 pub read-links-spec : {M : Type 1} → statement M
-read-links-spec =
-    tie.close
-    (tie.spec
-    Inv-loop
-    μ-loop
-    loop-holds
-    read-link-requires
-    cast-links
-    mul-links
-    array-set-from-links
-    add-k
-    loop-less
-    loop-again
-    returns)
+read-links-spec = tie.close (tie.spec Inv-loop μ-loop loop-holds read-link-requires (omega arith) (omega arith)
+    (omega arith) (omega arith) (omega arith) loop-again returns)

@@ -15,12 +15,6 @@ use borrow.Author.Needs.{needs}
 use Rattle.part_read.proofs.read_part.Statement.{statement}
 use Rattle.part_read.proofs.read_part.Tie as tie
 
-read-counts-requires : tie.Need-read-counts-requires
-read-counts-requires c κs = search needs
-
-enum-known-scan : tie.Need-enum-known-scan
-enum-known-scan c = search needs
-
 bytes-to-requires : tie.Need-bytes-to-requires
 bytes-to-requires c κs = omega (arith, ap place (c .before .scan .given .1), c .before .before .before .read-counts .ensures .near)
 
@@ -29,18 +23,6 @@ sub-read-rest c = let told = c .before .before .scan .given in omega (arith, c .
 
 part-read-rest-start : tie.Need-part-read-rest-start
 part-read-rest-start c = let told = c .before .before .scan .given in omega (arith, c .bytes-to .ensures, counts-room _ (c .before .before .before .before .read-counts .result) (c .before .before .before .before .read-counts .ensures) (told .0 .0) (told .1))
-
-part-read-rest-end : tie.Need-part-read-rest-end
-part-read-rest-end c = search needs
-
-read-rest-requires : tie.Need-read-rest-requires
-read-rest-requires c κs = search needs
-
-enum-known-scan-2 : tie.Need-enum-known-scan-2
-enum-known-scan-2 c = search needs
-
-no-tree-requires : tie.Need-no-tree-requires
-no-tree-requires c κs = search needs
 
 returns : tie.Need-returns
 returns c =
@@ -62,17 +44,6 @@ returns-2 c =
     (part-stops s (counted .result) (counted .ensures) (told .0 .0) (told .0 .1 .0) (told .1), (omega arith, omega arith, omega arith, omega (arith, ap place (told .1), counted .ensures .near)))
 
 pub read-part-spec : {M : Type 1} → statement M
-read-part-spec =
-    tie.close
-    (tie.spec
-    read-counts-requires
-    enum-known-scan
-    bytes-to-requires
-    sub-read-rest
-    part-read-rest-start
-    part-read-rest-end
-    read-rest-requires
-    enum-known-scan-2
-    no-tree-requires
-    returns
+read-part-spec = tie.close (tie.spec (λ c κs. search needs) (λ c. search needs) bytes-to-requires sub-read-rest
+    part-read-rest-start (λ c. search needs) (λ c κs. search needs) (λ c. search needs) (λ c κs. search needs) returns
     returns-2)

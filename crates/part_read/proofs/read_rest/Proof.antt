@@ -10,15 +10,6 @@ use borrow.Author.Needs.{needs}
 use Rattle.part_read.proofs.read_rest.Statement.{statement}
 use Rattle.part_read.proofs.read_rest.Tie as tie
 
-read-trees-requires : tie.Need-read-trees-requires
-read-trees-requires c κs = search needs
-
-enum-told : tie.Need-enum-told
-enum-told c = search needs
-
-enum-told-2 : tie.Need-enum-told-2
-enum-told-2 c = search needs
-
 returns : tie.Need-returns
 returns c xs laid n =
     let a = c .before .before .before .before .before .args in
@@ -26,9 +17,6 @@ returns c xs laid n =
     let told = c .enum-told2 .given in
     let stops = subst (λ (q : Finding). Says (λ ts l. TreesStored ts l × (length ts ≡ a .counts .trees)) (treesFrom [] (a .counts .trees) (a .s .now)) q (read .result .trees)) (told .1) (read .ensures) in
     subst (λ (q : Finding). Says PartStored (afterCounts (a .counts .trees) xs (a .s .now)) q (record { count = a .counts .trees; trees = read .result .trees; drivers = replicate 1024 0 })) (sym (told .1)) (rest-stops (a .counts .trees) xs (a .s .now) (stops .0), stops .1)
-
-judge-links-requires : tie.Need-judge-links-requires
-judge-links-requires c κs = search needs
 
 returns-2 : tie.Need-returns-2
 returns-2 c xs laid n =
@@ -40,6 +28,5 @@ returns-2 c xs laid n =
     rest-says (a .counts .trees) xs (a .s .now) (stored .0) (read .result .trees) (judged .result .drivers) (judged .result .finding) (stored .1) (stored .2 .0) (stored .2 .1) (judged .ensures (stored .0) xs (stored .2 .0) laid n)
 
 pub read-rest-spec : {M : Type 1} → statement M
-read-rest-spec =
-    tie.close
-    (tie.spec read-trees-requires enum-told enum-told-2 returns judge-links-requires returns-2)
+read-rest-spec = tie.close (tie.spec (λ c κs. search needs) (λ c. search needs) (λ c. search needs) returns
+    (λ c κs. search needs) returns-2)

@@ -50,35 +50,8 @@ Inv-loop s count trees₀ first₀ k₀ trees first k =
 abbrev μ-loop : tie.MeasureT-loop
 μ-loop s count trees₀ first₀ k₀ trees first k = count - k
 
-no-tree-requires : tie.Need-no-tree-requires Inv-loop μ-loop
-no-tree-requires c κs = search needs
-
 loop-holds : tie.Need-loop-holds Inv-loop μ-loop
 loop-holds c = let a = c .before .before .args in ([], refl, omega arith, omega arith, ap (λ (x : TreeRecord). replicate treesMost x) (c .no-tree .ensures), ap (λ (n : ℕ). treesFrom [] n (a .s .now)) (omega arith))
-
-sub-read-tree-to : tie.Need-sub-read-tree-to Inv-loop μ-loop
-sub-read-tree-to c = search needs
-
-part-read-tree-to-start : tie.Need-part-read-tree-to-start Inv-loop μ-loop
-part-read-tree-to-start c = search needs
-
-part-read-tree-to-end : tie.Need-part-read-tree-to-end Inv-loop μ-loop
-part-read-tree-to-end c = search needs
-
-add-read-tree-to : tie.Need-add-read-tree-to Inv-loop μ-loop
-add-read-tree-to c = search needs
-
-read-tree-to-requires : tie.Need-read-tree-to-requires Inv-loop μ-loop
-read-tree-to-requires c κs = search needs
-
-enum-known-scan : tie.Need-enum-known-scan Inv-loop μ-loop
-enum-known-scan c = search needs
-
-mul-trees : tie.Need-mul-trees Inv-loop μ-loop
-mul-trees c = search needs
-
-array-set-from-trees : tie.Need-array-set-from-trees Inv-loop μ-loop
-array-set-from-trees c = search needs
 
 bytes-to-requires : tie.Need-bytes-to-requires Inv-loop μ-loop
 bytes-to-requires c κs = let told = c .before .before .scan .given in omega (arith, ap place (told .1), c .before .before .before .before .read-tree-to .ensures .near)
@@ -90,15 +63,6 @@ add-first c =
     let read = c .before .before .before .before .before .read-tree-to in
     let told = c .before .before .before .scan .given in
     omega (arith, c .bytes-to .ensures, room (from (a .s .now) (i .first) (eqb (i .k + 1) (a .count)) (read .result) (read .ensures)) (told .0 .0) (told .1), length-drop (i .first) (a .s .now), i .inv .3)
-
-enum-known-scan-2 : tie.Need-enum-known-scan-2 Inv-loop μ-loop
-enum-known-scan-2 c = search needs
-
-tree-number-requires : tie.Need-tree-number-requires Inv-loop μ-loop
-tree-number-requires c κs = search needs
-
-cast-t23 : tie.Need-cast-t23 Inv-loop μ-loop
-cast-t23 c = search needs
 
 returns : tie.Need-returns Inv-loop μ-loop
 unfolding Bounded
@@ -114,12 +78,6 @@ returns c =
           ∙ ap₂ (λ (k n : ℕ). refusedIn k n (told .0 .1 .0)) (i .inv .1) (sym (c .tree-number .ensures .0)),
       (omega (arith, c .before .before .before .before .before .before .before .before .before .before .pre), omega (arith, number-some (told .0 .0), c .tree-number .ensures), omega (arith, c .tree-number .ensures), omega (arith, ap place (told .1), is .near)),
     )
-
-add-k : tie.Need-add-k Inv-loop μ-loop
-add-k c = search needs
-
-loop-less : tie.Need-loop-less Inv-loop μ-loop
-loop-less c = search needs
 
 loop-again : tie.Need-loop-again Inv-loop μ-loop
 loop-again c =
@@ -154,28 +112,7 @@ returns-2 c =
     (i .inv .0, whole, (record { few = omega (arith, i .inv .1, c .before .before .before .before .pre); laid = i .inv .4; sound = trees-from [] (a .count) (a .s .now) (λ t m. absurd (List·Memᴰ·not-nil m)) whole }, omega (arith, i .inv .1)))
 
 pub read-trees-spec : {M : Type 1} → statement M
-read-trees-spec =
-    tie.close
-    (tie.spec
-    Inv-loop
-    μ-loop
-    no-tree-requires
-    loop-holds
-    sub-read-tree-to
-    part-read-tree-to-start
-    part-read-tree-to-end
-    add-read-tree-to
-    read-tree-to-requires
-    enum-known-scan
-    mul-trees
-    array-set-from-trees
-    bytes-to-requires
-    add-first
-    enum-known-scan-2
-    tree-number-requires
-    cast-t23
-    returns
-    add-k
-    loop-less
-    loop-again
-    returns-2)
+read-trees-spec = tie.close (tie.spec Inv-loop μ-loop (λ c κs. search needs) loop-holds (λ c. search needs)
+    (λ c. search needs) (λ c. search needs) (λ c. search needs) (λ c κs. search needs) (λ c. search needs)
+    (λ c. search needs) (λ c. search needs) bytes-to-requires add-first (λ c. search needs) (λ c κs. search needs)
+    (λ c. search needs) returns (λ c. search needs) (λ c. search needs) loop-again returns-2)

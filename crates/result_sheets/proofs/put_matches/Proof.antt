@@ -23,50 +23,14 @@ abbrev μ-loop : tie.MeasureT-loop
 loop-holds : tie.Need-loop-holds Inv-loop μ-loop
 loop-holds c = (omega arith, omega arith, refl, refl)
 
-shared-slice-read-put : tie.Need-shared-slice-read-put Inv-loop μ-loop
-shared-slice-read-put c = omega arith
-
 cast-put : tie.Need-cast-put Inv-loop μ-loop
 cast-put c = omega (arith, c .shared-slice-known4 .given (c .before .before .before .loop .k))
-
-put-requires : tie.Need-put-requires Inv-loop μ-loop
-put-requires c κs = omega arith
-
-add-put : tie.Need-add-put Inv-loop μ-loop
-add-put c = omega arith
-
-shared-slice-read-put-2 : tie.Need-shared-slice-read-put-2 Inv-loop μ-loop
-shared-slice-read-put-2 c = omega arith
 
 cast-put-2 : tie.Need-cast-put-2 Inv-loop μ-loop
 cast-put-2 c = omega (arith, c .shared-slice-known5 .given (c .before .before .before .before .before .before .before .before .loop .k))
 
-put-requires-2 : tie.Need-put-requires-2 Inv-loop μ-loop
-put-requires-2 c κs = omega arith
-
-add-put-2 : tie.Need-add-put-2 Inv-loop μ-loop
-add-put-2 c = omega arith
-
-add-put-3 : tie.Need-add-put-3 Inv-loop μ-loop
-add-put-3 c = omega arith
-
-shared-slice-read-put-3 : tie.Need-shared-slice-read-put-3 Inv-loop μ-loop
-shared-slice-read-put-3 c = omega arith
-
 cast-put-3 : tie.Need-cast-put-3 Inv-loop μ-loop
 cast-put-3 c = omega (arith, c .shared-slice-known6 .given (c .before .before .before .before .before .before .before .before .before .before .before .before .before .loop .k))
-
-put-requires-3 : tie.Need-put-requires-3 Inv-loop μ-loop
-put-requires-3 c κs = omega arith
-
-add-at : tie.Need-add-at Inv-loop μ-loop
-add-at c = omega arith
-
-add-k : tie.Need-add-k Inv-loop μ-loop
-add-k c = omega arith
-
-loop-less : tie.Need-loop-less Inv-loop μ-loop
-loop-less c = omega arith
 
 loop-again : tie.Need-loop-again Inv-loop μ-loop
 loop-again c =
@@ -80,9 +44,6 @@ loop-again c =
     (i .at) (i .output) (one .put .last .0) (two .put2 .last .0) (three .put3 .last .0) (one .put .ensures) (two .put2 .ensures) (three .put3 .ensures) in
     (omega arith, omega arith, turn .0 ∙ i .inv .2, turn .1 ∙ i .inv .3)
 
-same-length : tie.Need-same-length Inv-loop μ-loop
-same-length c = omega arith
-
 returns : tie.Need-returns Inv-loop μ-loop
 returns c =
     let a = c .before .before .before .before .before .before .args in
@@ -91,27 +52,6 @@ returns c =
     matches-done (a .nodes .now) (a .patterns .now) (a .crossings .now) (i .k) (a .count) (i .at) (i .output) done ∙ i .inv .3
 
 pub put-matches-spec : {M : Type 1} → statement M
-put-matches-spec =
-    tie.close
-    (tie.spec
-    Inv-loop
-    μ-loop
-    loop-holds
-    shared-slice-read-put
-    cast-put
-    put-requires
-    add-put
-    shared-slice-read-put-2
-    cast-put-2
-    put-requires-2
-    add-put-2
-    add-put-3
-    shared-slice-read-put-3
-    cast-put-3
-    put-requires-3
-    add-at
-    add-k
-    loop-less
-    loop-again
-    same-length
-    returns)
+put-matches-spec = tie.close (tie.spec Inv-loop μ-loop loop-holds (omega arith) cast-put (omega arith) (omega arith)
+    (omega arith) cast-put-2 (omega arith) (omega arith) (omega arith) (omega arith) cast-put-3 (omega arith)
+    (omega arith) (omega arith) (omega arith) loop-again (omega arith) returns)

@@ -25,35 +25,8 @@ abbrev μ-loop : tie.MeasureT-loop
 loop-holds : tie.Need-loop-holds Inv-loop μ-loop
 loop-holds c = (omega arith, omega arith, refl, refl)
 
-sub-k : tie.Need-sub-k Inv-loop μ-loop
-sub-k c = omega arith
-
-mul-word : tie.Need-mul-word Inv-loop μ-loop
-mul-word c = omega arith
-
-shared-slice-read-word : tie.Need-shared-slice-read-word Inv-loop μ-loop
-shared-slice-read-word c = omega arith
-
-cast-put : tie.Need-cast-put Inv-loop μ-loop
-cast-put c = omega arith
-
-put-requires : tie.Need-put-requires Inv-loop μ-loop
-put-requires c κs = omega arith
-
-add-put : tie.Need-add-put Inv-loop μ-loop
-add-put c = omega arith
-
 cast-put-2 : tie.Need-cast-put-2 Inv-loop μ-loop
 cast-put-2 c = omega (arith, c .before .before .before .before .before .before .before .before .before .before .pre .3 (c .before .before .before .before .before .before .before .loop .k - 1) (omega arith))
-
-put-requires-2 : tie.Need-put-requires-2 Inv-loop μ-loop
-put-requires-2 c κs = omega arith
-
-add-at : tie.Need-add-at Inv-loop μ-loop
-add-at c = omega arith
-
-loop-less : tie.Need-loop-less Inv-loop μ-loop
-loop-less c = omega arith
 
 loop-again : tie.Need-loop-again Inv-loop μ-loop
 loop-again c =
@@ -64,9 +37,6 @@ loop-again c =
     let turn = point-turn (a .points .now) (i .k) (omega arith) (omega arith) (i .at) (i .output) (one .last .0) (two .last .0) (one .ensures) (two .ensures) in
     (omega arith, omega arith, turn .0 ∙ i .inv .2, turn .1 ∙ i .inv .3)
 
-same-length : tie.Need-same-length Inv-loop μ-loop
-same-length c = omega arith
-
 returns : tie.Need-returns Inv-loop μ-loop
 returns c =
     let a = c .before .before .before .before .args in
@@ -75,22 +45,6 @@ returns c =
     points-done (a .points .now) (i .k) (i .at) (i .output) done ∙ i .inv .3
 
 pub put-points-spec : {M : Type 1} → statement M
-put-points-spec =
-    tie.close
-    (tie.spec
-    Inv-loop
-    μ-loop
-    loop-holds
-    sub-k
-    mul-word
-    shared-slice-read-word
-    cast-put
-    put-requires
-    add-put
-    cast-put-2
-    put-requires-2
-    add-at
-    loop-less
-    loop-again
-    same-length
-    returns)
+put-points-spec = tie.close (tie.spec Inv-loop μ-loop loop-holds (omega arith) (omega arith) (omega arith)
+    (omega arith) (omega arith) (omega arith) cast-put-2 (omega arith) (omega arith) (omega arith) loop-again
+    (omega arith) returns)

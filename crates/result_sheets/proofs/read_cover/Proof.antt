@@ -4,27 +4,6 @@ use Rattle.result_sheets.proofs.Laws.{cover-read}
 use Rattle.result_sheets.proofs.read_cover.Statement.{statement}
 use Rattle.result_sheets.proofs.read_cover.Tie as tie
 
-begin-requires : tie.Need-begin-requires
-begin-requires c κs = search needs
-
-raw-requires : tie.Need-raw-requires
-raw-requires c κs = search needs
-
-raw-requires-2 : tie.Need-raw-requires-2
-raw-requires-2 c κs = search needs
-
-raw-requires-3 : tie.Need-raw-requires-3
-raw-requires-3 c κs = search needs
-
-read-matches-requires : tie.Need-read-matches-requires
-read-matches-requires c κs = search needs
-
-end-requires : tie.Need-end-requires
-end-requires c κs = search needs
-
-cast-t15 : tie.Need-cast-t15
-cast-t15 c = search needs
-
 returns : tie.Need-returns
 returns c =
     let a = c .before .before .before .before .before .before .before .before .before .before .before .args in
@@ -38,14 +17,5 @@ returns c =
     (area .ensures) (arrival .ensures) (count .ensures) (omega arith) (omega (arith, first .ensures .1, area .ensures .near, arrival .ensures .near)) (matches .ensures) (last .ensures)
 
 pub read-cover-spec : {M : Type 1} → statement M
-read-cover-spec =
-    tie.close
-    (tie.spec
-    begin-requires
-    raw-requires
-    raw-requires-2
-    raw-requires-3
-    read-matches-requires
-    end-requires
-    cast-t15
-    returns)
+read-cover-spec = tie.close (tie.spec (λ c κs. search needs) (λ c κs. search needs) (λ c κs. search needs)
+    (λ c κs. search needs) (λ c κs. search needs) (λ c κs. search needs) (λ c. search needs) returns)

@@ -7,24 +7,6 @@ use Rattle.covers.specs.CoverSheet.{nodeWidth, patternWidth, crossingWidth, pla
 use Rattle.result_sheets.proofs.read_match.Statement.{statement}
 use Rattle.result_sheets.proofs.read_match.Tie as tie
 
-raw-requires : tie.Need-raw-requires
-raw-requires c κs = search needs
-
-raw-requires-2 : tie.Need-raw-requires-2
-raw-requires-2 c κs = search needs
-
-raw-requires-3 : tie.Need-raw-requires-3
-raw-requires-3 c κs = search needs
-
-cast-t9 : tie.Need-cast-t9
-cast-t9 c = search needs
-
-cast-t10 : tie.Need-cast-t10
-cast-t10 c = search needs
-
-cast-t11 : tie.Need-cast-t11
-cast-t11 c = search needs
-
 returns : tie.Need-returns
 unfolding placedRead
 returns c =
@@ -44,4 +26,5 @@ returns c =
     }
 
 pub read-match-spec : {M : Type 1} → statement M
-read-match-spec = tie.close (tie.spec raw-requires raw-requires-2 raw-requires-3 cast-t9 cast-t10 cast-t11 returns)
+read-match-spec = tie.close (tie.spec (λ c κs. search needs) (λ c κs. search needs) (λ c κs. search needs)
+    (λ c. search needs) (λ c. search needs) (λ c. search needs) returns)

@@ -24,33 +24,6 @@ loop-holds : tie.Need-loop-holds Inv-loop μ-loop
 unfolding times
 loop-holds c = (omega arith, refl, refl, refl, refl, omega arith)
 
-read-match-requires : tie.Need-read-match-requires Inv-loop μ-loop
-read-match-requires c κs = omega arith
-
-cast-nodes : tie.Need-cast-nodes Inv-loop μ-loop
-cast-nodes c = omega arith
-
-array-write-nodes : tie.Need-array-write-nodes Inv-loop μ-loop
-array-write-nodes c = omega arith
-
-cast-patterns : tie.Need-cast-patterns Inv-loop μ-loop
-cast-patterns c = omega arith
-
-array-write-patterns : tie.Need-array-write-patterns Inv-loop μ-loop
-array-write-patterns c = omega arith
-
-cast-crossings : tie.Need-cast-crossings Inv-loop μ-loop
-cast-crossings c = omega arith
-
-array-write-crossings : tie.Need-array-write-crossings Inv-loop μ-loop
-array-write-crossings c = omega arith
-
-add-k : tie.Need-add-k Inv-loop μ-loop
-add-k c = omega arith
-
-loop-less : tie.Need-loop-less Inv-loop μ-loop
-loop-less c = omega arith
-
 loop-again : tie.Need-loop-again Inv-loop μ-loop
 unfolding placedRead
 loop-again c =
@@ -82,20 +55,5 @@ returns c =
     }
 
 pub read-matches-spec : {M : Type 1} → statement M
-read-matches-spec =
-    tie.close
-    (tie.spec
-    Inv-loop
-    μ-loop
-    loop-holds
-    read-match-requires
-    cast-nodes
-    array-write-nodes
-    cast-patterns
-    array-write-patterns
-    cast-crossings
-    array-write-crossings
-    add-k
-    loop-less
-    loop-again
-    returns)
+read-matches-spec = tie.close (tie.spec Inv-loop μ-loop loop-holds (omega arith) (omega arith) (omega arith)
+    (omega arith) (omega arith) (omega arith) (omega arith) (omega arith) (omega arith) loop-again returns)

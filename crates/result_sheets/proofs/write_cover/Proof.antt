@@ -19,44 +19,8 @@ room c =
     let x : length (c .args .cover .crossings) ≡ 64 = search needs in
     (omega arith, omega arith, omega arith)
 
-mul-bytes : tie.Need-mul-bytes
-mul-bytes c = search needs
-
-add-bytes : tie.Need-add-bytes
-add-bytes c = search needs
-
-add-bytes-2 : tie.Need-add-bytes-2
-add-bytes-2 c = search needs
-
-clear-requires : tie.Need-clear-requires
-clear-requires c κs = search needs
-
-put-requires : tie.Need-put-requires
-put-requires c κs = search needs
-
-put-requires-2 : tie.Need-put-requires-2
-put-requires-2 c κs = search needs
-
-cast-put : tie.Need-cast-put
-cast-put c = search needs
-
-put-requires-3 : tie.Need-put-requires-3
-put-requires-3 c κs = search needs
-
-slice-aggregate-put-matches : tie.Need-slice-aggregate-put-matches
-slice-aggregate-put-matches c = search needs
-
-slice-aggregate-put-matches-2 : tie.Need-slice-aggregate-put-matches-2
-slice-aggregate-put-matches-2 c = search needs
-
-slice-aggregate-put-matches-3 : tie.Need-slice-aggregate-put-matches-3
-slice-aggregate-put-matches-3 c = search needs
-
 put-matches-requires : tie.Need-put-matches-requires
 put-matches-requires c κs = let all = room (c .before .before .before .before .before .before .before .before .before .before .before .before .before .before .before .before .before .before .before .before .before .before .before .before) in omega arith
-
-same-length : tie.Need-same-length
-same-length c = search needs
 
 returns : tie.Need-returns
 returns c =
@@ -72,20 +36,6 @@ returns c =
     (cleared .clear .ensures) (one .put .ensures) (two .put2 .ensures) (three .put3 .ensures) (done .put-matches .ensures)
 
 pub write-cover-spec : {M : Type 1} → statement M
-write-cover-spec =
-    tie.close
-    (tie.spec
-    mul-bytes
-    add-bytes
-    add-bytes-2
-    clear-requires
-    put-requires
-    put-requires-2
-    cast-put
-    put-requires-3
-    slice-aggregate-put-matches
-    slice-aggregate-put-matches-2
-    slice-aggregate-put-matches-3
-    put-matches-requires
-    same-length
-    returns)
+write-cover-spec = tie.close (tie.spec (λ c. search needs) (λ c. search needs) (λ c. search needs)
+    (λ c κs. search needs) (λ c κs. search needs) (λ c κs. search needs) (λ c. search needs) (λ c κs. search needs)
+    (λ c. search needs) (λ c. search needs) (λ c. search needs) put-matches-requires (λ c. search needs) returns)

@@ -9,30 +9,6 @@ use Rattle.bits.proofs.put.Reads as put-reads
 use Rattle.result_sheets.proofs.clear.Reads as clear-reads
 use Rattle.result_sheets.proofs.put_points.Reads as put-points-reads
 
-mul-bytes : tie.Need-mul-bytes
-mul-bytes c = search needs
-
-add-bytes : tie.Need-add-bytes
-add-bytes c = search needs
-
-add-bytes-2 : tie.Need-add-bytes-2
-add-bytes-2 c = search needs
-
-clear-requires : tie.Need-clear-requires
-clear-requires c κs = search needs
-
-cast-put : tie.Need-cast-put
-cast-put c = search needs
-
-put-requires : tie.Need-put-requires
-put-requires c κs = search needs
-
-put-points-requires : tie.Need-put-points-requires
-put-points-requires c κs = search needs
-
-same-length : tie.Need-same-length
-same-length c = search needs
-
 returns : tie.Need-returns
 returns c =
     let a = c .before .before .before .before .before .before .before .before .before .before .before .before .before .before .args in
@@ -42,15 +18,6 @@ returns c =
     list-written (a .points .now) (a .count) (omega arith) (a .output .now) (cleared .last .0) (one .last .0) (done .last .0) (cleared .ensures) (one .ensures) (done .ensures)
 
 pub write-list-spec : {M : Type 1} → statement M
-write-list-spec =
-    tie.close
-    (tie.spec
-    mul-bytes
-    add-bytes
-    add-bytes-2
-    clear-requires
-    cast-put
-    put-requires
-    put-points-requires
-    same-length
+write-list-spec = tie.close (tie.spec (λ c. search needs) (λ c. search needs) (λ c. search needs)
+    (λ c κs. search needs) (λ c. search needs) (λ c κs. search needs) (λ c κs. search needs) (λ c. search needs)
     returns)

@@ -61,12 +61,6 @@ of-pair t = (read-node-below t, read-node.Post)
 read-node-read-code-requires : (t : ℕ) → read-node-lts.Need-read-code-requires (of-node t) (read-node-at t) read-node.Post
 read-node-read-code-requires t c κs = (c .before .pre .1 .opened, room-inside (c .before .pre .1))
 
-read-node-enum-known-read : (t : ℕ) → read-node-lts.Need-enum-known-read (of-node t) (read-node-at t) read-node.Post
-read-node-enum-known-read t c = search needs
-
-read-node-enum-known-read-2 : (t : ℕ) → read-node-lts.Need-enum-known-read-2 (of-node t) (read-node-at t) read-node.Post
-read-node-enum-known-read-2 t c = search needs
-
 read-node-returns : (t : ℕ) → read-node-lts.Need-returns (of-node t) (read-node-at t) read-node.Post
 read-node-returns t c s opens = refused-done (c .before .before .before .before .before .pre .1) s _ (subst (CodeRead s _ _ _) (c .before .read2 .given .1) (c .before .before .before .read-code .ensures s opens))
 
@@ -90,9 +84,6 @@ read-node-returns-3 : (t : ℕ) → read-node-lts.Need-returns-3 (of-node t) (re
 read-node-returns-3 t c s opens =
     let done = c .read-driven .ensures s opens in
     (driven-done (c .before .before .before .before .before .before .before .before .before .before .pre .1) s _ _ _ (c .before .before .before .if2 .taken) (subst (CodeRead s _ _ _) (c .before .before .before .before .before .before .read .given .1) (c .before .before .before .before .before .before .before .before .read-code .ensures s opens)) (done .0), done .1)
-
-read-node-element-copy-out-n : (t : ℕ) → read-node-lts.Need-element-copy-out-n (of-node t) (read-node-at t) read-node.Post
-read-node-element-copy-out-n t c = omega arith
 
 -- a gate's code is small, and there is room for the gate
 small : (t : ℕ) (c : read-node-lts.After-n (of-node t) (read-node-at t) read-node.Post) → c .before .before .before .before .read .given .0 .0 ≤ 2
@@ -121,9 +112,6 @@ read-node-element-write-symbols t c = in-room t c
 
 read-node-add-words : (t : ℕ) → read-node-lts.Need-add-words (of-node t) (read-node-at t) read-node.Post
 read-node-add-words t c = omega (arith, in-room t c)
-
-read-node-element-write-words : (t : ℕ) → read-node-lts.Need-element-write-words (of-node t) (read-node-at t) read-node.Post
-read-node-element-write-words t c = omega arith
 
 read-node-read-node-requires : (t : ℕ) → read-node-lts.Need-read-node-requires (of-node t) (read-node-at t) read-node.Post
 read-node-read-node-requires t c κs =
@@ -178,33 +166,7 @@ read-pair-returns-2 t c s opens =
     (second-done (c .before .before .before .before .before .before .before .pre .1) s _ (done .0) (done .1) (c .before .before .before .if1 .left) _ _ (last .0), last .1)
 
 pub +read-node+read-pair-spec : {M : Type 1} → statement M
-+read-node+read-pair-spec = close μ-read-node μ-read-pair (λ t. read-node-lts.spec (of-node t)
-    (read-node-at t)
-    read-node.Post
-    (read-node-read-code-requires t)
-    (read-node-enum-known-read t)
-    (read-node-enum-known-read-2 t)
-    (read-node-returns t)
-    (read-node-read-leaf-requires t)
-    (read-node-returns-2 t)
-    (read-node-read-driven-requires t)
-    (read-node-returns-3 t)
-    (read-node-element-copy-out-n t)
-    (read-node-cast-symbols t)
-    (read-node-sub-symbols t)
-    (read-node-mul-symbols t)
-    (read-node-element-write-symbols t)
-    (read-node-add-words t)
-    (read-node-element-write-words t)
-    (read-node-read-node-requires t)
-    (read-node-returns-4 t)
-    (read-node-read-pair-requires t)
-    (read-node-returns-5 t))
-    λ t. read-pair-lts.spec
-    (read-node-below t, read-node.Post)
-    (read-pair-at t)
-    read-pair.Post
-    (read-pair-read-node-requires t)
-    (read-pair-returns t)
-    (read-pair-read-node-requires-2 t)
-    (read-pair-returns-2 t)
++read-node+read-pair-spec = close μ-read-node μ-read-pair (λ t.
+    read-node-lts.spec (of-node t) (read-node-at t) read-node.Post (read-node-read-code-requires t) (λ c. search needs) (λ c. search needs) (read-node-returns t) (read-node-read-leaf-requires t) (read-node-returns-2 t) (read-node-read-driven-requires t) (read-node-returns-3 t) (omega arith) (read-node-cast-symbols t) (read-node-sub-symbols t) (read-node-mul-symbols t) (read-node-element-write-symbols t) (read-node-add-words t) (omega arith) (read-node-read-node-requires t) (read-node-returns-4 t) (read-node-read-pair-requires t) (read-node-returns-5 t))
+    λ t. read-pair-lts.spec (read-node-below t, read-node.Post) (read-pair-at t) read-pair.Post
+    (read-pair-read-node-requires t) (read-pair-returns t) (read-pair-read-node-requires-2 t) (read-pair-returns-2 t)

@@ -18,26 +18,11 @@ loop-holds : tie.Need-loop-holds Inv-loop μ-loop
 unfolding allMarked
 loop-holds c = (omega arith, refl)
 
-add-if1 : tie.Need-add-if1 Inv-loop μ-loop
-add-if1 c = omega arith
-
-mul-if1 : tie.Need-mul-if1 Inv-loop μ-loop
-mul-if1 c = omega arith
-
-element-copy-out-if1 : tie.Need-element-copy-out-if1 Inv-loop μ-loop
-element-copy-out-if1 c = omega arith
-
 returns : tie.Need-returns Inv-loop μ-loop
 returns c =
     let a = c .before .before .before .before .args in
     let k = c .before .before .before .loop .p in
     sym (lacks-mark k (suc (a .most)) (pinsOf (a .words .now)) (omega arith) (getD-drop 3 (a .words .now) k 0 ∙ c .if1 .taken))
-
-add-p : tie.Need-add-p Inv-loop μ-loop
-add-p c = omega arith
-
-loop-less : tie.Need-loop-less Inv-loop μ-loop
-loop-less c = omega arith
 
 loop-again : tie.Need-loop-again Inv-loop μ-loop
 loop-again c =
@@ -53,17 +38,5 @@ returns-2 c =
     sym (ap (λ (k : ℕ). allMarked k (pinsOf (a .words .now))) (sym all) ∙ i .inv .1)
 
 pub all-marked-spec : {M : Type 1} → statement M
-all-marked-spec =
-    tie.close
-    (tie.spec
-    Inv-loop
-    μ-loop
-    loop-holds
-    add-if1
-    mul-if1
-    element-copy-out-if1
-    returns
-    add-p
-    loop-less
-    loop-again
-    returns-2)
+all-marked-spec = tie.close (tie.spec Inv-loop μ-loop loop-holds (omega arith) (omega arith) (omega arith) returns
+    (omega arith) (omega arith) loop-again returns-2)

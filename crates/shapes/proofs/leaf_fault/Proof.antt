@@ -8,19 +8,10 @@ use borrow.Author.Needs.{needs}
 use Rattle.shapes.proofs.leaf_fault.Statement.{statement}
 use Rattle.shapes.proofs.leaf_fault.Tie as tie
 
-cast-if1 : tie.Need-cast-if1
-cast-if1 c = search needs
-
 returns : tie.Need-returns
 returns c =
     let a = c .before .before .args in
     simp (lt-leb (a .number) (a .rules .most) (c .if1 .taken))
-
-add-if3 : tie.Need-add-if3
-add-if3 c = search needs
-
-mul-if3 : tie.Need-mul-if3
-mul-if3 c = search needs
 
 element-copy-out-if3 : tie.Need-element-copy-out-if3
 element-copy-out-if3 c = omega (arith, c .before .before .before .pre (c .if2 .taken))
@@ -43,6 +34,5 @@ returns-4 c =
     simp (le-leb (a .number) (a .rules .most) (c .before .if1 .left), c .if2 .left)
 
 pub leaf-fault-spec : {M : Type 1} → statement M
-leaf-fault-spec =
-    tie.close
-    (tie.spec cast-if1 returns add-if3 mul-if3 element-copy-out-if3 returns-2 returns-3 returns-4)
+leaf-fault-spec = tie.close (tie.spec (λ c. search needs) returns (λ c. search needs) (λ c. search needs)
+    element-copy-out-if3 returns-2 returns-3 returns-4)

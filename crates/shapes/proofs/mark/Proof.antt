@@ -16,8 +16,5 @@ element-write-words c = omega (arith, c .before .pre (c .if1 .taken))
 returns : tie.Need-returns
 returns c = rw (c .if1 .taken) refl
 
-returns-2 : tie.Need-returns-2
-returns-2 c = search needs
-
 pub mark-spec : {M : Type 1} → statement M
-mark-spec = tie.close (tie.spec add-words mul-words element-write-words returns returns-2)
+mark-spec = tie.close (tie.spec add-words mul-words element-write-words returns (λ c. search needs))

@@ -11,38 +11,20 @@ use borrow.Author.Needs.{needs}
 use Rattle.shapes.proofs.read_code.Statement.{statement}
 use Rattle.shapes.proofs.read_code.Tie as tie
 
-stood-requires : tie.Need-stood-requires
-stood-requires c κs = search needs
-
 field-of-requires : tie.Need-field-of-requires
 field-of-requires c κs =
     let at = c .stood .ensures in
     (c .before .before .pre .0, omega (arith, ap (λ (k : Cursor). k .used) at), omega (arith, ap (λ (k : Cursor). k .byte) at), omega arith)
-
-enum-known-code : tie.Need-enum-known-code
-enum-known-code c = search needs
-
-enum-told : tie.Need-enum-told
-enum-told c = search needs
 
 returns : tie.Need-returns
 returns c s opens =
     let a = c .before .before .before .before .before .args in
     code-truncated s (a .rules) (a .words .now) (c .before .before .field-of .result) (c .before .before .before .before .before .pre .1 .0) (c .before .before .before .before .before .pre .1 .1) (c .before .before .field-of .ensures s opens ∙ ap (λ (k : Cursor). fieldAt s (placeOf k) 2) (c .before .before .before .stood .ensures)) (c .enum-told .given .1)
 
-element-copy-out-code-fault : tie.Need-element-copy-out-code-fault
-element-copy-out-code-fault c = search needs
-
-code-fault-requires : tie.Need-code-fault-requires
-code-fault-requires c κs = search needs
-
 returns-2 : tie.Need-returns-2
 returns-2 c s opens =
     let a = c .before .before .before .before .before .before .before .before .before .args in
     code-faulty s (a .rules) (a .words .now) (c .before .before .before .before .before .before .field-of .result) (c .before .before .before .before .before .before .before .before .before .pre .1 .0) (c .before .before .before .before .before .before .before .before .before .pre .1 .1) (c .before .before .before .before .before .before .field-of .ensures s opens ∙ ap (λ (k : Cursor). fieldAt s (placeOf k) 2) (c .before .before .before .before .before .before .before .stood .ensures)) (c .before .code-fault .result) _ _ (c .before .before .before .before .code .given .1) (c .if1 .taken) (c .before .code-fault .ensures)
-
-stand-requires : tie.Need-stand-requires
-stand-requires c κs = search needs
 
 returns-3 : tie.Need-returns-3
 returns-3 c s opens =
@@ -51,16 +33,5 @@ returns-3 c s opens =
     (code-sound s (a .rules) (a .words .now) (c .before .before .before .before .before .before .before .before .field-of .result) (c .before .before .before .before .before .before .before .before .before .before .before .pre .1 .0) (c .before .before .before .before .before .before .before .before .before .before .before .pre .1 .1) (c .before .before .before .before .before .before .before .before .field-of .ensures s opens ∙ ap (λ (k : Cursor). fieldAt s (placeOf k) 2) (c .before .before .before .before .before .before .before .before .before .stood .ensures)) (c .before .before .before .code-fault .result) _ _ (c .before .before .before .before .before .before .code .given .1) (c .before .before .if1 .left) (c .before .before .before .code-fault .ensures))
 
 pub read-code-spec : {M : Type 1} → statement M
-read-code-spec =
-    tie.close
-    (tie.spec
-    stood-requires
-    field-of-requires
-    enum-known-code
-    enum-told
-    returns
-    element-copy-out-code-fault
-    code-fault-requires
-    returns-2
-    stand-requires
-    returns-3)
+read-code-spec = tie.close (tie.spec (λ c κs. search needs) field-of-requires (λ c. search needs) (λ c. search needs)
+    returns (λ c. search needs) (λ c κs. search needs) returns-2 (λ c κs. search needs) returns-3)

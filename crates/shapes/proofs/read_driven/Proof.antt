@@ -13,19 +13,10 @@ use borrow.Author.Needs.{needs}
 use Rattle.shapes.proofs.read_driven.Statement.{statement}
 use Rattle.shapes.proofs.read_driven.Tie as tie
 
-element-copy-out-n : tie.Need-element-copy-out-n
-element-copy-out-n c = search needs
-
-read-leaf-requires : tie.Need-read-leaf-requires
-read-leaf-requires c κs = search needs
-
 returns : tie.Need-returns
 returns c s opens =
     let done = c .before .read-leaf .ensures s opens in
     number-refused (c .before .before .before .before .before .args .words .now) (done .0) (done .1) (omega (arith, c .if1 .taken))
-
-stood-requires : tie.Need-stood-requires
-stood-requires c κs = search needs
 
 field-of-requires : tie.Need-field-of-requires
 field-of-requires c κs =
@@ -37,12 +28,6 @@ field-of-requires c κs =
     let at = c .stood .ensures in
     let inside = drive-inside (a .words .now) (done .0) (done .1) (c .before .before .if1 .left) (pre .near) in
     (pre .opened, omega (arith, ap (λ (k : Cursor). k .used) at, inside), omega (arith, ap (λ (k : Cursor). k .byte) at, inside), omega arith)
-
-enum-known-drive : tie.Need-enum-known-drive
-enum-known-drive c = search needs
-
-enum-told : tie.Need-enum-told
-enum-told c = search needs
 
 returns-2 : tie.Need-returns-2
 returns-2 c s opens =
@@ -67,12 +52,6 @@ cast-symbols c = omega (arith, small c)
 mul-symbols : tie.Need-mul-symbols
 mul-symbols c = omega (arith, small c)
 
-mul-symbols-2 : tie.Need-mul-symbols-2
-mul-symbols-2 c = search needs
-
-element-copy-out-symbols : tie.Need-element-copy-out-symbols
-element-copy-out-symbols c = search needs
-
 add-symbols : tie.Need-add-symbols
 add-symbols c =
     let a = c .before .before .before .before .before .before .before .before .before .before .before .before .args in
@@ -81,15 +60,6 @@ add-symbols c =
     let opens = pre .opened .opens in
     let done = c .before .before .before .before .before .before .before .before .read-leaf .ensures s opens in
     omega (arith, small (c .before), pre .rules-are .most, driven-number (a .words .now) (done .0) (done .1) (c .before .before .before .before .before .before .before .if1 .left) (leaf-in pre), driven-most (a .words .now) (done .0) (done .1) (c .before .before .before .before .before .before .before .if1 .left) (leaf-in pre))
-
-mul-symbols-3 : tie.Need-mul-symbols-3
-mul-symbols-3 c = search needs
-
-element-write-symbols : tie.Need-element-write-symbols
-element-write-symbols c = search needs
-
-stand-requires : tie.Need-stand-requires
-stand-requires c κs = search needs
 
 returns-3 : tie.Need-returns-3
 returns-3 c s opens =
@@ -103,23 +73,6 @@ returns-3 c s opens =
     subst Done (sym (c .stand .ensures)) (drive-sound (a .words .now) (done .0) (done .1) (c .before .before .before .before .before .before .before .before .before .if1 .left) (leaf-in pre) (c .before .before .before .before .before .before .field-of .result) (c .before .before .before .before .before .before .field-of .ensures s opens ∙ ap (λ (k : Cursor). fieldAt s (placeOf k) 8) (c .before .before .before .before .before .before .before .stood .ensures)) _ _ (c .before .before .before .before .drive .given .1) (c .before .before .before .before .before .before .before .before .before .before .before .before .before .before .pre .1))
 
 pub read-driven-spec : {M : Type 1} → statement M
-read-driven-spec =
-    tie.close
-    (tie.spec
-    element-copy-out-n
-    read-leaf-requires
-    returns
-    stood-requires
-    field-of-requires
-    enum-known-drive
-    enum-told
-    returns-2
-    cast-symbols
-    mul-symbols
-    mul-symbols-2
-    element-copy-out-symbols
-    add-symbols
-    mul-symbols-3
-    element-write-symbols
-    stand-requires
-    returns-3)
+read-driven-spec = tie.close (tie.spec (λ c. search needs) (λ c κs. search needs) returns (λ c κs. search needs)
+    field-of-requires (λ c. search needs) (λ c. search needs) returns-2 cast-symbols mul-symbols (λ c. search needs)
+    (λ c. search needs) add-symbols (λ c. search needs) (λ c. search needs) (λ c κs. search needs) returns-3)

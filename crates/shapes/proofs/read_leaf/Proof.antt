@@ -12,9 +12,6 @@ use borrow.Author.Needs.{needs}
 use Rattle.shapes.proofs.read_leaf.Statement.{statement}
 use Rattle.shapes.proofs.read_leaf.Tie as tie
 
-stood-requires : tie.Need-stood-requires
-stood-requires c κs = search needs
-
 field-of-requires : tie.Need-field-of-requires
 unfolding placeOf
 field-of-requires c κs =
@@ -22,20 +19,11 @@ field-of-requires c κs =
     let pre = c .before .before .pre in
     (pre .opened, omega (arith, ap (λ (k : Cursor). k .used) at, pre .used), omega (arith, ap (λ (k : Cursor). k .byte) at, pre .near), omega (arith, pre .rules-are .width))
 
-enum-known-number : tie.Need-enum-known-number
-enum-known-number c = search needs
-
-enum-told : tie.Need-enum-told
-enum-told c = search needs
-
 returns : tie.Need-returns
 returns c s opens =
     let a = c .before .before .before .before .before .args in
     let pre = c .before .before .before .before .before .pre in
     leaf-truncated s (a .rules) (a .words .now) (a .symbols .now) (c .before .before .field-of .result) (pre .long) (pre .symbols-long) (c .before .before .field-of .ensures s opens ∙ ap (λ (k : Cursor). fieldAt s (placeOf k) (a .rules .width)) (c .before .before .before .stood .ensures)) (c .enum-told .given .1)
-
-leaf-fault-requires : tie.Need-leaf-fault-requires
-leaf-fault-requires c κs = search needs
 
 returns-2 : tie.Need-returns-2
 returns-2 c s opens =
@@ -43,9 +31,6 @@ returns-2 c s opens =
     let pre = c .before .before .before .before .before .before .before .before .before .pre in
     leaf-faulty s (a .rules) (a .words .now) (a .symbols .now) (c .before .before .before .before .before .before .field-of .result) (pre .long) (pre .symbols-long) (c .before .before .before .before .before .before .field-of .ensures s opens ∙ ap (λ (k : Cursor). fieldAt s (placeOf k) (a .rules .width)) (c .before .before .before .before .before .before .before .stood .ensures)) (c .before .leaf-fault .result) _ _ (c .before .before .before .before .number .given .1) (c .if1 .taken)
     (c .before .leaf-fault .ensures ∙ mark-leaf (a .rules) (pinsOf (a .words .now)) (take (nextOf (a .words .now)) (a .symbols .now)) (c .before .before .before .before .number .given .0 .0) (pre .met))
-
-element-copy-out-n : tie.Need-element-copy-out-n
-element-copy-out-n c = search needs
 
 -- the number is in range
 small : (c : tie.After-n) → c .before .before .before .before .before .number .given .0 .0 ≤ c .before .before .before .before .before .before .before .before .before .before .args .rules .most
@@ -60,21 +45,6 @@ cast-symbols c = omega (arith, small c, c .before .before .before .before .befor
 add-symbols : tie.Need-add-symbols
 add-symbols c = omega (arith, small c, c .before .before .before .before .before .before .before .before .before .before .pre .rules-are .most)
 
-mul-symbols : tie.Need-mul-symbols
-mul-symbols c = search needs
-
-element-write-symbols : tie.Need-element-write-symbols
-element-write-symbols c = search needs
-
-stand-requires : tie.Need-stand-requires
-stand-requires c κs = search needs
-
-add-words : tie.Need-add-words
-add-words c = search needs
-
-element-write-words : tie.Need-element-write-words
-element-write-words c = search needs
-
 mark-requires : tie.Need-mark-requires
 mark-requires c κs p = omega (arith, small (c .before .before .before), c .before .before .before .before .before .before .before .before .before .before .before .before .before .pre .rules-are .pins p)
 
@@ -87,23 +57,6 @@ returns-3 c s opens =
     (subst (λ (w : List ℕ). Marked (a .rules) (set w 2 (nextOf (a .words .now) + 1)) (c .before .before .before .before .before .before .before .before .before .number .given .0 .0) (c .mark .last .1 .0)) (c .before .before .stand .ensures) (c .mark .ensures))
 
 pub read-leaf-spec : {M : Type 1} → statement M
-read-leaf-spec =
-    tie.close
-    (tie.spec
-    stood-requires
-    field-of-requires
-    enum-known-number
-    enum-told
-    returns
-    leaf-fault-requires
-    returns-2
-    element-copy-out-n
-    cast-symbols
-    add-symbols
-    mul-symbols
-    element-write-symbols
-    stand-requires
-    add-words
-    element-write-words
-    mark-requires
-    returns-3)
+read-leaf-spec = tie.close (tie.spec (λ c κs. search needs) field-of-requires (λ c. search needs) (λ c. search needs)
+    returns (λ c κs. search needs) returns-2 (λ c. search needs) cast-symbols add-symbols (λ c. search needs)
+    (λ c. search needs) (λ c κs. search needs) (λ c. search needs) (λ c. search needs) mark-requires returns-3)

@@ -13,15 +13,6 @@ use borrow.Author.Needs.{needs}
 use Rattle.shapes.proofs.read_shape.Statement.{statement}
 use Rattle.shapes.proofs.read_shape.Tie as tie
 
-enum-known-scan : tie.Need-enum-known-scan
-enum-known-scan c = search needs
-
-enum-told : tie.Need-enum-told
-enum-told c = search needs
-
-nothing-requires : tie.Need-nothing-requires
-nothing-requires c κs = search needs
-
 returns : tie.Need-returns
 returns c =
     let a = c .before .before .before .before .args in
@@ -35,9 +26,6 @@ place-requires : tie.Need-place-requires
 unfolding placeOf
 place-requires c κs = omega (arith, stands (c .before .on .ensures), ap place (c .before .before .before .scan .given .1))
 
-nothing-requires-2 : tie.Need-nothing-requires-2
-nothing-requires-2 c κs = search needs
-
 returns-2 : tie.Need-returns-2
 unfolding placeOf
 returns-2 c =
@@ -47,22 +35,10 @@ returns-2 c =
     subst (ShapeIs (a .s .now) (a .rules) (a .scan) (a .symbols .now) (a .symbols .now)) (sym (c .nothing2 .ensures))
     (shape-ended (a .s .now) (a .rules) (a .symbols .now) (c .before .before .before .before .before .before .before .before .pre .1) (a .scan) _ (at .result) (c .before .before .before .before .before .scan .given .1) (at .ensures ∙ omega (arith, stands (on .ensures))) (omega (arith, stands (on .ensures), c .before .before .if1 .taken)))
 
-opening-requires : tie.Need-opening-requires
-opening-requires c κs = search needs
-
-array-write-words : tie.Need-array-write-words
-array-write-words c = search needs
-
-sub-read-node : tie.Need-sub-read-node
-sub-read-node c = search needs
-
 read-node-requires : tie.Need-read-node-requires
 read-node-requires c κs =
     let a = c .before .before .before .before .before .before .before .before .before .before .args in
     start-room (c .before .before .before .opening .result) _ _ (c .before .before .before .before .before .on .result .used) (a .rules) (a .symbols .now) (c .before .before .before .opening .ensures) (c .before .before .before .before .before .before .before .before .before .before .pre .0) (c .before .before .before .before .before .before .before .before .before .before .pre .1) (stands (c .before .before .before .before .before .on .ensures) .0)
-
-array-read-t12 : tie.Need-array-read-t12
-array-read-t12 c = search needs
 
 -- where the reader ended
 ends : (c : tie.After-read-node) → let w = c .read-node .last .1 .1 .1 .1 .1 .1 .0 in 8 * (c .before .before .before .before .before .before .on .result .byte + getD w 0 0) + getD w 1 0 ≤ place (c .before .before .before .before .before .before .before .before .before .before .before .args .scan) + nodeBits * c .before .before .before .before .before .before .before .before .before .before .before .args .rules .nodes
@@ -76,18 +52,9 @@ ends c =
 add-t21 : tie.Need-add-t21
 add-t21 c = omega (arith, ends c)
 
-array-read-t28 : tie.Need-array-read-t28
-array-read-t28 c = search needs
-
 scan-of-requires : tie.Need-scan-of-requires
 unfolding placeOf
 scan-of-requires c κs = omega (arith, ends c)
-
-array-read-t12-2 : tie.Need-array-read-t12-2
-array-read-t12-2 c = search needs
-
-has-pins-requires : tie.Need-has-pins-requires
-has-pins-requires c κs = search needs
 
 returns-3 : tie.Need-returns-3
 returns-3 c =
@@ -98,25 +65,7 @@ returns-3 c =
     (c .before .before .scan-of .result) (c .has-pins .result) (c .before .before .scan-of .ensures) (c .has-pins .ensures)
 
 pub read-shape-spec : {M : Type 1} → statement M
-read-shape-spec =
-    tie.close
-    (tie.spec
-    enum-known-scan
-    enum-told
-    nothing-requires
-    returns
-    on-requires
-    place-requires
-    nothing-requires-2
-    returns-2
-    opening-requires
-    array-write-words
-    sub-read-node
-    read-node-requires
-    array-read-t12
-    add-t21
-    array-read-t28
-    scan-of-requires
-    array-read-t12-2
-    has-pins-requires
-    returns-3)
+read-shape-spec = tie.close (tie.spec (λ c. search needs) (λ c. search needs) (λ c κs. search needs) returns
+    on-requires place-requires (λ c κs. search needs) returns-2 (λ c κs. search needs) (λ c. search needs)
+    (λ c. search needs) read-node-requires (λ c. search needs) add-t21 (λ c. search needs) scan-of-requires
+    (λ c. search needs) (λ c κs. search needs) returns-3)

@@ -13,20 +13,9 @@ abbrev μ-loop : tie.MeasureT-loop
 loop-holds : tie.Need-loop-holds Inv-loop μ-loop
 loop-holds c = (omega arith, omega arith)
 
-write-point-requires : tie.Need-write-point-requires Inv-loop μ-loop
-write-point-requires c κs = omega arith
-
-add-k : tie.Need-add-k Inv-loop μ-loop
-add-k c = omega arith
-
-loop-less : tie.Need-loop-less Inv-loop μ-loop
-loop-less c = omega arith
-
 loop-again : tie.Need-loop-again Inv-loop μ-loop
 loop-again c = (omega arith, omega arith)
 
-returns : tie.Need-returns Inv-loop μ-loop
-returns c = tt
-
 pub write-points-spec : {M : Type 1} → statement M
-write-points-spec = tie.close (tie.spec Inv-loop μ-loop loop-holds write-point-requires add-k loop-less loop-again returns)
+write-points-spec = tie.close (tie.spec Inv-loop μ-loop loop-holds (omega arith) (omega arith) (omega arith)
+    loop-again (λ c. tt))

@@ -36,9 +36,5 @@ returns c = below c .result ∙ ap natAbs (back (c .before))
 cast-result-3 : tie.Need-cast-result-3
 cast-result-3 c = unsigned-casts (read (c .before)) (fits (c .before)) (c .if1 .left)
 
-returns-2 : tie.Need-returns-2
-returns-2 c = search needs
-
 pub magnitude-spec : {M : Type 1} → statement M
-magnitude-spec =
-    tie.close (tie.spec cast-result sub-result cast-result-2 returns cast-result-3 returns-2)
+magnitude-spec = tie.close (tie.spec cast-result sub-result cast-result-2 returns cast-result-3 (λ c. search needs))

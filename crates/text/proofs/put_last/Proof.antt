@@ -11,14 +11,8 @@ put-spaced-requires c κs = let a = c .before .before .args in omega (arith, len
 put-spaced-requires-2 : tie.Need-put-spaced-requires-2
 put-spaced-requires-2 c κs = let a = c .before .before .before .before .before .before .args in omega (arith, length-last (decimal (a .m)) (decimal (a .n)))
 
-slice-aggregate-put-word : tie.Need-slice-aggregate-put-word
-slice-aggregate-put-word c = search needs
-
 put-word-requires : tie.Need-put-word-requires
 put-word-requires c κs = let a = c .before .before .before .before .before .before .before .before .before .before .before .args in omega (arith, length-last (decimal (a .m)) (decimal (a .n)))
-
-same-length : tie.Need-same-length
-same-length c = search needs
 
 returns : tie.Need-returns
 unfolding spaced
@@ -28,12 +22,5 @@ returns c =
     appended-three (omega arith) (one .ensures) (two .ensures) (c .before .before .put-word .ensures)
 
 pub put-last-spec : {M : Type 1} → statement M
-put-last-spec =
-    tie.close
-    (tie.spec
-    put-spaced-requires
-    put-spaced-requires-2
-    slice-aggregate-put-word
-    put-word-requires
-    same-length
-    returns)
+put-last-spec = tie.close (tie.spec put-spaced-requires put-spaced-requires-2 (λ c. search needs) put-word-requires
+    (λ c. search needs) returns)

@@ -27,20 +27,11 @@ negative c = let start = c .before .before .before in ap (λ (k : ℕ). minus �
 other : (c : tie.Else1) → decimal (c .before .magnitude .result) ≡ signed (c .before .before .before .args .n)
 other c = let start = c .before .before .before in ap decimal (c .before .magnitude .ensures) ∙ sym (signed-other (read start) (c .if1 .left)) ∙ back start
 
-magnitude-requires : tie.Need-magnitude-requires
-magnitude-requires c κs = search needs
-
-slice-aggregate-put-word : tie.Need-slice-aggregate-put-word
-slice-aggregate-put-word c = search needs
-
 put-word-requires : tie.Need-put-word-requires
 put-word-requires c κs = omega (arith, ap length (negative (c .before .before)))
 
 put-number-requires : tie.Need-put-number-requires
 put-number-requires c κs = omega (arith, ap length (negative (c .before .before .before .before .before .before)))
-
-same-length : tie.Need-same-length
-same-length c = search needs
 
 returns : tie.Need-returns
 returns c =
@@ -53,9 +44,6 @@ returns c =
 put-number-requires-2 : tie.Need-put-number-requires-2
 put-number-requires-2 c κs = omega (arith, ap length (other (c .before)))
 
-same-length-2 : tie.Need-same-length-2
-same-length-2 c = search needs
-
 returns-2 : tie.Need-returns-2
 returns-2 c =
     let put = c .before .before .put-number2 in
@@ -63,15 +51,5 @@ returns-2 c =
     subst (λ (w : List ℕ). Appended w (start .args .text .now) (start .args .at) (put .last .0) (put .result)) (other (c .before .before .before .before)) (put .ensures)
 
 pub put-signed-spec : {M : Type 1} → statement M
-put-signed-spec =
-    tie.close
-    (tie.spec
-    magnitude-requires
-    slice-aggregate-put-word
-    put-word-requires
-    put-number-requires
-    same-length
-    returns
-    put-number-requires-2
-    same-length-2
-    returns-2)
+put-signed-spec = tie.close (tie.spec (λ c κs. search needs) (λ c. search needs) put-word-requires put-number-requires
+    (λ c. search needs) returns put-number-requires-2 (λ c. search needs) returns-2)

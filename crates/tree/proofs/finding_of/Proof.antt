@@ -8,23 +8,11 @@ use Prim.Native.Nat.{ℕ}
 use Rattle.tree.proofs.finding_of.Statement.{statement}
 use Rattle.tree.proofs.finding_of.Tie as tie
 
-enum-told : tie.Need-enum-told
-enum-told c = search needs
-
-enum-known-scan : tie.Need-enum-known-scan
-enum-known-scan c = search needs
-
-tree-number-requires : tie.Need-tree-number-requires
-tree-number-requires c κs = search needs
-
-returns : tie.Need-returns
-returns c = search needs
-
 returns-2 : tie.Need-returns-2
 returns-2 c =
     let told = c .before .before .scan .given in
     ap (λ (n : ℕ). Finding.Refused (record { item = 0; number = n; place = told .0 .1 .0 })) (c .tree-number .ensures .0) ∙ sym (ap (findingOf treeNumber) (told .1))
 
 pub finding-of-spec : {M : Type 1} → statement M
-finding-of-spec =
-    tie.close (tie.spec enum-told enum-known-scan tree-number-requires returns returns-2)
+finding-of-spec = tie.close (tie.spec (λ c. search needs) (λ c. search needs) (λ c κs. search needs)
+    (λ c. search needs) returns-2)

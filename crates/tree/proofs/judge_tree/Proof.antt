@@ -6,18 +6,6 @@ use Rattle.tree.proofs.Whole.{tree-judged}
 use Rattle.tree.proofs.judge_tree.Statement.{statement}
 use Rattle.tree.proofs.judge_tree.Tie as tie
 
-read-nodes-requires : tie.Need-read-nodes-requires
-read-nodes-requires c κs = search needs
-
-finding-of-requires : tie.Need-finding-of-requires
-finding-of-requires c κs = search needs
-
-enum-told : tie.Need-enum-told
-enum-told c = search needs
-
-enum-known-refusal : tie.Need-enum-known-refusal
-enum-known-refusal c = search needs
-
 returns : tie.Need-returns
 unfolding ofTreeJudged
 returns c =
@@ -32,6 +20,5 @@ returns-2 c =
     tree-judged (c .before .before .before .before .before .before .before .args .s .now) (r .last .1 .1 .0) (r .result) (r .ensures) (Finding.Refused (told .0 .0)) (sym (told .1) ∙ c .before .before .before .finding-of .ensures)
 
 pub judge-tree-spec : {M : Type 1} → statement M
-judge-tree-spec =
-    tie.close
-    (tie.spec read-nodes-requires finding-of-requires enum-told enum-known-refusal returns returns-2)
+judge-tree-spec = tie.close (tie.spec (λ c κs. search needs) (λ c κs. search needs) (λ c. search needs)
+    (λ c. search needs) returns returns-2)

@@ -7,25 +7,10 @@ use borrow.Author.Needs.{needs}
 use Rattle.tree.proofs.read_nodes.Statement.{statement}
 use Rattle.tree.proofs.read_nodes.Tie as tie
 
-begin-requires : tie.Need-begin-requires
-begin-requires c κs = search needs
-
-ranged-requires : tie.Need-ranged-requires
-ranged-requires c κs = search needs
-
-ranged-requires-2 : tie.Need-ranged-requires-2
-ranged-requires-2 c κs = search needs
-
 read-shape-requires : tie.Need-read-shape-requires
 read-shape-requires c κs =
     let zeros = c .before .before .before .before .before .pre in
     (record { width = omega arith; most = omega arith; nodes = omega arith; pins = λ p. absurd (false≢true p) }, ap length zeros, omega (arith, c .before .before .before .begin .ensures .1, c .before .before .ranged .ensures .near, c .before .ranged2 .ensures .near))
-
-tail-requires : tie.Need-tail-requires
-tail-requires c κs = search needs
-
-cast-t14 : tie.Need-cast-t14
-cast-t14 c = search needs
 
 returns : tie.Need-returns
 returns c =
@@ -34,13 +19,5 @@ returns c =
     (c .before .before .before .before .before .before .before .before .pre) (c .before .before .before .before .before .before .begin .ensures .0) (c .before .before .before .before .before .ranged .ensures) (c .before .before .before .before .ranged2 .ensures) (read .ensures) (c .before .tail .ensures)
 
 pub read-nodes-spec : {M : Type 1} → statement M
-read-nodes-spec =
-    tie.close
-    (tie.spec
-    begin-requires
-    ranged-requires
-    ranged-requires-2
-    read-shape-requires
-    tail-requires
-    cast-t14
-    returns)
+read-nodes-spec = tie.close (tie.spec (λ c κs. search needs) (λ c κs. search needs) (λ c κs. search needs)
+    read-shape-requires (λ c κs. search needs) (λ c. search needs) returns)

@@ -3,12 +3,6 @@ use borrow.Author.Needs.{needs}
 use Rattle.tree.proofs.read_tree_to.Statement.{statement}
 use Rattle.tree.proofs.read_tree_to.Tie as tie
 
-read-nodes-requires : tie.Need-read-nodes-requires
-read-nodes-requires c κs = search needs
-
-slice-aggregate-sizes-of : tie.Need-slice-aggregate-sizes-of
-slice-aggregate-sizes-of c = search needs
-
 sizes-of-requires : tie.Need-sizes-of-requires
 sizes-of-requires c κs =
     let read = c .before .read-nodes in
@@ -20,5 +14,4 @@ returns c =
     tree-is (c .before .before .before .before .before .args .last) (c .before .before .before .before .before .args .s .now) (read .last .1 .1 .0) (c .sizes-of .result) (read .result) (read .ensures) (c .sizes-of .ensures)
 
 pub read-tree-to-spec : {M : Type 1} → statement M
-read-tree-to-spec =
-    tie.close (tie.spec read-nodes-requires slice-aggregate-sizes-of sizes-of-requires returns)
+read-tree-to-spec = tie.close (tie.spec (λ c κs. search needs) (λ c. search needs) sizes-of-requires returns)

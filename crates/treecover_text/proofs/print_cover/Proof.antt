@@ -35,15 +35,9 @@ returns c =
     let input = a .input .now in
     promised (length (a .text .now)) input (sym (text-none longestText (length (a .text .now)) (spoiled input 1 false) (answer input) (omega arith))) (record { bytes = refl; output = refl })
 
-split-input-requires : tie.Need-split-input-requires
-split-input-requires c κs = search needs
-
 put-spoiled-requires : tie.Need-put-spoiled-requires
 unfolding spoiledLine line spaced
 put-spoiled-requires c κs = omega arith
-
-same-length : tie.Need-same-length
-same-length c = search needs
 
 returns-2 : tie.Need-returns-2
 unfolding printedWithin printed
@@ -54,12 +48,6 @@ returns-2 c =
     promised (length (a .text .now)) input
     (sym (text-spoiled longestText (length (a .text .now)) (spoiled input 1 false) (answer input) (omega arith) (sym (split .before .split-input .ensures .spoiled-is) ∙ split .if2 .taken)))
     (at-front (c .before .before .put-spoiled .ensures))
-
-array-read-library : tie.Need-array-read-library
-array-read-library c = search needs
-
-array-read-tree : tie.Need-array-read-tree
-array-read-tree c = search needs
 
 -- The library begins before the tree, and that in the input.
 module _ (c : tie.Else2) where
@@ -87,15 +75,6 @@ sub-put-map-2 c = omega (arith, inside (c .before .before .before))
 part-put-map-start-2 : tie.Need-part-put-map-start-2
 part-put-map-start-2 c = omega (arith, inside (c .before .before .before))
 
-part-put-map-end-2 : tie.Need-part-put-map-end-2
-part-put-map-end-2 c = search needs
-
-put-map-requires : tie.Need-put-map-requires
-put-map-requires c κs = search needs
-
-same-length-2 : tie.Need-same-length-2
-same-length-2 c = search needs
-
 returns-3 : tie.Need-returns-3
 unfolding printedWithin printed
 returns-3 c =
@@ -108,22 +87,6 @@ returns-3 c =
     (at-front (c .before .before .put-map .ensures))
 
 pub print-cover-spec : {M : Type 1} → statement M
-print-cover-spec =
-    tie.close
-    (tie.spec
-    returns
-    split-input-requires
-    put-spoiled-requires
-    same-length
-    returns-2
-    array-read-library
-    array-read-tree
-    sub-put-map
-    part-put-map-start
-    part-put-map-end
-    sub-put-map-2
-    part-put-map-start-2
-    part-put-map-end-2
-    put-map-requires
-    same-length-2
-    returns-3)
+print-cover-spec = tie.close (tie.spec returns (λ c κs. search needs) put-spoiled-requires (λ c. search needs)
+    returns-2 (λ c. search needs) (λ c. search needs) sub-put-map part-put-map-start part-put-map-end sub-put-map-2
+    part-put-map-start-2 (λ c. search needs) (λ c κs. search needs) (λ c. search needs) returns-3)

@@ -34,9 +34,6 @@ put-matches-requires c κs =
     let start = c .before .before .before .before .before .before .before in
     (start .pre .0, start .pre .1 .0, omega (arith, c .before .before .before .put-head .ensures .place, fits start))
 
-same-length : tie.Need-same-length
-same-length c = search needs
-
 returns : tie.Need-returns
 returns c =
     let start = c .before .before .before .before .before .before .before .before .before .before in
@@ -44,4 +41,4 @@ returns c =
     subst (λ (w : List ℕ). Appended w (start .args .text .now) 0 (put .last .0) (put .result)) (text-is start) (appended-both (omega arith) (c .before .before .before .before .before .before .put-head .ensures) (put .ensures))
 
 pub put-cover-spec : {M : Type 1} → statement M
-put-cover-spec = tie.close (tie.spec put-head-requires put-matches-requires same-length returns)
+put-cover-spec = tie.close (tie.spec put-head-requires put-matches-requires (λ c. search needs) returns)

@@ -7,9 +7,6 @@ use Rattle.treecover_text.proofs.Laws.{cover-line-length}
 use Rattle.treecover_text.proofs.put_head.Statement.{statement}
 use Rattle.treecover_text.proofs.put_head.Tie as tie
 
-slice-aggregate-put-word : tie.Need-slice-aggregate-put-word
-slice-aggregate-put-word c = search needs
-
 put-word-requires : tie.Need-put-word-requires
 put-word-requires c κs = let a = c .before .before .before .args in omega (arith, cover-line-length (a .area) (a .arrival) (a .count))
 
@@ -19,20 +16,10 @@ put-spaced-requires c κs = let a = c .before .before .before .before .before .b
 put-last-requires : tie.Need-put-last-requires
 put-last-requires c κs = let a = c .before .before .before .before .before .before .before .before .before .before .before .args in omega (arith, cover-line-length (a .area) (a .arrival) (a .count))
 
-same-length : tie.Need-same-length
-same-length c = search needs
-
 returns : tie.Need-returns
 unfolding coverLine line spaced
 returns c = appended-three (omega arith) (c .before .before .before .before .before .before .before .before .before .before .put-word .ensures) (c .before .before .before .before .before .before .put-spaced .ensures) (c .before .before .put-last .ensures)
 
 pub put-head-spec : {M : Type 1} → statement M
-put-head-spec =
-    tie.close
-    (tie.spec
-    slice-aggregate-put-word
-    put-word-requires
-    put-spaced-requires
-    put-last-requires
-    same-length
-    returns)
+put-head-spec = tie.close (tie.spec (λ c. search needs) put-word-requires put-spaced-requires put-last-requires
+    (λ c. search needs) returns)

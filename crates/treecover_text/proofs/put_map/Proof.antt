@@ -18,25 +18,10 @@ sheet-says : (c : tie.After-reply2) → let a = c .before .before .before .befor
 unfolding ofReply
 sheet-says c = let a = c .before .before .before .before .before .before .before .before .before .before .args in replied (a .library .now) (a .tree .now) (c .before .before .before .before .map .ensures .operated) (c .reply2 .given .1)
 
-slice-aggregate-map : tie.Need-slice-aggregate-map
-slice-aggregate-map c = search needs
-
-slice-aggregate-map-2 : tie.Need-slice-aggregate-map-2
-slice-aggregate-map-2 c = search needs
-
-map-requires : tie.Need-map-requires
-map-requires c κs = search needs
-
-enum-known-reply : tie.Need-enum-known-reply
-enum-known-reply c = search needs
-
 put-refusal-requires : tie.Need-put-refusal-requires
 put-refusal-requires c κs =
     let told = c .before .before .reply .given in
     omega (arith, refusal-short (told .0 .0 .number) (told .0 .0 .place) (omega arith) (omega arith))
-
-enum-known-reply-2 : tie.Need-enum-known-reply-2
-enum-known-reply-2 c = search needs
 
 array-share-prefix-output : tie.Need-array-share-prefix-output
 array-share-prefix-output c = omega (arith, sheet-says (c .before .before) .0)
@@ -47,9 +32,6 @@ slice-aggregate-put-sheet c = sym (length-take-le (c .before .before .before .re
 put-sheet-requires : tie.Need-put-sheet-requires
 put-sheet-requires c κs = let says = sheet-says (c .before .before .before) .1 in (says .live, (says .rows, omega (arith, says .short, ap length (says .text-is))))
 
-same-length : tie.Need-same-length
-same-length c = search needs
-
 returns : tie.Need-returns
 unfolding ofReply
 returns c =
@@ -57,28 +39,12 @@ returns c =
     let put = c .before .before .put-refusal in
     subst (λ (w : List ℕ). Appended w (a .text .now) 0 (put .last .0) (put .result)) (sym (replied (a .library .now) (a .tree .now) (c .before .before .before .before .before .before .before .before .before .map .ensures .operated) (c .before .before .before .before .before .reply .given .1))) (put .ensures)
 
-same-length-2 : tie.Need-same-length-2
-same-length-2 c = search needs
-
 returns-2 : tie.Need-returns-2
 returns-2 c =
     let put = c .before .before .put-sheet in
     subst (λ (w : List ℕ). Appended w (c .before .before .before .before .before .before .before .before .before .before .before .before .before .before .before .before .args .text .now) 0 (put .last .0) (put .result)) (sheet-says (c .before .before .before .before .before .before) .1 .text-is) (put .ensures)
 
 pub put-map-spec : {M : Type 1} → statement M
-put-map-spec =
-    tie.close
-    (tie.spec
-    slice-aggregate-map
-    slice-aggregate-map-2
-    map-requires
-    enum-known-reply
-    put-refusal-requires
-    enum-known-reply-2
-    array-share-prefix-output
-    slice-aggregate-put-sheet
-    put-sheet-requires
-    same-length
-    returns
-    same-length-2
-    returns-2)
+put-map-spec = tie.close (tie.spec (λ c. search needs) (λ c. search needs) (λ c κs. search needs) (λ c. search needs)
+    put-refusal-requires (λ c. search needs) array-share-prefix-output slice-aggregate-put-sheet put-sheet-requires
+    (λ c. search needs) returns (λ c. search needs) returns-2)

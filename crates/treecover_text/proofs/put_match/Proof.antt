@@ -11,18 +11,6 @@ use Rattle.treecover_text.proofs.Laws.{row-line, row-line-length}
 use Rattle.treecover_text.proofs.put_match.Statement.{statement}
 use Rattle.treecover_text.proofs.put_match.Tie as tie
 
-mul-cell : tie.Need-mul-cell
-mul-cell c = search needs
-
-add-cell : tie.Need-add-cell
-add-cell c = search needs
-
-mul-cell-2 : tie.Need-mul-cell-2
-mul-cell-2 c = search needs
-
-shared-slice-read-cell : tie.Need-shared-slice-read-cell
-shared-slice-read-cell c = search needs
-
 put-number-requires : tie.Need-put-number-requires
 put-number-requires c κs = let a = c .before .before .before .before .args in omega (arith, row-line-length (a .rows .now) (a .node) (a .pattern) (a .crossing))
 
@@ -34,9 +22,6 @@ put-spaced-requires c κs = let a = c .before .before .before .before .before .b
 
 put-last-requires : tie.Need-put-last-requires
 put-last-requires c κs = let a = c .before .before .before .before .before .before .before .before .before .before .before .before .args in omega (arith, row-line-length (a .rows .now) (a .node) (a .pattern) (a .crossing))
-
-same-length : tie.Need-same-length
-same-length c = search needs
 
 returns : tie.Need-returns
 unfolding spaced
@@ -50,16 +35,5 @@ returns c =
     (appended-three (omega arith) (one .put-number .ensures) (two .put-spaced .ensures) (put .ensures))
 
 pub put-match-spec : {M : Type 1} → statement M
-put-match-spec =
-    tie.close
-    (tie.spec
-    mul-cell
-    add-cell
-    mul-cell-2
-    shared-slice-read-cell
-    put-number-requires
-    cast-put-spaced
-    put-spaced-requires
-    put-last-requires
-    same-length
-    returns)
+put-match-spec = tie.close (tie.spec (λ c. search needs) (λ c. search needs) (λ c. search needs) (λ c. search needs)
+    put-number-requires cast-put-spaced put-spaced-requires put-last-requires (λ c. search needs) returns)

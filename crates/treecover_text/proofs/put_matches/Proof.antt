@@ -30,15 +30,6 @@ room c =
 loop-holds : tie.Need-loop-holds Inv-loop μ-loop
 loop-holds c = let a = c .before .before .before .before .before .args in (omega arith, refl, no-lines (a .rows .now) (a .text .now) (a .from))
 
-array-read-put-match : tie.Need-array-read-put-match Inv-loop μ-loop
-array-read-put-match c = omega arith
-
-array-read-put-match-2 : tie.Need-array-read-put-match-2 Inv-loop μ-loop
-array-read-put-match-2 c = omega arith
-
-array-read-put-match-3 : tie.Need-array-read-put-match-3 Inv-loop μ-loop
-array-read-put-match-3 c = omega arith
-
 put-match-requires : tie.Need-put-match-requires Inv-loop μ-loop
 put-match-requires c κs =
     let start = c .before .before .before .before .before .before .before .before in
@@ -46,21 +37,12 @@ put-match-requires c κs =
     let i = c .before .before .loop in
     (match-row (a .rows .now) (a .cover) (i .k) (omega arith) (room start) (start .pre .1), omega (arith, i .inv .2 .place, start .pre .2, match-fits (a .rows .now) (a .cover) (i .k) (omega arith) (room start)))
 
-add-k : tie.Need-add-k Inv-loop μ-loop
-add-k c = omega arith
-
-loop-less : tie.Need-loop-less Inv-loop μ-loop
-loop-less c = omega arith
-
 loop-again : tie.Need-loop-again Inv-loop μ-loop
 loop-again c =
     let start = c .before .before .before .before .before .before .before .before .before .before .before in
     let a = start .args in
     let i = c .before .before .before .before .before .loop in
     (omega arith, omega arith, match-turn (a .rows .now) (a .cover) (i .k) (omega arith) (room start) (omega (arith, start .pre .2)) (i .inv .2) (c .before .before .put-match .ensures))
-
-same-length : tie.Need-same-length Inv-loop μ-loop
-same-length c = omega arith
 
 returns : tie.Need-returns Inv-loop μ-loop
 returns c =
@@ -70,18 +52,5 @@ returns c =
     subst (λ (xs : List Placed). Appended (rowLines (a .rows .now) xs) (a .text .now) (a .from) (i .text) (i .at)) (matches-done (a .cover) (room start) (i .k) (omega arith)) (i .inv .2)
 
 pub put-matches-spec : {M : Type 1} → statement M
-put-matches-spec =
-    tie.close
-    (tie.spec
-    Inv-loop
-    μ-loop
-    loop-holds
-    array-read-put-match
-    array-read-put-match-2
-    array-read-put-match-3
-    put-match-requires
-    add-k
-    loop-less
-    loop-again
-    same-length
-    returns)
+put-matches-spec = tie.close (tie.spec Inv-loop μ-loop loop-holds (omega arith) (omega arith) (omega arith)
+    put-match-requires (omega arith) (omega arith) loop-again (omega arith) returns)

@@ -3,17 +3,22 @@
 use crate::clock::{medians, print_times, Contestant};
 use reference::generate::functions::{Case, Draft};
 use reference::generate::longest;
+#[cfg(feature = "before")]
+use reference::product::BEFORE;
+use reference::product::PRODUCT;
 use reference::verdict::Verdict;
-use reference::{product, wordwise};
+use reference::wordwise;
 use std::hint::black_box;
 
 /// Answers as `Verdict::coded` does.
 type Judge = fn(&[u8], &[u8]) -> u64;
 
-/// Who judges: the product first, then the reference, one setting after another, and by hand, all settings at once. No
-/// earlier product has this judge.
-const JUDGES: [(&str, Judge); 3] = [
-    ("product", product::judge_functions),
+/// Who judges: the product first, then an earlier one, if it is linked; the reference, one setting after another; and by
+/// hand, all settings at once.
+const JUDGES: &[(&str, Judge)] = &[
+    ("product", |library, functions| PRODUCT.judge_functions(library, functions)),
+    #[cfg(feature = "before")]
+    ("before", |library, functions| BEFORE.judge_functions(library, functions)),
     ("reference", |library, functions| Verdict::of_functions(library, functions).coded()),
     ("wordwise", wordwise::functions::judge),
 ];
@@ -33,7 +38,8 @@ pub fn run() {
         functions.len()
     );
     let contestants = JUDGES.iter().map(|&(_, judge)| contestant(&case, judge)).collect();
-    print_times(&JUDGES.map(|(who, _)| who), &medians(CALLS, contestants));
+    let who: Vec<&str> = JUDGES.iter().map(|&(who, _)| who).collect();
+    print_times(&who, &medians(CALLS, contestants));
 }
 
 /// Some judgements by one of them, if the arguments ask for it.

@@ -4,9 +4,12 @@ use crate::clock::{medians, print_times, Contestant};
 use reference::form::Form;
 use reference::generate::damage::Kind;
 use reference::generate::longest;
+#[cfg(feature = "before")]
+use reference::product;
+use reference::product::PRODUCT;
 use reference::tree::Tree;
 use reference::verdict::Verdict;
-use reference::{product, wordwise};
+use reference::wordwise;
 use std::hint::black_box;
 
 /// Answers as `Verdict::coded` does.
@@ -16,9 +19,9 @@ const BEFORE: &str = "before";
 
 /// Who judges: the product first, then an earlier one, if it is linked. It may refuse a tree with driven leaves.
 const JUDGES: &[(&str, Judge)] = &[
-    ("product", product::judge),
+    ("product", |kind, sheet| PRODUCT.judge(kind, sheet)),
     #[cfg(feature = "before")]
-    (BEFORE, product::judge_before),
+    (BEFORE, |kind, sheet| product::BEFORE.judge(kind, sheet)),
     ("reference", |kind, sheet| Verdict::of(kind, sheet).coded()),
     ("wordwise", wordwise::judge),
 ];

@@ -6,7 +6,9 @@ use reference::generate::heavy;
 use reference::generate::problem::Problem;
 use reference::merging::{self, Extent};
 use reference::operation::{Lent, Operation, LEAST_WORK};
-use reference::product;
+#[cfg(feature = "before")]
+use reference::product::BEFORE;
+use reference::product::PRODUCT;
 use std::hint::black_box;
 
 /// The problem of one row, its sheets, and the sheet that map hands over.
@@ -68,7 +70,7 @@ impl Row {
     #[cfg(feature = "before")]
     fn is_mapped_before(&self) -> bool {
         let (mut output, mut work) = lent();
-        product::map_before(&self.library, &self.tree, &mut output, &mut work) >> 32 == 0
+        BEFORE.run(Operation::Map, &self.library, &self.tree, &mut output, &mut work) >> 32 == 0
     }
 
     #[cfg(not(feature = "before"))]
@@ -90,7 +92,7 @@ impl Row {
     fn product(&self) -> Contestant<'_> {
         let (mut output, mut work) = lent();
         Box::new(move || {
-            let length = product::run(Operation::Map, black_box(&self.library), &self.tree, &mut output, &mut work);
+            let length = PRODUCT.run(Operation::Map, black_box(&self.library), &self.tree, &mut output, &mut work);
             assert_eq!(length, self.expected.len() as u64);
             assert_eq!(output[..self.expected.len()], self.expected);
         })
@@ -124,7 +126,7 @@ impl Row {
         let covers = [merging::map(library, tree), merging::map_among(&as_drawn, library, tree)];
         let sheets = covers.map(|cover| Cover { matches: vec![], ..cover.expect("a cover") }.sheet());
         Box::new(move || {
-            let length = product::map_before(black_box(&self.library), &self.tree, &mut output, &mut work);
+            let length = BEFORE.run(Operation::Map, black_box(&self.library), &self.tree, &mut output, &mut work);
             assert!(length >> 32 == 0 && sheets.iter().any(|sheet| same_figures(sheet, &output)));
         })
     }

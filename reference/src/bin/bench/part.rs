@@ -6,15 +6,24 @@ use reference::generate::heavy;
 use reference::generate::linked::{sheets_alone, Case, Draft};
 use reference::operation::{Operation, LEAST_WORK};
 use reference::part::{self, LEAST_OUTPUT};
-use reference::product;
+#[cfg(feature = "before")]
+use reference::product::BEFORE;
+use reference::product::{Product, PRODUCT};
 use std::hint::black_box;
 
 /// The rows, and what their trees are.
 const ROWS: [(&str, &str); 2] = [("part", "of the typical kind"), ("deep_part", "of 63 inverters")];
 
 /// Who maps: the product the part, the product each tree by itself, with the arrivals put in; merging, and the
-/// product's own method in plain Rust, the part. No earlier product maps parts.
-const WHO: [&str; 4] = ["product", "maps", "merging", "plain_kept"];
+/// product's own method in plain Rust, the part; and an earlier product, if it is linked, the part.
+const WHO: &[&str] = &[
+    "product",
+    "maps",
+    "merging",
+    "plain_kept",
+    #[cfg(feature = "before")]
+    "before",
+];
 
 /// How often each maps in a round.
 const CALLS: usize = 12;
@@ -33,7 +42,7 @@ pub fn run() {
         let row = Row::named(name).expect("a row");
         println!("map, {name} ({} trees {kind}, {} links):", row.trees.len(), row.links);
         let contestants = WHO.iter().map(|who| row.contestant(who)).collect();
-        print_times(&WHO, &medians(CALLS, contestants));
+        print_times(WHO, &medians(CALLS, contestants));
     }
 }
 
@@ -66,18 +75,20 @@ impl Row {
     fn contestant(&self, who: &str) -> Contestant<'_> {
         match (who, Variant::named(who)) {
             (_, Some(variant)) => self.plain(variant),
-            ("product", _) => self.product(),
+            ("product", _) => self.product(&PRODUCT),
+            #[cfg(feature = "before")]
+            ("before", _) => self.product(&BEFORE),
             ("maps", _) => self.maps(),
             ("merging", _) => self.merging(),
             _ => panic!("one of {WHO:?}"),
         }
     }
 
-    fn product(&self) -> Contestant<'_> {
+    fn product<'a>(&'a self, product: &'a Product) -> Contestant<'a> {
         let Case { library, part, .. } = &self.case;
         let (mut output, mut work) = lent();
         Box::new(move || {
-            let length = product::map_part(black_box(library), part, &mut output, &mut work);
+            let length = product.map_part(black_box(library), part, &mut output, &mut work);
             assert_eq!(length, self.expected.len() as u64);
             assert_eq!(output[..self.expected.len()], self.expected);
         })
@@ -88,7 +99,7 @@ impl Row {
         let (mut output, mut work) = lent();
         Box::new(move || {
             for (tree, cover) in self.trees.iter().zip(&self.covers) {
-                let length = product::run(Operation::Map, black_box(library), tree, &mut output, &mut work);
+                let length = PRODUCT.run(Operation::Map, black_box(library), tree, &mut output, &mut work);
                 assert_eq!(length, cover.len() as u64);
                 assert_eq!(output[..cover.len()], *cover);
             }

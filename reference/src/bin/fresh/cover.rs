@@ -5,7 +5,7 @@ use reference::generate::covers::damage::any_case;
 use reference::generate::covers::Case;
 use reference::hex::hex;
 use reference::judging;
-use reference::product;
+use reference::product::PRODUCT;
 use reference::verdict::Verdict;
 
 pub fn run(count: u64, seed: u64) -> Tally {
@@ -15,7 +15,7 @@ pub fn run(count: u64, seed: u64) -> Tally {
 fn compare(tally: &mut Tally, case: &Case) {
     let judged = case.judged();
     let expected = Verdict::from(judged).coded();
-    let actual = product::judge_cover(&case.library, &case.tree, &case.cover);
+    let actual = PRODUCT.judge_cover(&case.library, &case.tree, &case.cover);
     tally.meet(&case.tree);
     if actual == expected {
         tally.agree(judging::name(&judged));

@@ -5,7 +5,8 @@ use reference::generate::functions::damage::any_case;
 use reference::generate::functions::kinds::name;
 use reference::generate::functions::Case;
 use reference::hex::hex;
-use reference::{product, wordwise};
+use reference::product::PRODUCT;
+use reference::wordwise;
 
 pub fn run(count: u64, seed: u64) -> Tally {
     Tally::of(count, seed, any_case, compare)
@@ -13,7 +14,7 @@ pub fn run(count: u64, seed: u64) -> Tally {
 
 fn compare(tally: &mut Tally, case: &Case) {
     let expected = case.judged().coded();
-    let actual = product::judge_functions(&case.library, &case.functions);
+    let actual = PRODUCT.judge_functions(&case.library, &case.functions);
     let wordwise = wordwise::functions::judge(&case.library, &case.functions);
     if actual == expected && wordwise == expected {
         tally.agree(name(case));

@@ -3,9 +3,10 @@
 use crate::tally::{key, words, Tally};
 use reference::generate::damage::{any_sheet, Kind};
 use reference::hex::hex;
+use reference::product::PRODUCT;
 use reference::rng::Rng;
 use reference::verdict::Verdict;
-use reference::{product, wordwise};
+use reference::wordwise;
 
 pub fn run(count: u64, seed: u64) -> Tally {
     let mut rng = Rng::new(seed);
@@ -19,7 +20,7 @@ pub fn run(count: u64, seed: u64) -> Tally {
 
 fn compare(tally: &mut Tally, kind: Kind, sheet: &[u8]) {
     let expected = Verdict::of(kind, sheet).coded();
-    let actual = product::judge(kind, sheet);
+    let actual = PRODUCT.judge(kind, sheet);
     let wordwise = wordwise::judge(kind, sheet);
     if kind == Kind::Tree {
         tally.meet(sheet);

@@ -8,7 +8,7 @@ use reference::generate::problem::{any_style, problem, varied, Problem};
 use reference::generate::{chosen, heavy};
 use reference::hex::hex;
 use reference::operation::{Lent, Operation, LEAST_WORK};
-use reference::product;
+use reference::product::PRODUCT;
 use reference::refusal::{NO_COVER, OVERFULL};
 use reference::rng::Rng;
 
@@ -110,7 +110,7 @@ fn name(question: &Question, answer: &Answer) -> &'static str {
 }
 
 fn by_product(question: &Question, output: &mut [u8], work: &mut [u64]) -> u64 {
-    product::run(question.operation, &question.library, &question.tree, output, work)
+    PRODUCT.run(question.operation, &question.library, &question.tree, output, work)
 }
 
 /// The stated effect of a call on what it was lent.

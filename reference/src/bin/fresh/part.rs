@@ -10,7 +10,7 @@ use reference::generate::linked::{chosen, sheets_alone, Case};
 use reference::hex::hex;
 use reference::operation::{Lent, Operation};
 use reference::part::{self, Fault};
-use reference::product;
+use reference::product::PRODUCT;
 use reference::rng::Rng;
 use reference::verdict::Verdict;
 
@@ -41,7 +41,7 @@ fn ask(rng: &mut Rng, known: &[Case]) -> Case {
 
 fn compare(rng: &mut Rng, tally: &mut Tally, case: &Case, before: Answer) {
     let mut actual = before.clone();
-    actual.coded = product::map_part(&case.library, &case.part, &mut actual.output, &mut actual.work);
+    actual.coded = PRODUCT.map_part(&case.library, &case.part, &mut actual.output, &mut actual.work);
     let result = case.answer();
     let mut expected = before;
     let clears = result.as_ref().err().is_none_or(Fault::clears);
@@ -75,7 +75,7 @@ fn compare_alone(tally: &mut Tally, case: &Case, sheets: &[u8]) {
 fn agrees_alone(library: &[u8], tree: &[u8], cover: &Cover, sheet: &[u8]) -> Result<(), &'static str> {
     let Lent { output, work } = Lent::ENOUGH;
     let (mut output, mut work) = (vec![0; output], vec![0; work]);
-    let length = product::run(Operation::Map, library, tree, &mut output, &mut work) as usize;
+    let length = PRODUCT.run(Operation::Map, library, tree, &mut output, &mut work) as usize;
     if output.get(..length) != Some(sheet) {
         return Err("the product's map");
     }
@@ -83,7 +83,7 @@ fn agrees_alone(library: &[u8], tree: &[u8], cover: &Cover, sheet: &[u8]) -> Res
         return Err("the reference's map");
     }
     let figures = Verdict::Cover(Pair { arrival: cover.arrival, area: cover.area });
-    if product::judge_cover(library, tree, sheet) != figures.coded() {
+    if PRODUCT.judge_cover(library, tree, sheet) != figures.coded() {
         return Err("the product's judge");
     }
     Ok(())

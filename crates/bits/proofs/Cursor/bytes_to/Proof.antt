@@ -5,9 +5,6 @@ use borrow.Author.Needs.{needs}
 use Rattle.bits.proofs.Cursor.bytes_to.Statement.{statement}
 use Rattle.bits.proofs.Cursor.bytes_to.Tie as tie
 
-on-requires : tie.Need-on-requires
-on-requires c κs = search needs
-
 returns : tie.Need-returns
 unfolding placeOf
 returns c =
@@ -27,4 +24,4 @@ returns-2 c =
     bytes-part (placeOf (c .before .before .before .args .self)) (at .result .byte) (at .result .used) (h .1) (h .0) (c .if1 .left)
 
 pub bytes-to-spec : {M : Type 1} → statement M
-bytes-to-spec = tie.close (tie.spec on-requires returns add-result returns-2)
+bytes-to-spec = tie.close (tie.spec (λ c κs. search needs) returns add-result returns-2)

@@ -5,17 +5,11 @@ use borrow.Author.Needs.{needs}
 use Rattle.bits.proofs.Cursor.ends.Statement.{statement}
 use Rattle.bits.proofs.Cursor.ends.Tie as tie
 
-bytes-to-requires : tie.Need-bytes-to-requires
-bytes-to-requires c κs = search needs
-
 returns : tie.Need-returns
 returns c =
     let a = c .before .before .before .args in
     let bytes = c .before .bytes-to in
     ends-other (a .s .now) (placeOf (a .self)) (bytes .result) (bytes .ensures) (c .if1 .taken)
-
-fills-requires : tie.Need-fills-requires
-fills-requires c κs = search needs
 
 returns-2 : tie.Need-returns-2
 returns-2 c =
@@ -24,4 +18,4 @@ returns-2 c =
     c .fills .ensures ∙ ends-filled (a .s .now) (placeOf (a .self)) (bytes .result) (bytes .ensures) (c .before .if1 .left)
 
 pub ends-spec : {M : Type 1} → statement M
-ends-spec = tie.close (tie.spec bytes-to-requires returns fills-requires returns-2)
+ends-spec = tie.close (tie.spec (λ c κs. search needs) returns (λ c κs. search needs) returns-2)

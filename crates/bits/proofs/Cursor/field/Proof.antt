@@ -9,23 +9,6 @@ use borrow.Author.Needs.{needs}
 use Rattle.bits.proofs.Cursor.field.Statement.{statement}
 use Rattle.bits.proofs.Cursor.field.Tie as tie
 
-on-requires : tie.Need-on-requires
-on-requires c κs = search needs
-
-add-if1 : tie.Need-add-if1
-unfolding placeOf
-add-if1 c = omega arith
-
-add-if2 : tie.Need-add-if2
-unfolding placeOf
-add-if2 c = omega arith
-
-word-requires : tie.Need-word-requires
-word-requires c κs = search needs
-
-cut-requires : tie.Need-cut-requires
-cut-requires c κs = search needs
-
 returns : tie.Need-returns
 unfolding placeOf
 returns c =
@@ -61,16 +44,6 @@ returns-3 c =
     none (a .s .now) (placeOf (a .self)) (a .width) (omega (arith, reach, stands (on .ensures) .1))
 
 pub field-spec : {M : Type 1} → statement M
-field-spec =
-    tie.close
-    (tie.spec
-    on-requires
-    add-if1
-    add-if2
-    word-requires
-    cut-requires
-    returns
-    inside-requires
-    spread-requires
-    returns-2
-    returns-3)
+field-spec = tie.close (tie.spec (λ c κs. search needs) (λ c. unfold placeOf in omega arith)
+    (λ c. unfold placeOf in omega arith) (λ c κs. search needs) (λ c κs. search needs) returns inside-requires
+    spread-requires returns-2 returns-3)

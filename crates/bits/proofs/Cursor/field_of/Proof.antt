@@ -8,18 +8,8 @@ use borrow.Author.Needs.{needs}
 use Rattle.bits.proofs.Cursor.field_of.Statement.{statement}
 use Rattle.bits.proofs.Cursor.field_of.Tie as tie
 
-on-requires : tie.Need-on-requires
-unfolding placeOf
-on-requires c κs = omega arith
-
 inside-requires : tie.Need-inside-requires
 inside-requires c κs = stands (c .on .ensures) .0
-
-word-requires : tie.Need-word-requires
-word-requires c κs = search needs
-
-cut-requires : tie.Need-cut-requires
-cut-requires c κs = search needs
 
 returns : tie.Need-returns
 unfolding placeOf
@@ -40,5 +30,5 @@ returns-2 c s opens =
     none s (placeOf (a .self)) (a .width) (omega (arith, reach, opens .many, stands (on .ensures) .1))
 
 pub field-of-spec : {M : Type 1} → statement M
-field-of-spec =
-    tie.close (tie.spec on-requires inside-requires word-requires cut-requires returns returns-2)
+field-of-spec = tie.close (tie.spec (λ c κs. unfold placeOf in omega arith) inside-requires (λ c κs. search needs)
+    (λ c κs. search needs) returns returns-2)

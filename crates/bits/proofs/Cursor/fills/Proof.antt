@@ -7,9 +7,6 @@ use borrow.Author.Needs.{needs}
 use Rattle.bits.proofs.Cursor.fills.Statement.{statement}
 use Rattle.bits.proofs.Cursor.fills.Tie as tie
 
-on-requires : tie.Need-on-requires
-on-requires c κs = search needs
-
 returns : tie.Need-returns
 unfolding placeOf
 returns c =
@@ -31,12 +28,6 @@ returns-2 c =
 sub-left : tie.Need-sub-left
 sub-left c = omega (arith, stands (c .before .before .on .ensures))
 
-shared-slice-read-octet : tie.Need-shared-slice-read-octet
-shared-slice-read-octet c = search needs
-
-octet-requires : tie.Need-octet-requires
-octet-requires c κs = search needs
-
 cut-requires : tie.Need-cut-requires
 cut-requires c κs = omega (arith, stands (c .before .before .before .before .on .ensures))
 
@@ -49,15 +40,5 @@ returns-3 c =
     (c .cut .ensures ∙ value-part (a .s .now) (at .result .byte) (at .result .used) (8 - at .result .used) (c .before .octet .result) (c .before .octet .ensures .0) (c .before .octet .ensures .1) (omega (arith, stands-there (at .ensures))))
 
 pub fills-spec : {M : Type 1} → statement M
-fills-spec =
-    tie.close
-    (tie.spec
-    on-requires
-    returns
-    add-if2
-    returns-2
-    sub-left
-    shared-slice-read-octet
-    octet-requires
-    cut-requires
-    returns-3)
+fills-spec = tie.close (tie.spec (λ c κs. search needs) returns add-if2 returns-2 sub-left (λ c. search needs)
+    (λ c κs. search needs) cut-requires returns-3)

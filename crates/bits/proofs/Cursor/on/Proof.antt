@@ -12,27 +12,10 @@ Inv-loop width byte₀ used₀ byte used = 8 * byte + used ≡ 8 * byte₀ + use
 abbrev μ-loop : tie.MeasureT-loop
 μ-loop width byte₀ used₀ byte used = used
 
-add-used : tie.Need-add-used Inv-loop μ-loop
-unfolding placeOf
-add-used c = omega arith
-
-loop-holds : tie.Need-loop-holds Inv-loop μ-loop
-loop-holds c = omega arith
-
-add-byte : tie.Need-add-byte Inv-loop μ-loop
-unfolding placeOf
-add-byte c = omega arith
-
-loop-less : tie.Need-loop-less Inv-loop μ-loop
-loop-less c = omega arith
-
-loop-again : tie.Need-loop-again Inv-loop μ-loop
-loop-again c = omega arith
-
 returns : tie.Need-returns Inv-loop μ-loop
 unfolding placeOf
 returns c = cursor-is _ _ _ (omega arith) (omega arith)
 
 pub on-spec : {M : Type 1} → statement M
-on-spec =
-    tie.close (tie.spec Inv-loop μ-loop add-used loop-holds add-byte loop-less loop-again returns)
+on-spec = tie.close (tie.spec Inv-loop μ-loop (λ c. unfold placeOf in omega arith) (omega arith)
+    (λ c. unfold placeOf in omega arith) (omega arith) (omega arith) returns)
