@@ -6,9 +6,12 @@ log=$1
 features=product
 mappers="product plain plain_kept merging"
 judges="product reference wordwise"
-[ -z "${TREECOVER_BEFORE_DIR:-}" ] || { features=before; mappers="$mappers before"; judges="$judges before"; }
-rows="typical chain comb deep full crosscomb driven"
+cover_judges="judge judge_reference"
 parts="product maps plain_kept merging"
+[ -z "${TREECOVER_BEFORE_DIR:-}" ] || {
+    features=before mappers="$mappers before" judges="$judges before" cover_judges="$cover_judges judge_before" parts="$parts before"
+}
+rows="typical chain comb deep full crosscomb driven"
 sheets="longest_library longest_tree longest_plain_tree longest_functions"
 scratch=$(mktemp -d)
 trap 'rm -rf "$scratch"' EXIT
@@ -20,7 +23,7 @@ cargo build -q --release --offline --manifest-path reference/Cargo.toml --featur
 bench=$PWD/target/reference/release/bench
 fresh=$PWD/target/reference/release/fresh
 
-instructions() { # WHO ROW: of one map or judgement, the difference of two runs; nothing if the delivery before refuses the row or has no such judge
+instructions() { # WHO ROW: of one map or judgement, the difference of two runs; nothing if the delivery before refuses the row
     [ "$1" != before ] || "$bench" repeat 1 "$1" "$2" >/dev/null 2>&1 || return 0
     for count in 1 2; do
         valgrind --tool=callgrind --callgrind-out-file="$scratch/cg" "$bench" repeat $count "$1" "$2" 2>&1 | awk '/Collected/ { print $4 }'
@@ -87,9 +90,13 @@ calls of map with the arrivals put in (\`maps\`), and plain Rust and merging wit
 
 $(table "$parts" "part deep_part")
 
-Instructions for one judgement, by callgrind.
+Instructions for one judgement of a sheet, or of functions, by callgrind.
 
 $(table "$judges" "$sheets")
+
+Instructions for one judgement of the row's cover, by callgrind.
+
+$(table "$cover_judges" "$rows")
 
 The greatest stack, by massif, in bytes, of which main and the benchmark have a small part. The bar that
 we set is 512 KB.

@@ -1,8 +1,7 @@
 //! With the feature `product`, links the static library `lib$TREECOVER_LIB_NAME.a`
 //! (default name `interface`) found in the directory `$TREECOVER_LIB_DIR`.
 //! With the feature `before`, links an earlier one beside it, `libbefore.a` from the directory
-//! `$TREECOVER_BEFORE_DIR`, whose map and judges of sheets are named `before_map`, `before_judge_library` and
-//! `before_judge_tree`.
+//! `$TREECOVER_BEFORE_DIR`, whose functions' names begin with `before_` (README.md).
 
 use std::env;
 

@@ -2,7 +2,7 @@
 use Prim.Native.Nat.{ℕ, zero, suc, _+_, _*_, _≤_, _<_}
 use mathlib.Core.Path.{_≡_, refl, sym, ap, ap₂, _∙_}
 use mathlib.Core.Bool.{Bool}
-use mathlib.Core.List.{List, [], _∷_, _++_, List·Memᴰ, List·Memᴰ·head, List·Memᴰ·tail, List·Memᴰ·not-nil}
+use mathlib.Core.List.{List, [], _∷_, _++_, List·Memᴰ, List·Memᴰ·head, List·Memᴰ·tail}
 use native.Mathlib.Nat.{suc-mul}
 use native.Mathlib.Decide.{ℕ-discrete}
 use native.Mathlib.Omega.{arith}
@@ -31,11 +31,7 @@ module _ (l : Library) where
   pub uses-few : (xs : List Placed) (n : ℕ) → uses l xs n ≤ length xs
   unfolding uses select
   uses-few [] n = omega arith
-  uses-few (x ∷ xs) n = go (ℕ-discrete (cell x) n) (uses-few xs n)
-    where
-      go : Dec (cell x ≡ n) → uses l xs n ≤ length xs → uses l (x ∷ xs) n ≤ suc (length xs)
-      go (yes e) few = omega (arith, uses-same x xs n e)
-      go (no e) few = omega (arith, uses-other x xs n e)
+  uses-few (x ∷ xs) n = elim (ℕ-discrete (cell x) n) [ yes e ↦ omega (arith, uses-few xs n, uses-same x xs n e) | no e ↦ omega (arith, uses-few xs n, uses-other x xs n e) ]
 
   pub uses-append : (xs ys : List Placed) (n : ℕ) → uses l (xs ++ ys) n ≡ uses l xs n + uses l ys n
   unfolding uses
@@ -44,20 +40,12 @@ module _ (l : Library) where
   -- A cell is used exactly if a listed match is of it.
   pub used-by : (xs : List Placed) (n : ℕ) → 0 < uses l xs n → (x : Placed) × List·Memᴰ x xs × (cell x ≡ n)
   used-by [] n h = unfold uses select in absurd (omega arith)
-  used-by (x ∷ xs) n h = go (ℕ-discrete (cell x) n) (used-by xs n)
-    where
-      go : Dec (cell x ≡ n) → (0 < uses l xs n → (y : Placed) × List·Memᴰ y xs × (cell y ≡ n)) → (y : Placed) × List·Memᴰ y (x ∷ xs) × (cell y ≡ n)
-      go (yes e) later = (x, List·Memᴰ·head refl, e)
-      go (no e) later = let r = later (omega (arith, uses-other x xs n e)) in (r .0, List·Memᴰ·tail (r .1), r .2)
+  used-by (x ∷ xs) n h = elim (ℕ-discrete (cell x) n)
+      [ yes e ↦ (x, List·Memᴰ·head refl, e) | no e ↦ let r = used-by xs n (omega (arith, uses-other x xs n e)) in (r .0, List·Memᴰ·tail (r .1), r .2) ]
 
   pub by-used : (xs : List Placed) {x : Placed} → List·Memᴰ x xs → 0 < uses l xs (cell x)
-  by-used [] m = absurd (List·Memᴰ·not-nil m)
-  by-used (y ∷ ys) {x} m = go (ℕ-discrete (cell y) (cell x)) m (λ k. by-used ys k)
-    where
-      go : Dec (cell y ≡ cell x) → List·Memᴰ x (y ∷ ys) → (List·Memᴰ x ys → 0 < uses l ys (cell x)) → 0 < uses l (y ∷ ys) (cell x)
-      go (yes e) m later = omega (arith, uses-same y ys (cell x) e)
-      go (no e) (List·Memᴰ·head f) later = absurd (e (ap cell (sym f)))
-      go (no e) (List·Memᴰ·tail k) later = omega (arith, later k, uses-other y ys (cell x) e)
+  by-used (y ∷ ys) {x} (List·Memᴰ·head f) = omega (arith, uses-same y ys (cell x) (ap cell (sym f)))
+  by-used (y ∷ ys) {x} (List·Memᴰ·tail k) = elim (ℕ-discrete (cell y) (cell x)) [ yes e ↦ omega (arith, uses-same y ys (cell x) e) | no e ↦ omega (arith, by-used ys k, uses-other y ys (cell x) e) ]
 
   -- A weight for each cell, as often as it is used: over the first n cells, and over the listed matches.
   module _ (weight : ℕ → ℕ) where
@@ -78,11 +66,10 @@ module _ (l : Library) where
     weighed-within : (x : Placed) (xs : List Placed) (n : ℕ) → cell x < n → weighed (x ∷ xs) n ≡ weight (cell x) + weighed xs n
     unfolding weighed
     weighed-within x xs zero h = absurd (omega arith)
-    weighed-within x xs (suc n) h = go (ℕ-discrete (cell x) n) (weighed-within x xs n)
-      where
-        go : Dec (cell x ≡ n) → (cell x < n → weighed (x ∷ xs) n ≡ weight (cell x) + weighed xs n) → weighed (x ∷ xs) n + uses l (x ∷ xs) n * weight n ≡ weight (cell x) + (weighed xs n + uses l xs n * weight n)
-        go (yes e) before = rw (weighed-beyond x xs n (omega (arith, e)), uses-same x xs n e, suc-mul) (omega (arith, ap weight e))
-        go (no e) before = rw (before (omega (arith, e)), uses-other x xs n e) (omega arith)
+    weighed-within x xs (suc n) h = elim (ℕ-discrete (cell x) n) [
+      | yes e ↦ rw (weighed-beyond x xs n (omega (arith, e)), uses-same x xs n e, suc-mul) (omega (arith, ap weight e))
+      | no e ↦ rw (weighed-within x xs n (omega (arith, e)), uses-other x xs n e) (omega arith)
+    ]
 
     weighed-none : (n : ℕ) → weighed [] n ≡ 0
     unfolding weighed uses select

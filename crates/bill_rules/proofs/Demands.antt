@@ -1,11 +1,11 @@
 -- What is printed for three sheets: the demands, and that it is short.
 use Prim.Native.Nat.{ℕ}
-use mathlib.Core.Path.{_≡_, refl, sym, ap, ap₂, _∙_}
+use mathlib.Core.Path.{_≡_, sym, ap, ap₂, _∙_}
 use mathlib.Core.Bool.{true}
 use mathlib.Core.List.{List}
 use lib.ListN.{take}
 use Rattle.fields.specs.Reading.{start}
-use Rattle.fields.specs.Answer.{Answer, refused, refusedIn, success, onSuccess}
+use Rattle.fields.specs.Answer.{Answer, refusedIn, success, onSuccess}
 use Rattle.sheets_rules.specs.Model.{Tree}
 use Rattle.sheets_rules.specs.LibrarySheet.{library}
 use Rattle.sheets_rules.specs.TreeSheet.{tree}

@@ -2,9 +2,7 @@
 use Prim.Native.Nat.{ℕ, zero, suc, _+_, _*_, _≤_, _<_}
 use mathlib.Core.Path.{_≡_, refl, sym, ap, ap₂, subst, _∙_}
 use mathlib.Core.Logic.{⊎-elim, _↔_}
-use mathlib.Core.Bool.{Bool, true, false}
 use mathlib.Core.List.{List, [], _∷_, _++_, map, List·Memᴰ, List·Memᴰ·head, List·Memᴰ·tail, List·Memᴰ·not-nil, List·Memᴰ·append-cases, List·Memᴰ·eq-of-singleton, Memᴰ·append-left, Memᴰ·append-right, Memᴰ·map, Memᴰ·of-map}
-use mathlib.Core.Option.{none}
 use native.Mathlib.Nat.{add-zero, zero-mul, mul-one, le-refl}
 use native.Mathlib.Numerals.{add-one}
 use native.Mathlib.Decide.{ℕ-discrete}
@@ -12,6 +10,7 @@ use native.Mathlib.Omega.{arith}
 use lib.Dec.{ltb}
 use lib.IntN.{pos, -ℤ-+ℤ-cancel}
 use lib.ListN.{length, getD, getElem?, length-append}
+use borrow.Table.Steps.{cases}
 use borrow.Author.Tests.{ltb-true, ltb-false}
 use Rattle.sheets_rules.specs.Model.{Library, Pattern, patterns, cellOf, areaOf, Tree}
 use Rattle.sheets_rules.specs.Inside.Sound.{SoundLibrary}
@@ -48,34 +47,22 @@ module _ (l : Library) (xs : List Placed) where
     hasn't : uses l xs n ≡ 0 → Line n []
 
   line-of : (n : ℕ) → Line n (lineOf n)
-  line-of n = go (ltb 0 (uses l xs n)) refl
-    where
-      go : (b : Bool) → ltb 0 (uses l xs n) ≡ b → Line n (keepIf b (entryOf l xs n) [])
-      go true e = unfold keepIf in has (ltb-true 0 (uses l xs n) e)
-      go false e = unfold keepIf in hasn't (omega (arith, ltb-false 0 (uses l xs n) e))
+  line-of n = unfold keepIf in cases (ltb 0 (uses l xs n)) (λ e. rw e (has (ltb-true 0 (uses l xs n) e))) (λ e. rw e (hasn't (omega (arith, ltb-false 0 (uses l xs n) e))))
 
   -- Ascending by cell.
-  line-ascends : {n : ℕ} {es : List Entry} → Line n es → Ascending (λ (e : Entry). e .cell) n (suc n) es
-  unfolding entryOf
-  line-ascends {n} (has h) = then {x = entryOf l xs n} (le-refl n) (end (le-refl (suc n)))
-  line-ascends {n} (hasn't e) = end {low = n} {high = suc n} (omega arith)
-
   entries-ascend : (n : ℕ) → Ascending (λ (e : Entry). e .cell) 0 n (entriesBelow l xs n)
-  unfolding entriesBelow
+  unfolding entriesBelow entryOf
   entries-ascend zero = end (le-refl 0)
-  entries-ascend (suc n) = ascending-append (entries-ascend n) (line-ascends (line-of n))
+  entries-ascend (suc n) = ascending-append (entries-ascend n) (elim (line-of n) as (λ es x. Ascending (λ (e : Entry). e .cell) n (suc n) es)
+      [ has h ↦ then {x = entryOf l xs n} (le-refl n) (end (le-refl (suc n))) | hasn't e ↦ end {low = n} {high = suc n} (omega arith) ])
 
   -- Sums over the lines are sums over all cells, for a figure that is a weight times how often a cell is used.
   module _ (figure : Entry → ℕ) (weight : ℕ → ℕ) (is : (n : ℕ) → figure (entryOf l xs n) ≡ uses l xs n * weight n) where
-    line-summed : {n : ℕ} {es : List Entry} → Line n es → summed figure es ≡ uses l xs n * weight n
-    unfolding summed
-    line-summed {n} (has h) = add-zero (figure (entryOf l xs n)) ∙ is n
-    line-summed {n} (hasn't e) = rw (e, zero-mul)
-
     summed-weighed : (n : ℕ) → summed figure (entriesBelow l xs n) ≡ weighed l weight xs n
     unfolding entriesBelow weighed summed
     summed-weighed zero = refl
-    summed-weighed (suc n) = summed-append figure (entriesBelow l xs n) (lineOf n) ∙ ap₂ _+_ (summed-weighed n) (line-summed (line-of n))
+    summed-weighed (suc n) = summed-append figure (entriesBelow l xs n) (lineOf n) ∙ ap₂ _+_ (summed-weighed n) (elim (line-of n) as (λ es x. summed figure es ≡ uses l xs n * weight n)
+        [ has h ↦ add-zero (figure (entryOf l xs n)) ∙ is n | hasn't e ↦ rw (e, zero-mul) ])
 
   amounts-weighed : (n : ℕ) → amounts (entriesBelow l xs n) ≡ weighed l (areaOf l) xs n
   unfolding entryOf
@@ -90,15 +77,12 @@ module _ (l : Library) (xs : List Placed) where
   amounts-next n = rw add-one (amounts-weighed (suc n) ∙ ap (λ (k : ℕ). k + uses l xs n * areaOf l n) (sym (amounts-weighed n)))
 
   -- No more lines than the counts add up to.
-  line-few : {n : ℕ} {es : List Entry} → Line n es → length es ≤ counts es
-  unfolding summed entryOf
-  line-few (has h) = omega arith
-  line-few (hasn't e) = omega arith
-
   pub lines-few : (n : ℕ) → length (entriesBelow l xs n) ≤ counts (entriesBelow l xs n)
-  unfolding entriesBelow
+  unfolding entriesBelow summed entryOf
   lines-few zero = omega arith
-  lines-few (suc n) = omega (arith, length-append (entriesBelow l xs n) (lineOf n), summed-append (λ (e : Entry). e .count) (entriesBelow l xs n) (lineOf n), lines-few n, line-few (line-of n))
+  lines-few (suc n) =
+      let few = elim (line-of n) as (λ es x. length es ≤ counts es) [ has h ↦ omega arith | hasn't e ↦ omega arith ] in
+      omega (arith, length-append (entriesBelow l xs n) (lineOf n), summed-append (λ (e : Entry). e .count) (entriesBelow l xs n) (lineOf n), lines-few n)
 
   -- The line of which cell, and that a cell that is used has one.
   pub record From (n : ℕ) (e : Entry) : Type 0 where
@@ -107,14 +91,13 @@ module _ (l : Library) (xs : List Placed) where
     pub is-used : 0 < uses l xs cell
     pub entry-is : e ≡ entryOf l xs cell
 
-  line-from : {n : ℕ} {es : List Entry} {e : Entry} → Line n es → List·Memᴰ e es → From (suc n) e
-  line-from {n} (has h) m = record { cell = n; below = omega arith; is-used = h; entry-is = List·Memᴰ·eq-of-singleton m }
-  line-from (hasn't e) m = absurd (List·Memᴰ·not-nil m)
-
   pub entry-from : (n : ℕ) {e : Entry} → List·Memᴰ e (entriesBelow l xs n) → From n e
   unfolding entriesBelow
   entry-from zero m = absurd (List·Memᴰ·not-nil m)
-  entry-from (suc n) m = ⊎-elim (λ k. let r = entry-from n k in record { cell = r .cell; below = omega (arith, r .below); is-used = r .is-used; entry-is = r .entry-is }) (line-from (line-of n)) (List·Memᴰ·append-cases (entriesBelow l xs n) m)
+  entry-from (suc n) {e} m =
+      ⊎-elim (λ k. let r = entry-from n k in record { cell = r .cell; below = omega (arith, r .below); is-used = r .is-used; entry-is = r .entry-is })
+      (elim (line-of n) as (λ es x. List·Memᴰ e es → From (suc n) e) [ has h ↦ λ m. record { cell = n; below = omega arith; is-used = h; entry-is = List·Memᴰ·eq-of-singleton m } | hasn't e ↦ λ m. absurd (List·Memᴰ·not-nil m) ])
+      (List·Memᴰ·append-cases (entriesBelow l xs n) m)
 
   line-has : {n : ℕ} {es : List Entry} → Line n es → 0 < uses l xs n → List·Memᴰ (entryOf l xs n) es
   line-has (has h) u = List·Memᴰ·head refl
@@ -123,11 +106,8 @@ module _ (l : Library) (xs : List Placed) where
   pub entry-in : (n k : ℕ) → k < n → 0 < uses l xs k → List·Memᴰ (entryOf l xs k) (entriesBelow l xs n)
   unfolding entriesBelow
   entry-in zero k h u = absurd (omega arith)
-  entry-in (suc n) k h u = go (ℕ-discrete k n) (entry-in n k)
-    where
-      go : Dec (k ≡ n) → (k < n → 0 < uses l xs k → List·Memᴰ (entryOf l xs k) (entriesBelow l xs n)) → List·Memᴰ (entryOf l xs k) (entriesBelow l xs n ++ lineOf n)
-      go (yes e) before = rw e (Memᴰ·append-right (entriesBelow l xs n) (line-has (line-of n) (rw e at u)))
-      go (no e) before = Memᴰ·append-left (lineOf n) (before (omega (arith, e)) u)
+  entry-in (suc n) k h u = elim (ℕ-discrete k n)
+      [ yes e ↦ rw e (Memᴰ·append-right (entriesBelow l xs n) (line-has (line-of n) (rw e at u))) | no e ↦ Memᴰ·append-left (lineOf n) (entry-in n k (omega (arith, e)) u) ]
 
 -- A list that ascends by a number, place by place.
 module _ {A : Type 0} (number : A → ℕ) where

@@ -11,7 +11,7 @@ use Rattle.covers.specs.Cover.{Cover}
 use Rattle.covers.specs.Promise.{RootCover}
 use Rattle.covers.proofs.Listing.{area-listed}
 use Rattle.covers.proofs.FromSheets.{root-bounds, cover-fits}
-use Rattle.text.specs.Text.{decimal, signed, line, spaced}
+use Rattle.text.specs.Text.{decimal, signed, spaced}
 use Rattle.text.proofs.Laws.{decimal-fits, signed-fits, length-line, length-spaced, length-last, lines-short}
 use Rattle.bill_rules.specs.Bill.{Entry, entryOf, entriesBelow, amounts, margin, bill}
 use Rattle.bill_rules.specs.Billed.{totalWord, marginWord, entryLine, totalLine, marginLine, billText, longestBill}

@@ -1,5 +1,5 @@
 -- Laws about bits and fields, for any place and any width.
-use mathlib.Core.Path.{_≡_, refl, sym, ap, ap₂, _∙_}
+use mathlib.Core.Path.{_≡_, refl, sym, ap, _∙_}
 use mathlib.Core.List.{List}
 use mathlib.Core.Logic.{⊎-elim, _⊎_, inl, inr, _≢_}
 use native.Mathlib.Decide.{decLt, ℕ-discrete}
@@ -24,10 +24,7 @@ place-at i = omega arith
 -- A cursor whose byte is not all used is the one at its place.
 pub cursor-is : (b u i : ℕ) → u < 8 → 8 * b + u ≡ i → _≡_ {A = Cursor} (record { byte = b; used = u }) (cursorAt i)
 unfolding cursorAt
-cursor-is b u i h e =
-    let byte : b ≡ i / 8 = omega arith in
-    let used : u ≡ i % 8 = omega arith in
-    ap₂ (λ (x y : ℕ). record { byte = x; used = y }) byte used
+cursor-is b u i h e = let byte : b ≡ i / 8 = omega arith in let used : u ≡ i % 8 = omega arith in cc
 
 -- The bytes before a byte go as far as its first bit.
 pub at-end : (b u n : ℕ) → n ≡ b → eqb u 0 ≡ leb (8 * b + u) (8 * n)
@@ -60,8 +57,7 @@ pub digit-lt : (x k b : ℕ) → x < 256 → k < 8 → b < 2 → withDigit x k b
 unfolding withDigit
 digit-lt x k b hx hk hb =
     let seven : 7 - k + k ≡ 7 = omega arith in
-    let half : 2 ^ (7 - k) * 2 ^ k ≡ 128 = sym (pow-add 2 (7 - k) k) ∙ ap (λ (e : ℕ). 2 ^ e) seven in
-    let whole : 2 ^ (7 - k) * (2 * 2 ^ k) ≡ 256 = mul-left-comm (2 ^ (7 - k)) 2 (2 ^ k) ∙ ap (λ (e : ℕ). 2 * e) half in
+    let whole : 2 ^ (7 - k) * (2 * 2 ^ k) ≡ 256 = rw (mul-left-comm (2 ^ (7 - k)) 2 (2 ^ k), ← (pow-add 2 (7 - k) k), seven) in
     let full : 0 < 2 * 2 ^ k = omega (arith, pow-pos k) in
     let top : x / (2 * 2 ^ k) < 2 ^ (7 - k) = div-lt-iff-lt-mul full .1 (rw whole hx) in
     rw whole at (digits-lt top (digits-lt hb (mod-lt x (pow-pos k))))
@@ -72,13 +68,14 @@ digit-is x h k b e = rw e
 
 -- ---- what a written bit is, and what it leaves
 
+-- The bits above the written one, that bit, and those below it.
+digit-parts : (x k b : ℕ) → withDigit x k b ≡ (x / (2 * 2 ^ k) * 2 + b) * 2 ^ k + x % 2 ^ k
+unfolding withDigit
+digit-parts x k b = simp (add-mul, mul-assoc, add-assoc)
+
 -- The bit written is the bit read.
 digit-same : (x k b : ℕ) → b < 2 → withDigit x k b / 2 ^ k % 2 ≡ b
-unfolding withDigit
-digit-same x k b h =
-    let regroup : x / (2 * 2 ^ k) * (2 * 2 ^ k) + (b * 2 ^ k + x % 2 ^ k) ≡ (x / (2 * 2 ^ k) * 2 + b) * 2 ^ k + x % 2 ^ k =
-    simp (add-mul, mul-assoc, add-assoc) in
-    rw (regroup, digits-div (x / (2 * 2 ^ k) * 2 + b) (mod-lt x (pow-pos k))) (digits-mod (x / (2 * 2 ^ k)) h)
+digit-same x k b h = rw (digit-parts x k b, digits-div (x / (2 * 2 ^ k) * 2 + b) (mod-lt x (pow-pos k))) (digits-mod (x / (2 * 2 ^ k)) h)
 
 -- Bits of a higher worth are kept.
 digit-high : (x k b m : ℕ) → b < 2 → k < m → withDigit x k b / 2 ^ m ≡ x / 2 ^ m
@@ -92,50 +89,39 @@ digit-high x k b m h l =
 
 -- Bits of a lower worth are kept.
 digit-low : (x k b m : ℕ) → m < k → withDigit x k b / 2 ^ m % 2 ≡ x / 2 ^ m % 2
-unfolding withDigit
 digit-low x k b m l =
-    let regroup : x / (2 * 2 ^ k) * (2 * 2 ^ k) + (b * 2 ^ k + x % 2 ^ k) ≡ (x / (2 * 2 ^ k) * 2 + b) * 2 ^ k + x % 2 ^ k =
-    simp (add-mul, mul-assoc, add-assoc) in
     let e : k ≡ k - m - 1 + 1 + m = omega arith in
     let part : (y : ℕ) → y / 2 ^ m % 2 ≡ y % 2 ^ k / 2 ^ m % 2 =
     λ y. sym (ap (λ (j : ℕ). y % 2 ^ j / 2 ^ m % 2) e ∙ ap (λ (z : ℕ). z % 2) (field y (k - m - 1 + 1) m) ∙ mod-mod-pow (y / 2 ^ m) (k - m - 1) 1) in
-    part (x / (2 * 2 ^ k) * (2 * 2 ^ k) + (b * 2 ^ k + x % 2 ^ k))
-    ∙ ap (λ (y : ℕ). y / 2 ^ m % 2) (ap (λ (y : ℕ). y % 2 ^ k) regroup ∙ digits-mod (x / (2 * 2 ^ k) * 2 + b) (mod-lt x (pow-pos k)))
-    ∙ sym (part x)
+    rw (part (withDigit x k b), part x, digit-parts x k b, digits-mod (x / (2 * 2 ^ k) * 2 + b) (mod-lt x (pow-pos k)))
 
 pub bit-same : (s : List ℕ) (i b : ℕ) → b < 2 → i < 8 * length s → bitAt (withBit s i b) i ≡ b
 unfolding bitAt withBit
 bit-same s i b h l =
-    let at : i / 8 < length s = omega arith in
-    rw (getD-set-same s (i / 8) (withDigit (getD s (i / 8) 0) (after i) b) 0 at) (digit-same (getD s (i / 8) 0) (after i) b h)
+    rw (getD-set-same s (i / 8) (withDigit (getD s (i / 8) 0) (after i) b) 0 (omega arith)) (digit-same (getD s (i / 8) 0) (after i) b h)
 
 same-byte : (x k b m : ℕ) → b < 2 → m ≢ k → withDigit x k b / 2 ^ m % 2 ≡ x / 2 ^ m % 2
-same-byte x k b m h n = go (decLt m k)
-  where
-    go : Dec (m < k) → withDigit x k b / 2 ^ m % 2 ≡ x / 2 ^ m % 2
-    go (yes l) = digit-low x k b m l
-    go (no l) = ap (λ (y : ℕ). y % 2) (digit-high x k b m h (omega arith))
+same-byte x k b m h n = elim (decLt m k) [ yes l ↦ digit-low x k b m l | no l ↦ ap (λ (y : ℕ). y % 2) (digit-high x k b m h (omega arith)) ]
+
+-- An entry after a set is the one before it, or the one that was set.
+pub set-ways : (P : ℕ → Type 0) (s : List ℕ) (n k x : ℕ) → P (getD s k 0) → (k ≡ n → P x) → P (getD (set s n x) k 0)
+set-ways P s n k x old new = elim (ℕ-discrete k n) [
+  | no d ↦ rw (getD-set-other s n k x 0 d) old
+  | yes e ↦ elim (decLt n (length s)) [ yes l ↦ rw (e, getD-set-same s n x 0 l) (new e) | no l ↦ rw (set-out s n x (omega arith)) old ]
+]
 
 -- All other bits are kept.
 pub bit-other : (s : List ℕ) (i b j : ℕ) → b < 2 → j ≢ i → bitAt (withBit s i b) j ≡ bitAt s j
 unfolding bitAt withBit
-bit-other s i b j h n = go (ℕ-discrete (j / 8) (i / 8)) (decLt (i / 8) (length s))
-  where
-    go : Dec (j / 8 ≡ i / 8) → Dec (i / 8 < length s) →
-        getD (set s (i / 8) (withDigit (getD s (i / 8) 0) (after i) b)) (j / 8) 0 / 2 ^ after j % 2 ≡ getD s (j / 8) 0 / 2 ^ after j % 2
-    go (no d) l = ap (λ (y : ℕ). y / 2 ^ after j % 2) (getD-set-other s (i / 8) (j / 8) (withDigit (getD s (i / 8) 0) (after i) b) 0 d)
-    go (yes e) (no l) = ap (λ (y : List ℕ). getD y (j / 8) 0 / 2 ^ after j % 2) (set-out s (i / 8) (withDigit (getD s (i / 8) 0) (after i) b) (omega arith))
-    go (yes e) (yes l) =
-        rw (e, getD-set-same s (i / 8) (withDigit (getD s (i / 8) 0) (after i) b) 0 l)
-        (same-byte (getD s (i / 8) 0) (after i) b (after j) h (λ a. n (place-of j i e a)))
+bit-other s i b j h n =
+    set-ways (λ y. y / 2 ^ after j % 2 ≡ getD s (j / 8) 0 / 2 ^ after j % 2) s (i / 8) (j / 8) (withDigit (getD s (i / 8) 0) (after i) b) refl
+    (λ e. rw e (same-byte (getD s (i / 8) 0) (after i) b (after j) h (λ a. n (place-of j i e a))))
 
 -- The last bit of a field is written first.
 pub field-step : (s : List ℕ) (i k v : ℕ) → 0 < k → withField s i k v ≡ withField (withBit s (i + (k - 1)) (v % 2)) i (k - 1) (v / 2)
 unfolding withField
 field-step s i zero v h = absurd (omega arith)
-field-step s i (suc k) v h =
-    let e : suc k - 1 ≡ k = omega arith in
-    rw e
+field-step s i (suc k) v h = let e : suc k - 1 ≡ k = omega arith in rw e
 
 pub length-bit : (s : List ℕ) (i b : ℕ) → length (withBit s i b) ≡ length s
 unfolding withBit

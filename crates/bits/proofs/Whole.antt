@@ -1,18 +1,19 @@
 -- Bytes are known from their bits: as many bytes with the same bits are the same bytes.
 use Prim.Native.Nat.{ℕ, zero, suc, _+_, _-_, _*_, _/_, _%_, _^_, _≤_, _<_}
-use mathlib.Core.Path.{_≡_, refl}
+use mathlib.Core.Path.{_≡_}
 use mathlib.Core.List.{List}
-use mathlib.Core.Bool.{Bool, true, false, _&&_, false≢true}
-use native.Mathlib.Decide.{decLt, ℕ-discrete}
+use mathlib.Core.Bool.{true, false≢true}
+use native.Mathlib.Decide.{ℕ-discrete}
 use native.Mathlib.Nat.{pow-suc}
 use native.Mathlib.Omega.{arith}
 use lib.Dec.{eqb, leb}
 use lib.Pow.{shr-shr}
-use lib.ListN.{length, getD, set}
-use lib.Seq.{getD-set-same, getD-set-other, set-out, ext-getD}
+use lib.ListN.{length, getD}
+use lib.Seq.{ext-getD}
 use borrow.Author.Tests.{eqb-true, leb-true}
+use borrow.Table.Steps.{cases}
 use Rattle.bits.specs.Bits.{after, bitAt, valueAt, bytesTo, restOf, filledAt, endsAt, withDigit, withBit, withField}
-use Rattle.bits.proofs.Laws.{bit-lt, after-lt, digit-lt}
+use Rattle.bits.proofs.Laws.{bit-lt, after-lt, digit-lt, set-ways}
 
 -- Every entry is a byte.
 abbrev pub Bytes : List ℕ → Type 0
@@ -53,35 +54,19 @@ value-bits s t i (suc w) e j a b =
 -- What it says that bytes end at a place.
 pub ends-says : (s : List ℕ) (i : ℕ) → endsAt s i ≡ true → (length s ≡ bytesTo i) × (valueAt s i (restOf i) ≡ 0)
 unfolding endsAt
-ends-says s i e = go (eqb (length s) (bytesTo i)) (eqb (valueAt s i (restOf i)) 0) refl refl e
-  where
-    go : (a b : Bool) → eqb (length s) (bytesTo i) ≡ a → eqb (valueAt s i (restOf i)) 0 ≡ b → a && b ≡ true → (length s ≡ bytesTo i) × (valueAt s i (restOf i) ≡ 0)
-    go true true p q e = (eqb-true _ _ p, eqb-true _ _ q)
-    go true false p q e = absurd (false≢true e)
-    go false b p q e = absurd (false≢true e)
+ends-says s i e = cases (eqb (length s) (bytesTo i)) (λ p. (eqb-true _ _ p, eqb-true _ _ (rw p at e))) (λ p. absurd (false≢true (rw p at e)))
 
 -- And that a byte's rest is there.
 pub fills-says : (s : List ℕ) (i : ℕ) → filledAt s i ≡ true → bytesTo i ≤ length s
 unfolding filledAt
-fills-says s i e = go (leb (bytesTo i) (length s)) refl e
-  where
-    go : (b : Bool) → leb (bytesTo i) (length s) ≡ b → b && eqb (valueAt s i (restOf i)) 0 ≡ true → bytesTo i ≤ length s
-    go true p q = leb-true _ _ p
-    go false p q = absurd (false≢true q)
+fills-says s i e = cases (leb (bytesTo i) (length s)) (leb-true _ _) (λ p. absurd (false≢true (rw p at e)))
 
 -- ---- bytes that are written stay bytes
 
 bytes-bit : (s : List ℕ) (i b : ℕ) → b < 2 → Bytes s → Bytes (withBit s i b)
 unfolding withBit
-bytes-bit s i b l h k = go (ℕ-discrete k (i / 8)) (decLt (i / 8) (length s))
-  where
-    x : ℕ
-    x = withDigit (getD s (i / 8) 0) (after i) b
-
-    go : Dec (k ≡ i / 8) → Dec (i / 8 < length s) → getD (set s (i / 8) x) k 0 < 256
-    go (no d) g = rw (getD-set-other s (i / 8) k x 0 d) (h k)
-    go (yes e) (no g) = rw (set-out s (i / 8) x (omega arith)) (h k)
-    go (yes e) (yes g) = rw (e, getD-set-same s (i / 8) x 0 g) (digit-lt (getD s (i / 8) 0) (after i) b (h (i / 8)) (after-lt i) l)
+bytes-bit s i b l h k =
+    set-ways (λ y. y < 256) s (i / 8) k (withDigit (getD s (i / 8) 0) (after i) b) (h k) (λ e. digit-lt (getD s (i / 8) 0) (after i) b (h (i / 8)) (after-lt i) l)
 
 pub bytes-field : (s : List ℕ) (i w v : ℕ) → Bytes s → Bytes (withField s i w v)
 unfolding withField

@@ -2,16 +2,17 @@
 use mathlib.Core.Path.{_≡_, refl, sym, ap, ap₂, _∙_}
 use mathlib.Core.List.{List}
 use Prim.Native.Nat.{ℕ, zero, suc, _+_, _-_, _*_, _/_, _%_, _^_, _≤_, _<_, min}
-use native.Mathlib.Nat.{pow-suc, mul-assoc, add-zero}
+use native.Mathlib.Nat.{pow-suc, add-zero, add-suc, add-assoc}
 use native.Mathlib.Omega.{arith}
 use lib.Pow.{shr-shr}
 use lib.Arith.{digits-div, digits-mod}
 use lib.ListN.{length, getD, set, drop, replicate, length-drop, length-set, List·getD-eq-default}
 use lib.Seq.{getD-drop, getD-set-same, getD-set-other}
-use native.Mathlib.Decide.{ℕ-discrete, decLt, decLe}
+use native.Mathlib.Decide.{ℕ-discrete, decLt}
 use mathlib.Core.Bool.{false, and-true}
 use lib.Dec.{eqb, leb}
-use borrow.Author.Tests.{le-leb, lt-leb, eq-eqb, ne-eqb}
+use borrow.Author.Tests.{le-leb, lt-leb, eq-eqb, ne-eqb, leb-true, leb-false}
+use borrow.Table.Steps.{cases}
 use Rattle.bits.specs.declared.Cursor.{Cursor}
 use Rattle.bits.specs.declared.FieldRead.the-variants.{Value, Truncated}
 use Rattle.bits.specs.Bits.{after, bitAt, valueAt, cursorAt, fieldAt, bytesTo, restOf, filledAt, endsAt}
@@ -22,12 +23,7 @@ use Rattle.bits.proofs.Laws.{value-lt, value-small, value-cong}
 pub value-split : (s : List ℕ) (i a b : ℕ) → valueAt s i (a + b) ≡ valueAt s i a * 2 ^ b + valueAt s (i + a) b
 unfolding valueAt
 value-split s i a zero = rw add-zero (omega arith)
-value-split s i a (suc b) =
-    let more : valueAt s i a * 2 ^ suc b ≡ 2 * (valueAt s i a * 2 ^ b) = rw pow-suc (omega (arith, sym (mul-assoc (valueAt s i a) (2 ^ b) 2))) in
-    let there : bitAt s (i + (a + b)) ≡ bitAt s (i + a + b) = ap (bitAt s) (omega arith) in
-    let last : a + suc b ≡ suc (a + b) = omega arith in
-    let one : valueAt s i (a + suc b) ≡ 2 * valueAt s i (a + b) + bitAt s (i + (a + b)) = ap (valueAt s i) last in
-    omega (arith, more, there, one, value-split s i a b)
+value-split s i a (suc b) = rw (add-suc a b, ← (add-assoc i a b), pow-suc) (omega (arith, value-split s i a b))
 
 -- The w bits after the first u of n.
 pub value-cut : (s : List ℕ) (i u w n : ℕ) → u + w ≤ n → valueAt s (i + u) w ≡ valueAt s i n / 2 ^ (n - (u + w)) % 2 ^ w
@@ -91,10 +87,7 @@ straddle-fits s b u w v hu hw l e =
 -- A cursor at a place.
 pub stands : {c : Cursor} {i : ℕ} → c ≡ cursorAt i → (c .used < 8) × (8 * c .byte + c .used ≡ i)
 unfolding cursorAt
-stands {c} {i} e =
-    let byte : c .byte ≡ i / 8 = ap (λ (k : Cursor). k .byte) e in
-    let used : c .used ≡ i % 8 = ap (λ (k : Cursor). k .used) e in
-    (omega arith, omega arith)
+stands e = rw e (omega arith)
 
 -- The cursor that stands where another does, in a byte that is not used up.
 pub stands-there : {c : Cursor} {i : ℕ} → c ≡ cursorAt (i + 0) → (c .used < 8) × (8 * c .byte + c .used ≡ i)
@@ -179,11 +172,13 @@ copied-more s at k e h l = record {
 
 -- What was copied opens the bytes from number `at` on.
 pub copied-opens : (s : List ℕ) (at : ℕ) (e : List ℕ) → at ≤ length s → Copied s at (min (length s - at) 256) e → Opens e (drop at s) (length s - at)
-copied-opens s at e l h = record { first = λ k g. first k g (decLt k (length s - at)); many = length-drop at s }
-  where
-    first : (k : ℕ) → k < length e → Dec (k < length s - at) → getD e k 0 ≡ getD (drop at s) k 0
-    first k g (yes q) = h .there k (omega (arith, h .long)) ∙ sym (getD-drop at s k 0)
-    first k g (no q) = h .zeros k (omega arith) ∙ sym (getD-drop at s k 0 ∙ List·getD-eq-default s 0 (omega arith))
+copied-opens s at e l h = record {
+  first = λ k g. rw (getD-drop at s k 0) (elim (decLt k (length s - at)) [
+    | yes q ↦ h .there k (omega (arith, h .long))
+    | no q ↦ h .zeros k (omega arith) ∙ sym (List·getD-eq-default s 0 (omega arith))
+  ]);
+  many = length-drop at s;
+}
 
 -- ---- the bytes from number b on
 
@@ -197,14 +192,10 @@ bit-drop s b i =
 pub value-drop : (s : List ℕ) (b i w : ℕ) → valueAt s (8 * b + i) w ≡ valueAt (drop b s) i w
 unfolding valueAt
 value-drop s b i zero = refl
-value-drop s b i (suc w) =
-    let there : 8 * b + i + w ≡ 8 * b + (i + w) = omega arith in
-    omega (arith, value-drop s b i w, ap (bitAt s) there ∙ bit-drop s b (i + w))
+value-drop s b i (suc w) = omega (arith, value-drop s b i w, ap (bitAt s) (add-assoc (8 * b) i w) ∙ bit-drop s b (i + w))
 
 -- Whether the bytes go on to the end of a field, there as here.
 pub fits-drop : (s : List ℕ) (b n : ℕ) → b ≤ length s → leb (8 * b + n) (8 * length s) ≡ leb n (8 * length (drop b s))
-fits-drop s b n h = go (decLe n (8 * length (drop b s)))
-  where
-    go : Dec (n ≤ 8 * length (drop b s)) → leb (8 * b + n) (8 * length s) ≡ leb n (8 * length (drop b s))
-    go (yes l) = le-leb (8 * b + n) (8 * length s) (omega (arith, length-drop b s)) ∙ sym (le-leb n (8 * length (drop b s)) l)
-    go (no l) = lt-leb (8 * b + n) (8 * length s) (omega (arith, length-drop b s)) ∙ sym (lt-leb n (8 * length (drop b s)) (omega arith))
+fits-drop s b n h = cases (leb n (8 * length (drop b s)))
+    (λ t. rw t (le-leb (8 * b + n) (8 * length s) (omega (arith, leb-true, length-drop b s))))
+    (λ t. rw t (lt-leb (8 * b + n) (8 * length s) (omega (arith, leb-false, length-drop b s))))

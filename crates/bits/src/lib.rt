@@ -31,7 +31,7 @@ impl Cursor {
     // How many bytes the word has from which a field is cut where it can be.
     const WORD_BYTES: usize = 4;
 
-    const WORD_BITS: usize = 32;
+    const WORD_BITS: usize = Cursor::WORD_BYTES * Cursor::BYTE_BITS;
 
     // The first bit.
     pub fn new() -> Self

@@ -1,17 +1,16 @@
 -- The choices of a match's inputs, one after another: where each stands, and what they list.
 use Prim.Native.Nat.{ℕ, zero, suc, _+_, _-_, _≤_, _<_}
-use mathlib.Core.Path.{_≡_, refl, sym, ap, ap₂, subst, _∙_}
+use mathlib.Core.Path.{_≡_, refl, sym, ap, ap₂, _∙_}
 use mathlib.Core.Bool.{Bool}
 use mathlib.Core.List.{List, [], _∷_, _++_, map, map-append, append-assoc, append-nil, List·Memᴰ, List·Memᴰ·head, List·Memᴰ·tail, List·Memᴰ·not-nil}
 use mathlib.Core.Option.{Option, none, some, Option·map, Option·none-ne-some, Option·some-injective, map-eq-some-iff}
 use native.Mathlib.Numerals.{add-one}
 use native.Mathlib.Nat.{add-zero, add-assoc}
 use native.Mathlib.Omega.{arith}
-use lib.ListN.{length, getD, take, drop, length-append, length-map}
-use lib.Seq.{sets, sets-eq, take-suc, take-all, take-append-seam}
-use Rattle.fields.proofs.Lists.{sets-append, at-mem}
-use Rattle.sheets_rules.specs.Model.{Shape, Pin, Cell, Library, Tree}
-use Rattle.covers.specs.Lists.{firstSuch}
+use lib.ListN.{length, getD, take, length-append, length-map}
+use lib.Seq.{sets, take-suc, take-all}
+use Rattle.fields.proofs.Lists.{sets-append, take-sets, at-mem}
+use Rattle.sheets_rules.specs.Model.{Shape, Cell, Library, Tree}
 use Rattle.covers.specs.Match.{Input, Match, IsMatch, matches, pinAt, pinLoad}
 use Rattle.covers.specs.Cover.{Point, Placed, Cover, nothing, together, delayed, topped, feeds, inputDelay}
 use Rattle.covers.specs.Enumeration.{under, covers}
@@ -28,7 +27,7 @@ use Rattle.covers.proofs.Bounds.{match-cell}
 use Rattle.covers.proofs.FromSheets.{binned}
 use Rattle.filling.proofs.Node.{leaf-here}
 use Rattle.result_sheets.specs.declared.CoverRecord.{CoverRecord}
-use Rattle.result_sheets.specs.Public.{placedOf, coverOf}
+use Rattle.result_sheets.specs.Public.{coverOf}
 use Rattle.result_sheets.proofs.Laws.{placed-parts}
 use Rattle.choosing.specs.declared.Goal.{Goal}
 use Rattle.choosing.specs.declared.Inputs.{Inputs}
@@ -50,25 +49,26 @@ module _ (l : Library) (cell : Cell) (load t : ℕ) where
   inputsPlaced (i ∷ is) = chosenPlaced (inputChoice i) ++ inputsPlaced is
 
   -- Each input is chosen, and the whole lists what they list.
-  pub each-chosen : (is : List Input) {d : Cover} → chosenInputs (under l (choice l)) cell load t is ≡ some d → (i : Input) → List·Memᴰ i is → (c : Cover) × (inputChoice i ≡ some c)
-  unfolding chosenInputs under
-  each-chosen [] e i m = absurd (List·Memᴰ·not-nil m)
-  each-chosen (j ∷ is) e i (List·Memᴰ·head q) =
+  abbrev together-chosen : List Input → Cover → Type 0
+  together-chosen is d = chosenInputs (under l (choice l)) cell load t is ≡ some d
+
+  first-chosen : (j : Input) (is : List Input) {d : Cover} → together-chosen (j ∷ is) d →
+      (c : Cover) × (x : Cover) × (inputChoice j ≡ some c) × together-chosen is x × (d .placed ≡ c .placed ++ x .placed)
+  unfolding chosenInputs under together delayed
+  first-chosen j is e =
       let r = chosen-some (Option·map (delayed (inputDelay cell load j)) (inputChoice j)) (chosenInputs (under l (choice l)) cell load t is) e in
       let k = map-eq-some-iff (delayed (inputDelay cell load j)) (inputChoice j) .0 (r .2) in
-      (k .0, ap inputChoice q ∙ k .1)
-  each-chosen (j ∷ is) e i (List·Memᴰ·tail k) =
-      let r = chosen-some (Option·map (delayed (inputDelay cell load j)) (inputChoice j)) (chosenInputs (under l (choice l)) cell load t is) e in
-      each-chosen is (r .3) i k
+      (k .0, r .1, k .1, r .3, ap (λ (c : Cover). c .placed) (rw (← k .2) at (r .4)))
+
+  pub each-chosen : (is : List Input) {d : Cover} → chosenInputs (under l (choice l)) cell load t is ≡ some d → (i : Input) → List·Memᴰ i is → (c : Cover) × (inputChoice i ≡ some c)
+  each-chosen [] e i m = absurd (List·Memᴰ·not-nil m)
+  each-chosen (j ∷ is) e i (List·Memᴰ·head q) = let r = first-chosen j is e in (r .0, ap inputChoice q ∙ r .2)
+  each-chosen (j ∷ is) e i (List·Memᴰ·tail k) = each-chosen is (first-chosen j is e .3) i k
 
   pub all-placed : (is : List Input) {d : Cover} → chosenInputs (under l (choice l)) cell load t is ≡ some d → d .placed ≡ inputsPlaced is
-  unfolding chosenInputs under inputsPlaced chosenPlaced nothing together delayed
+  unfolding chosenInputs inputsPlaced chosenPlaced nothing
   all-placed [] e = ap (λ (c : Cover). c .placed) (sym (Option·some-injective _ _ e))
-  all-placed (j ∷ is) {d} e =
-      let r = chosen-some (Option·map (delayed (inputDelay cell load j)) (inputChoice j)) (chosenInputs (under l (choice l)) cell load t is) e in
-      let k = map-eq-some-iff (delayed (inputDelay cell load j)) (inputChoice j) .0 (r .2) in
-      ap (λ (c : Cover). c .placed) (r .4)
-      ∙ ap₂ (λ (xs ys : List Placed). xs ++ ys) (ap (λ (c : Cover). c .placed) (sym (k .2)) ∙ sym (ap chosenPlaced (k .1))) (all-placed is (r .3))
+  all-placed (j ∷ is) e = let r = first-chosen j is e in rw (r .2, ← all-placed is (r .3)) (r .4)
 
   placed-last : (js : List Input) (i : Input) → inputsPlaced (js ++ (i ∷ [])) ≡ inputsPlaced js ++ chosenPlaced (inputChoice i)
   unfolding inputsPlaced
@@ -89,49 +89,33 @@ module _ (l : Library) (cell : Cell) (load t : ℕ) where
 
 -- ---- a cover's record
 
-record-path : {a b n n′ : ℕ} {ns ns′ ps ps′ xs xs′ : List ℕ} → n ≡ n′ → ns ≡ ns′ → ps ≡ ps′ → xs ≡ xs′ →
-    _≡_ {A = CoverRecord} (record { area = a; arrival = b; count = n; nodes = ns; patterns = ps; crossings = xs }) (record { area = a; arrival = b; count = n′; nodes = ns′; patterns = ps′; crossings = xs′ })
-record-path p q r s = cc
-
 -- Nothing appended, and matches appended one list after another.
 pub appended-none : (c : CoverRecord) → c ≡ appended c []
-appended-none c = record-path (sym (add-zero (c .count))) refl refl refl
+appended-none c = rw add-zero
 
 pub appended-more : (c : CoverRecord) (xs ys : List Placed) → appended (appended c xs) ys ≡ appended c (xs ++ ys)
-appended-more c xs ys =
-    record-path (add-assoc (c .count) (length xs) (length ys) ∙ ap (λ (n : ℕ). c .count + n) (sym (length-append xs ys)))
-    (run (λ (x : Placed). x .node) (c .nodes)) (run (λ (x : Placed). x .pattern) (c .patterns)) (run (λ (x : Placed). x .crossing) (c .crossings))
+appended-more c xs ys = rw (length-append xs ys, add-assoc, run (λ x. x .node) (c .nodes), run (λ x. x .pattern) (c .patterns), run (λ x. x .crossing) (c .crossings))
   where
     run : (f : Placed → ℕ) (l : List ℕ) → sets (sets l (c .count) (map f xs)) (c .count + length xs) (map f ys) ≡ sets l (c .count) (map f (xs ++ ys))
-    run f l =
-        ap (λ (n : ℕ). sets (sets l (c .count) (map f xs)) (c .count + n) (map f ys)) (sym (length-map xs f))
-        ∙ sym (sets-append l (c .count) (map f xs) (map f ys)) ∙ ap (sets l (c .count)) (sym (map-append f xs ys))
+    run f l = rw (map-append, sets-append, length-map)
 
 -- The cover that a record with no match is, with matches appended.
 pub appended-cover : (c : CoverRecord) (xs : List Placed) → c .count ≡ 0 → length xs ≤ length (c .nodes) → length xs ≤ length (c .patterns) → length xs ≤ length (c .crossings) →
     coverOf (appended c xs) ≡ record { point = record { area = c .area; arrival = c .arrival }; placed = xs }
-appended-cover c xs e hn hp hx =
-    ap (λ (ps : List Placed). record { point = record { area = c .area; arrival = c .arrival }; placed = ps })
-    (rw (front (λ x. x .node) (c .nodes) hn, front (λ x. x .pattern) (c .patterns) hp, front (λ x. x .crossing) (c .crossings) hx) (placed-parts xs))
+appended-cover c xs e hn hp hx = rw (front (λ x. x .node) (c .nodes) hn, front (λ x. x .pattern) (c .patterns) hp, front (λ x. x .crossing) (c .crossings) hx, placed-parts xs)
   where
     front : (f : Placed → ℕ) (ns : List ℕ) → length xs ≤ length ns → take (c .count + length xs) (sets ns (c .count) (map f xs)) ≡ map f xs
-    front f ns h =
-        let vs = map f xs in
-        let many : c .count + length xs ≡ length vs = omega (arith, length-map xs f, e) in
-        ap₂ (λ (n i : ℕ). take n (sets ns i vs)) many e ∙ ap (take (length vs)) (sets-eq vs ns 0 (omega (arith, length-map xs f))) ∙ take-append-seam vs (drop (0 + length vs) ns)
+    front f ns h = rw (e, ← length-map xs f) (take-sets ns 0 (map f xs) (omega (arith, length-map xs f)))
 
 -- ---- the match at a gate
 
-first-in : {A : Type 0} (test : A → Bool) (xs : List A) {x : A} → firstSuch test xs ≡ some x → List·Memᴰ x xs
-first-in test xs {x} e = go (first-of test xs) e
-  where
-    go : {o : Option _} → FirstOf test xs o → o ≡ some x → List·Memᴰ x xs
-    go (nowhere a) f = absurd (Option·none-ne-some x f)
-    go (somewhere m h) f = subst (λ y. List·Memᴰ y xs) (Option·some-injective _ _ f) m
+first-in : {A : Type 0} {test : A → Bool} {xs : List A} {o : Option A} {x : A} → FirstOf test xs o → o ≡ some x → List·Memᴰ x xs
+first-in (nowhere a) e = absurd (Option·none-ne-some _ e)
+first-in (somewhere m h) e = rw (Option·some-injective _ _ e) at m
 
 pub first-match : (l : Library) (load n : ℕ) (s : Shape) (p : Point) {m : Match} → firstReaching l load n s p ≡ some m → IsMatch l load n s m
 unfolding firstReaching
-first-match l load n s p e = matches-are l load n s (first-in _ (matches l load n s) e)
+first-match l load n s p e = matches-are l load n s (first-in (first-of _ (matches l load n s)) e)
 
 -- The same, of equal lengths.
 rehoused : {most : ℕ} {l : Library} {t : Tree} {rows ss zs : List ℕ} {room room′ : ℕ} {work : List ℕ} → Prepared most l t rows ss zs room work → room ≡ room′ → Prepared most l t rows ss zs room′ work
@@ -181,7 +165,7 @@ pub record Following (most : ℕ) (l : Library) (t : Tree) (rows ss zs : List �
 module _ {most : ℕ} {l : Library} {t : Tree} {rows ss zs : List ℕ} {room : ℕ} {work : List ℕ} {n : ℕ} {inputs : Inputs} {start : ℕ} (top : Topmost most l t rows ss zs room work n inputs start)
     {k : ℕ} (inside : k < inputs .count) {cover : CoverRecord} (so-far : cover .count ≡ start + length (placedTo top k)) {room′ : ℕ} (same : room ≡ room′) {next : Goal} (asked : next ≡ goalAt inputs k) where
   pub following : Following most l t rows ss zs room′ work n next cover (placedTo top k) (placedTo top (k + 1))
-  unfolding chosenPlaced
+  unfolding chosenPlaced feeds pinAt pinLoad
   following =
       let m = top .match in
       let cell = m .pattern .cell in
@@ -190,16 +174,17 @@ module _ {most : ℕ} {l : Library} {t : Tree} {rows ss zs : List ℕ} {room : �
       let goal = goalOf l m (top .load) (top .time) i in
       let mem = at-mem (m .inputs) k noInput is in
       let deep = spread-in (match-inside (top .fitting) .spread) mem in
-      let c = each-chosen l cell (top .load) (top .time) (m .inputs) (top .chosen) i mem in
+      let each = each-chosen l cell (top .load) (top .time) (m .inputs) (top .chosen) in
+      let c = each i mem in
+      let b = binned (top .prepared .decoded .library) in
       let driven : Driven l t goal (i .shape) = record {
         node = nodes-within 0 (t .shape) (top .here) (input-in (top .fitting) i mem);
-        drives = below (omega (arith, deep .0)) (pin-bin i) (pin-load (feeds cell i));
+        drives = below (omega (arith, deep .0)) (at-all (λ p. p .bin < length (l .bins)) (cell .pins) (i .pin) _ (b .some-bin) (b .pins cell (match-cell (top .fitting)))) refl;
         time-small = omega (arith, top .time-small);
         some-cover = (c .0 .point, sym (choice-point l (goal .load) (i .node) (i .shape) (goal .time)) ∙ ap (Option·map (λ (x : Cover). x .point)) (c .1));
       } in
-      let room-left = spread-few l cell (top .load) (top .time) (match-inside (top .fitting) .spread) (λ j h. few-placed j (each-chosen l cell (top .load) (top .time) (m .inputs) (top .chosen) j h)) k is in
-      subst (λ (g : Goal). Following most l t rows ss zs room′ work n g cover (placedTo top k) (placedTo top (k + 1))) (sym (asked ∙ top .inputs-are .each k is))
-      (record {
+      let room-left = spread-few l cell (top .load) (top .time) (match-inside (top .fitting) .spread) (λ j h. rw (each j h .1) (few-matches (choice-handed l _ _ _ _ (each j h .1) .legal))) k is in
+      rw (asked ∙ top .inputs-are .each k is) (record {
         shape = i .shape;
         chooses = record { prepared = rehoused (top .prepared) same; driven = driven; fits = omega (arith, room-left, match-inside (top .fitting) .fewer, so-far, top .fits) };
         smaller = omega (arith, size-at (ready (top .prepared) driven), size-at (record { decoded = top .prepared .decoded; here = top .here; room-is = top .prepared .room-is }), input-smaller (top .fitting) mem);
@@ -207,30 +192,16 @@ module _ {most : ℕ} {l : Library} {t : Tree} {rows ss zs : List ℕ} {room : �
         choice-is = c .1;
         more = placed-more l cell (top .load) (top .time) (m .inputs) k is ∙ ap (λ (o : Option Cover). placedTo top k ++ chosenPlaced o) (c .1);
       })
-    where
-      pin-bin : (i : Input) → feeds (top .match .pattern .cell) i .bin < length (l .bins)
-      pin-bin i = unfold feeds pinAt in
-          let b = binned (top .prepared .decoded .library) in
-          at-all (λ p. p .bin < length (l .bins)) (top .match .pattern .cell .pins) (i .pin) (record { bin = 0; intrinsic = 0; drive = 0 }) (b .some-bin) (b .pins (top .match .pattern .cell) (match-cell (top .fitting)))
-
-      pin-load : (p : Pin) → pinLoad l p ≡ getD (l .bins) (p .bin) 0
-      pin-load p = unfold pinLoad in refl
-
-      few-placed : (j : Input) → (c : Cover) × (inputChoice l (top .match .pattern .cell) (top .load) (top .time) j ≡ some c) → length (chosenPlaced (inputChoice l (top .match .pattern .cell) (top .load) (top .time) j)) ≤ gates (j .shape)
-      few-placed j x = unfold chosenPlaced in
-          let cell = top .match .pattern .cell in
-          rw (x .1) (few-matches (choice-handed l (pinLoad l (feeds cell j)) (j .node) (j .shape) (top .time - inputDelay cell (top .load) j) (x .1) .legal))
 
 -- ---- the choice at a node
 
 module _ {most : ℕ} {l : Library} {t : Tree} {rows ss zs : List ℕ} {room : ℕ} {work : List ℕ} {goal : Goal} {cover : CoverRecord} {s : Shape} (all : Chooses most l t rows ss zs room work goal cover s) where
   -- At a leaf nothing is listed.
   pub leaf-appended : 2 ≤ getD ss (goal .node) 0 → (c : Cover) → choice l (goal .load) (goal .node) s (goal .time) ≡ some c → cover ≡ appended cover (c .placed)
-  leaf-appended h c e = go (c .placed) (few-matches (choice-handed l (goal .load) (goal .node) s (goal .time) e .legal))
-    where
-      go : (xs : List Placed) → length xs ≤ gates s → cover ≡ appended cover xs
-      go [] k = appended-none cover
-      go (x ∷ xs) k = absurd (omega (arith, leaf-here (ready (all .prepared) (all .driven)) h))
+  leaf-appended h c e =
+      let no-gate = leaf-here (ready (all .prepared) (all .driven)) h in
+      (elim (c .placed) as (λ xs. length xs ≤ gates s → cover ≡ appended cover xs) [ [] ↦ λ k. appended-none cover | x ∷ xs ↦ λ k. absurd (omega arith) ])
+      (few-matches (choice-handed l (goal .load) (goal .node) s (goal .time) e .legal))
 
   -- At a gate the match is listed, then what its inputs list.
   pub gate-top : 0 < gates s → (c : Cover) → choice l (goal .load) (goal .node) s (goal .time) ≡ some c → (inputs : Inputs) →
@@ -250,8 +221,8 @@ module _ {most : ℕ} {l : Library} {t : Tree} {rows ss zs : List ℕ} {room : �
           rest = m .inputs;
           prepared = rehoused (all .prepared) same;
           here = all .driven .node;
-          fitting = first-match l (goal .load) (goal .node) s (p .0) (m .first);
           inputs-are = is;
+          fitting = first-match l (goal .load) (goal .node) s (p .0) (m .first);
           time-small = omega (arith, least-some (least-is (suc (goal .time)) (covers l (goal .load) (goal .node) s)) (p .1) .intime, all .driven .time-small);
           chosen = m .chosen;
           fits = omega (arith, all .fits, from);

@@ -1,9 +1,8 @@
 -- Which hit reaches a word, and the inputs read from a hit.
 use mathlib.Core.Path.{_≡_, sym, ap, _∙_}
-use mathlib.Core.Logic.{_⊎_, inl, inr}
 use mathlib.Core.Option.{Option, some, Option·none-ne-some, Option·some-injective}
 use mathlib.Core.List.{List}
-use Prim.Native.Nat.{ℕ, _+_, _-_, _≤_, _<_}
+use Prim.Native.Nat.{ℕ, _+_, _-_, _<_}
 use native.Mathlib.Decide.{ℕ-discrete}
 use native.Mathlib.Omega.{arith}
 use lib.ListN.{length, getD, set}
@@ -12,7 +11,6 @@ use Rattle.sheets_rules.specs.Model.{Library}
 use Rattle.covers.specs.Match.{Match}
 use Rattle.covers.specs.Cover.{Point, feeds}
 use Rattle.covers.specs.Inside.Curve.{pointOf, wordOf}
-use Rattle.covers.proofs.Basics.{lt-or-le}
 use Rattle.fields.proofs.Lists.{at-mem}
 use Rattle.cells.specs.declared.PinFigures.{PinFigures}
 use Rattle.cells.specs.Inside.Cell.{delayOf, figuresOf}
@@ -32,19 +30,12 @@ module _ (w r end : ℕ) (o : Option Point) (small : w < pointLimit) (g : Worth 
   reached e = g .point (λ z. omega arith) ∙ ap (λ (v : ℕ). some (pointOf v)) e
 
   pub unreached : (r ≡ w → ⊥) → o ≡ some (pointOf w) → ⊥
-  unreached d e = go (ℕ-discrete r absent)
-    where
-      go : Dec (r ≡ absent) → ⊥
-      go (yes z) = Option·none-ne-some (pointOf w) (sym (g .missing z) ∙ e)
-      go (no z) =
-          let q : pointOf r ≡ pointOf w = Option·some-injective _ _ (sym (g .point z) ∙ e) in
-          d (sym (word-point r) ∙ ap wordOf q ∙ word-point w)
+  unreached d e = elim (ℕ-discrete r absent) [
+    | yes z ↦ Option·none-ne-some (pointOf w) (sym (g .missing z) ∙ e)
+    | no z ↦ d (sym (word-point r) ∙ ap wordOf (Option·some-injective _ _ (sym (g .point z) ∙ e)) ∙ word-point w)
+  ]
 
 -- ---- goals
-
-goal-path : {a b c d a′ b′ c′ d′ : ℕ} → a ≡ a′ → b ≡ b′ → c ≡ c′ → d ≡ d′ →
-    _≡_ {A = Goal} (record { node = a; load = b; bin = c; time = d }) (record { node = a′; load = b′; bin = c′; time = d′ })
-goal-path p q r s = cc
 
 -- The goal in place i of four arrays.
 abbrev pub goalIn : List ℕ → List ℕ → List ℕ → List ℕ → ℕ → Goal
@@ -74,22 +65,17 @@ module _ (l : Library) (pattern hit : List ℕ) (m : Match) (holds : HitHolds l 
         let pin-is : getD hit (inputPlace k) 0 ≡ i .pin = holds .words (inputPlace k) (omega (arith, length-hit m)) ∙ hit-pin m k h in
         let node-is : getD hit (inputPlace k + 1) 0 ≡ i .node = holds .words (inputPlace k + 1) (omega (arith, length-hit m)) ∙ hit-node m k h in
         let f : pin ≡ figuresOf l (feeds (m .pattern .cell) i) = pin-read ∙ figures-are (holds .stored) i (holds .pinned i (at-mem (m .inputs) k noInput h)) pin-is in
-        goal-path node-is (ap (λ (q : PinFigures). q .load) f) (ap (λ (q : PinFigures). q .bin) f) (e ∙ ap (λ (q : PinFigures). t - delayOf q load) f ∙ ap (λ (d : ℕ). t - d) (delay-is l (m .pattern .cell) load i))
+        rw (e, f, node-is, delay-is l (m .pattern .cell) load i)
 
     -- One input more.
     pub inputs-turn : (nodes loads bins times : List ℕ) → k < hitCount hit → length nodes ≡ 6 → length loads ≡ 6 → length bins ≡ 6 → length times ≡ 6 →
         ((i : ℕ) → i < k → goalIn nodes loads bins times i ≡ goalOf l m load t (getD (m .inputs) i noInput)) →
         (i : ℕ) → i < k + 1 →
         goalIn (set nodes k (inputNode pattern hit k)) (set loads k (pin .load)) (set bins k (pin .bin)) (set times k x) i ≡ goalOf l m load t (getD (m .inputs) i noInput)
-    inputs-turn nodes loads bins times h ln ll lb lt old i g = go (lt-or-le i k)
-      where
-        go : (i < k) ⊎ (k ≤ i) →
-            goalIn (set nodes k (inputNode pattern hit k)) (set loads k (pin .load)) (set bins k (pin .bin)) (set times k x) i ≡ goalOf l m load t (getD (m .inputs) i noInput)
-        go (inl z) =
-            let ne : i ≡ k → ⊥ = λ q. omega arith in
-            goal-path (getD-set-other nodes k i _ 0 ne) (getD-set-other loads k i _ 0 ne) (getD-set-other bins k i _ 0 ne) (getD-set-other times k i _ 0 ne) ∙ old i z
-        go (inr z) =
-            let same : i ≡ k = omega arith in
-            let few : k < 6 = omega (arith, holds .few, count-at) in
-            rw same (goal-path (getD-set-same nodes k _ 0 (omega arith)) (getD-set-same loads k _ 0 (omega arith)) (getD-set-same bins k _ 0 (omega arith)) (getD-set-same times k _ 0 (omega arith))
-            ∙ goal-read (omega (arith, count-at)))
+    inputs-turn nodes loads bins times h ln ll lb lt old i g =
+        let few : k < 6 = omega (arith, holds .few, count-at) in
+        elim (ℕ-discrete i k) [
+          | yes same ↦ rw (same, getD-set-same nodes k _ 0 (omega arith), getD-set-same loads k _ 0 (omega arith), getD-set-same bins k _ 0 (omega arith), getD-set-same times k _ 0 (omega arith))
+              (goal-read (omega (arith, count-at)))
+          | no ne ↦ simp getD-set-other (old i (omega arith))
+        ]

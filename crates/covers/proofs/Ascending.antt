@@ -1,11 +1,13 @@
 -- Lists that ascend by a number, strictly, within a range.
 use Prim.Native.Nat.{ℕ, suc, _≤_, _<_}
 use mathlib.Core.Path.{_≡_, refl, sym, ap, ap₂, subst, _∙_}
-use mathlib.Core.Bool.{Bool, true, false, cond, false≢true}
-use mathlib.Core.List.{List, [], _∷_, _++_, List·Memᴰ, List·Memᴰ·head, List·Memᴰ·tail, List·Memᴰ·not-nil, head-eq-of-cons-eq, tail-eq-of-cons-eq}
+use mathlib.Core.Logic.{⊎-elim}
+use mathlib.Core.Bool.{Bool, true, false≢true}
+use mathlib.Core.List.{List, [], _∷_, _++_, List·Memᴰ, List·Memᴰ·head, List·Memᴰ·tail, List·Memᴰ·not-nil, List·Memᴰ·cases-cons, head-eq-of-cons-eq, tail-eq-of-cons-eq}
 use mathlib.Core.Option.{some, Option·some-injective}
 use native.Mathlib.Omega.{arith}
-use Rattle.covers.specs.Lists.{keepIf, select, firstSuch}
+use borrow.Table.Steps.{cases}
+use Rattle.covers.specs.Lists.{select, firstSuch}
 
 module _ {A : Type 0} (number : A → ℕ) where
   -- From `low` on and below `high`, each above the one before: so none twice.
@@ -47,20 +49,13 @@ module _ {A : Type 0} {number : A → ℕ} where
   pub select-ascends : (test : A → Bool) {low high : ℕ} {xs : List A} → Ascending number low high xs → Ascending number low high (select test xs)
   unfolding select
   select-ascends test (end h) = end h
-  select-ascends test (then {low = low} {high = high} {x = x} {xs = xs} h r) = go (test x) (select-ascends test r)
-    where
-      go : (b : Bool) → Ascending number (suc (number x)) high (select test xs) → Ascending number low high (keepIf b x (select test xs))
-      go true k = then h k
-      go false k = lowered (omega arith) k
+  select-ascends test (then {x = x} h r) = cases (test x) (λ e. rw e (then h (select-ascends test r))) (λ e. rw e (lowered (omega arith) (select-ascends test r)))
 
   -- The first that passes has the lowest number of those that do.
   pub first-lowest : (test : A → Bool) {low high : ℕ} {xs : List A} {x y : A} → Ascending number low high xs → firstSuch test xs ≡ some x → List·Memᴰ y xs → test y ≡ true → number x ≤ number y
   unfolding firstSuch
   first-lowest test (end h) e m k = absurd (List·Memᴰ·not-nil m)
-  first-lowest test {x = x} {y = y} (then {x = z} {xs = zs} h r) e m k = go (test z) refl e (λ f j. first-lowest test r f j k) m
-    where
-      go : (b : Bool) → test z ≡ b → cond b (some z) (firstSuch test zs) ≡ some x → (firstSuch test zs ≡ some x → List·Memᴰ y zs → number x ≤ number y) → List·Memᴰ y (z ∷ zs) → number x ≤ number y
-      go true f e later (List·Memᴰ·head i) = omega (arith, ap number (Option·some-injective z x e), ap number i)
-      go true f e later (List·Memᴰ·tail j) = omega (arith, ap number (Option·some-injective z x e), ascending-range r j .0)
-      go false f e later (List·Memᴰ·head i) = absurd (false≢true (sym f ∙ (rw i at k)))
-      go false f e later (List·Memᴰ·tail j) = later e j
+  first-lowest test {x = x} (then {x = z} h r) e m k =
+      cases (test z)
+      (λ f. let q = ap number (Option·some-injective z x (rw f at e)) in ⊎-elim (λ i. omega (arith, q, ap number i)) (λ j. omega (arith, q, ascending-range r j .0)) (List·Memᴰ·cases-cons m))
+      (λ f. ⊎-elim (λ i. absurd (false≢true (sym f ∙ (rw i at k)))) (λ j. first-lowest test r (rw f at e) j k) (List·Memᴰ·cases-cons m))

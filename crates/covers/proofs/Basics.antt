@@ -1,25 +1,31 @@
 -- Facts about tests and lists that several files share.
 use Prim.Native.Nat.{ℕ, zero, suc, _≤_, _<_}
-use mathlib.Core.Path.{_≡_, refl, sym, ap, subst, _∙_}
+use mathlib.Core.Path.{_≡_, refl, sym, subst, _∙_}
 use mathlib.Core.Logic.{_⊎_, inl, inr, ⊎-elim}
-use mathlib.Core.Bool.{Bool, true, false, _||_, cond, true≢false, false≢true}
-use mathlib.Core.List.{List, [], _∷_, _++_, flatMap, List·Memᴰ, List·Memᴰ·head, List·Memᴰ·tail, List·Memᴰ·not-nil, List·Memᴰ·append-cases, Memᴰ·append-left, Memᴰ·append-right}
+use mathlib.Core.Bool.{Bool, true, false, _&&_, or-true, true≢false, false≢true}
+use mathlib.Core.List.{List, [], _∷_, _++_, flatMap, List·Memᴰ, List·Memᴰ·head, List·Memᴰ·tail, List·Memᴰ·not-nil, List·Memᴰ·cases-cons, List·Memᴰ·append-cases, Memᴰ·append-left, Memᴰ·append-right}
 use mathlib.Core.Option.{Option, none, some, Option·none-ne-some, Option·some-injective}
 use native.Mathlib.Omega.{arith}
 use lib.Dec.{ltb}
 use lib.ListN.{length, getD, getElem?}
+use borrow.Table.Steps.{cases}
 use borrow.Author.Tests.{ltb-true, ltb-false, leb-true, leb-false, eqb-true}
-use Rattle.covers.specs.Lists.{any, keepIf, select, firstSuch}
+use Rattle.covers.specs.Lists.{any, select, firstSuch}
 
 -- What a test's answer says of the numbers, for `omega`.
 pub ruleset tests = (ltb-true, ltb-false, leb-true, leb-false, eqb-true)
 
 pub lt-or-le : (m n : ℕ) → (m < n) ⊎ (n ≤ m)
-lt-or-le m n = go (ltb m n) refl
-  where
-    go : (b : Bool) → ltb m n ≡ b → (m < n) ⊎ (n ≤ m)
-    go true e = inl (ltb-true m n e)
-    go false e = inr (ltb-false m n e)
+lt-or-le m n = cases (ltb m n) (λ e. inl (ltb-true m n e)) (λ e. inr (ltb-false m n e))
+
+-- What `&&` says of its two tests.
+pub both-true : (a b : Bool) → a && b ≡ true → (a ≡ true) × (b ≡ true)
+both-true a b e = cases a (λ f. (f, rw f at e)) (λ f. absurd (false≢true (rw f at e)))
+
+-- Splits on an option as `cases` does on a test.
+pub option-cases {χ} : {A : Type 0} {X : Type χ} (o : Option A) → (o ≡ none → X) → ((a : A) → o ≡ some a → X) → X
+option-cases none f g = f refl
+option-cases (some a) f g = g a refl
 
 -- By a time is before the next instant. Where a promise is met through these and not by `omega`, its bound can be no other.
 pub before-next : {a b : ℕ} → a ≤ b → a < suc b
@@ -58,63 +64,36 @@ module _ {A : Type 0} (test : A → Bool) where
   pub any-true : (xs : List A) → any test xs ≡ true → (x : A) × List·Memᴰ x xs × (test x ≡ true)
   unfolding any
   any-true [] e = absurd (false≢true e)
-  any-true (x ∷ xs) e = go (test x) refl e (any-true xs)
-    where
-      go : (b : Bool) → test x ≡ b → b || any test xs ≡ true → (any test xs ≡ true → (y : A) × List·Memᴰ y xs × (test y ≡ true)) → (y : A) × List·Memᴰ y (x ∷ xs) × (test y ≡ true)
-      go true f e later = (x, List·Memᴰ·head refl, f)
-      go false f e later = let r = later e in (r .0, List·Memᴰ·tail (r .1), r .2)
+  any-true (x ∷ xs) e = cases (test x) (λ f. (x, List·Memᴰ·head refl, f)) (λ f. let r = any-true xs (rw f at e) in (r .0, List·Memᴰ·tail (r .1), r .2))
 
   pub true-any : {x : A} (xs : List A) → List·Memᴰ x xs → test x ≡ true → any test xs ≡ true
   unfolding any
   true-any (y ∷ xs) (List·Memᴰ·head e) h = rw (← e, h)
-  true-any (y ∷ xs) (List·Memᴰ·tail m) h = go (test y) (true-any xs m h)
-    where
-      go : (b : Bool) → any test xs ≡ true → b || any test xs ≡ true
-      go true e = refl
-      go false e = e
+  true-any (y ∷ xs) (List·Memᴰ·tail m) h = rw (true-any xs m h) (or-true (test y))
 
   -- None passes exactly when no entry does.
   pub any-false : (xs : List A) → any test xs ≡ false → (x : A) → List·Memᴰ x xs → test x ≡ false
-  any-false xs e x m = go (test x) refl
-    where
-      go : (b : Bool) → test x ≡ b → b ≡ false
-      go true f = absurd (true≢false (sym (true-any xs m f) ∙ e))
-      go false f = refl
+  any-false xs e x m = cases (test x) (λ f. absurd (true≢false (sym (true-any xs m f) ∙ e))) (λ f. f)
 
   pub false-any : (xs : List A) → ((x : A) → List·Memᴰ x xs → test x ≡ false) → any test xs ≡ false
-  false-any xs h = go (any test xs) refl
-    where
-      go : (b : Bool) → any test xs ≡ b → b ≡ false
-      go true e = let r = any-true xs e in absurd (true≢false (sym (r .2) ∙ h (r .0) (r .1)))
-      go false e = refl
+  false-any xs h = cases (any test xs) (λ e. let r = any-true xs e in absurd (true≢false (sym (r .2) ∙ h (r .0) (r .1)))) (λ e. e)
 
   pub of-select : {x : A} (xs : List A) → List·Memᴰ x (select test xs) → List·Memᴰ x xs × (test x ≡ true)
   unfolding select
   of-select [] m = absurd (List·Memᴰ·not-nil m)
-  of-select {x} (y ∷ xs) m = go (test y) refl m (λ k. of-select xs k)
-    where
-      go : (b : Bool) → test y ≡ b → List·Memᴰ x (keepIf b y (select test xs)) → (List·Memᴰ x (select test xs) → List·Memᴰ x xs × (test x ≡ true)) → List·Memᴰ x (y ∷ xs) × (test x ≡ true)
-      go true e (List·Memᴰ·head f) later = (List·Memᴰ·head f, rw f e)
-      go true e (List·Memᴰ·tail k) later = let r = later k in (List·Memᴰ·tail (r .0), r .1)
-      go false e k later = let r = later k in (List·Memᴰ·tail (r .0), r .1)
+  of-select {x} (y ∷ xs) m =
+      let later : List·Memᴰ x (select test xs) → List·Memᴰ x (y ∷ xs) × (test x ≡ true) = λ k. let r = of-select xs k in (List·Memᴰ·tail (r .0), r .1) in
+      cases (test y) (λ e. ⊎-elim (λ f. (List·Memᴰ·head f, rw f e)) later (List·Memᴰ·cases-cons (rw e at m))) (λ e. later (rw e at m))
 
   pub in-select : {x : A} (xs : List A) → List·Memᴰ x xs → test x ≡ true → List·Memᴰ x (select test xs)
   unfolding select
   in-select (y ∷ xs) (List·Memᴰ·head e) h = rw (← e, h) (List·Memᴰ·head refl)
-  in-select {x} (y ∷ xs) (List·Memᴰ·tail m) h = go (test y) (in-select xs m h)
-    where
-      go : (b : Bool) → List·Memᴰ x (select test xs) → List·Memᴰ x (keepIf b y (select test xs))
-      go true k = List·Memᴰ·tail k
-      go false k = k
+  in-select (y ∷ xs) (List·Memᴰ·tail m) h = cases (test y) (λ e. rw e (List·Memᴰ·tail (in-select xs m h))) (λ e. rw e (in-select xs m h))
 
   pub select-append : (xs ys : List A) → select test (xs ++ ys) ≡ select test xs ++ select test ys
   unfolding select
   select-append [] ys = refl
-  select-append (x ∷ xs) ys = go (test x) (select-append xs ys)
-    where
-      go : (b : Bool) {zs : List A} → zs ≡ select test xs ++ select test ys → keepIf b x zs ≡ keepIf b x (select test xs) ++ select test ys
-      go true e = ap (λ r. x ∷ r) e
-      go false e = e
+  select-append (x ∷ xs) ys = cases (test x) (λ e. rw (e, select-append xs ys)) (λ e. rw e (select-append xs ys))
 
   -- What the first that passes is.
   pub data FirstOf (xs : List A) : Option A → Type 0 where
@@ -124,12 +103,13 @@ module _ {A : Type 0} (test : A → Bool) where
   pub first-of : (xs : List A) → FirstOf xs (firstSuch test xs)
   unfolding firstSuch
   first-of [] = nowhere (λ x m. absurd (List·Memᴰ·not-nil m))
-  first-of (x ∷ xs) = go (test x) refl (first-of xs)
-    where
-      go : (b : Bool) → test x ≡ b → {o : Option A} → FirstOf xs o → FirstOf (x ∷ xs) (cond b (some x) o)
-      go true e v = somewhere (List·Memᴰ·head refl) e
-      go false e (nowhere a) = nowhere (each {P = λ y. test y ≡ false} e a)
-      go false e (somewhere m h) = somewhere (List·Memᴰ·tail m) h
+  first-of (x ∷ xs) =
+      cases (test x) (λ e. rw e (somewhere (List·Memᴰ·head refl) e))
+      (λ e. rw e (elim (first-of xs) as (λ o v. FirstOf (x ∷ xs) o) [ nowhere a ↦ nowhere (each {P = λ y. test y ≡ false} e a) | somewhere m h ↦ somewhere (List·Memᴰ·tail m) h ]))
+
+  -- What holds of either outcome holds of the first that passes.
+  pub first-cases : (P : Option A → Type 0) (xs : List A) → (((x : A) → List·Memᴰ x xs → test x ≡ false) → P none) → ((x : A) → List·Memᴰ x xs → test x ≡ true → P (some x)) → P (firstSuch test xs)
+  first-cases P xs f g = elim (first-of xs) as (λ o v. P o) [ nowhere a ↦ f a | somewhere {x} m h ↦ g x m h ]
 
 module _ {A B : Type 0} (f : A → List B) where
   pub in-flatMap : {a : A} {b : B} {s : List A} → List·Memᴰ a s → List·Memᴰ b (f a) → List·Memᴰ b (flatMap f s)

@@ -2,21 +2,22 @@
 use Prim.Native.Nat.{ℕ, zero, suc, _≤_, _<_}
 use mathlib.Core.Path.{_≡_, refl, sym, ap, _∙_}
 use mathlib.Core.Logic.{_↔_, ⊎-elim}
-use mathlib.Core.Bool.{Bool, true, false, cond}
+use mathlib.Core.Bool.{cond}
 use mathlib.Core.List.{List, [], _∷_, _++_, reverse, reverse-cons, List·Memᴰ, List·Memᴰ·head, List·Memᴰ·tail, List·Memᴰ·not-nil, List·Memᴰ·cases-cons, List·Memᴰ·append-cases, List·Memᴰ·eq-of-singleton, Memᴰ·append-left, Memᴰ·append-right}
 use mathlib.Core.Option.{Option, none, some}
 use native.Mathlib.Nat.{le-refl}
 use native.Mathlib.Omega.{arith}
 use lib.Dec.{ltb}
 use lib.ListN.{take}
+use borrow.Table.Steps.{cases}
 use borrow.Author.Tests.{lt-ltb, le-ltb}
 use Rattle.covers.specs.Cover.{Point, Cover}
 use Rattle.covers.specs.Tradeoff.{IsTradeoff, Climbing, top, step, tradeoffsOf, points}
 use Rattle.covers.specs.Choice.{least}
 use Rattle.covers.specs.Inside.Curve.{byDeadline, chained, curve, lookup}
 use Rattle.covers.proofs.Basics.{tests, each}
-use Rattle.covers.proofs.Points.{Leq, smaller, earlier, leq-area, point-path}
-use Rattle.covers.proofs.Least.{In, IsLeast, LeastOf, absent, found, least-is}
+use Rattle.covers.proofs.Points.{leq-area, leq-by, leq-antisym}
+use Rattle.covers.proofs.Least.{In, IsLeast, least-cases}
 use Rattle.covers.proofs.Tradeoffs.{tradeoffs-climb, tradeoffs-are}
 
 -- Strictly latest first.
@@ -45,42 +46,30 @@ pub curve-is : (cs : List Cover) → IsCurve cs (curve cs)
 unfolding curve
 curve-is cs = record { falls = reverse-falls (tradeoffs-climb (points cs)); holds = λ p. let r = in-reverse (tradeoffsOf (points cs)) in let t = tradeoffs-are cs p in (λ m. t .0 (r .1 m), λ k. r .0 (t .1 k)) }
 
--- What a look-up finds in such a list.
-data Looked (end : ℕ) (ps : List Point) : Option Point → Type 0 where
-  miss : ((q : Point) → List·Memᴰ q ps → end ≤ q .arrival) → Looked end ps none
-  hit : {p : Point} → List·Memᴰ p ps → p .arrival < end → ((q : Point) → List·Memᴰ q ps → q .arrival < end → q .arrival ≤ p .arrival) → Looked end ps (some p)
-
-looked : (end : ℕ) {ps : List Point} → Falling ps → Looked end ps (lookup end ps)
+-- What a look-up finds in such a list: nothing before the instant, or the latest before it.
+lookup-cases : (P : Option Point → Type 0) (end : ℕ) {ps : List Point} → Falling ps → (((q : Point) → List·Memᴰ q ps → end ≤ q .arrival) → P none) →
+    ((p : Point) → List·Memᴰ p ps → p .arrival < end → ((q : Point) → List·Memᴰ q ps → q .arrival < end → q .arrival ≤ p .arrival) → P (some p)) → P (lookup end ps)
 unfolding lookup
-looked end flat = miss (λ q m. absurd (List·Memᴰ·not-nil m))
-looked end (down {p = p} {ps = ps} a f) = go (ltb (p .arrival) end) refl (looked end f)
-  where
-    go : (b : Bool) → ltb (p .arrival) end ≡ b → {o : Option Point} → Looked end ps o → Looked end (p ∷ ps) (cond b (some p) o)
-    go true e v = hit (List·Memᴰ·head refl) (omega (arith, tests)) (each {P = λ q. q .arrival < end → q .arrival ≤ p .arrival} (λ t. le-refl (p .arrival)) (λ q m t. omega (arith, a q m)))
-    go false e (miss k) = miss (each {P = λ q. end ≤ q .arrival} (omega (arith, tests)) k)
-    go false e (hit {p = r} m t k) = hit (List·Memᴰ·tail m) t (each {P = λ q. q .arrival < end → q .arrival ≤ r .arrival} (λ u. absurd (omega (arith, tests))) k)
+lookup-cases P end flat miss hit = miss (λ q m. absurd (List·Memᴰ·not-nil m))
+lookup-cases P end (down {p = p} {ps = ps} a f) miss hit =
+    cases (ltb (p .arrival) end)
+    (λ e. rw e (hit p (List·Memᴰ·head refl) (omega (arith, tests)) (each {P = λ q. q .arrival < end → q .arrival ≤ p .arrival} (λ t. le-refl (p .arrival)) (λ q m t. omega (arith, a q m)))))
+    (λ e. rw e (lookup-cases P end f (λ k. miss (each {P = λ q. end ≤ q .arrival} (omega (arith, tests)) k))
+    (λ r m t k. hit r (List·Memᴰ·tail m) t (each {P = λ q. q .arrival < end → q .arrival ≤ r .arrival} (λ u. absurd (omega (arith, tests))) k))))
 
 -- The least point before any instant is a trade-off.
 pub least-is-tradeoff : {end : ℕ} {cs : List Cover} {p : Point} → IsLeast end (In cs) p → IsTradeoff (In cs) p
-least-is-tradeoff {end} {p} f = record { cover = f .cover; among = f .among; point = f .point; unbeaten = λ c m a t. go a t (f .first c m (omega (arith, f .intime))) }
-  where
-    go : {q : Point} → q .area ≤ p .area → q .arrival ≤ p .arrival → Leq p q → q ≡ p
-    go a t (smaller h) = absurd (omega arith)
-    go a t (earlier h k) = point-path (sym h) (omega arith)
+least-is-tradeoff f = record { cover = f .cover; among = f .among; point = f .point; unbeaten = λ c m a t. leq-antisym (leq-by a (λ b. t)) (f .first c m (omega (arith, f .intime))) }
 
 -- The look-up theorem: the first point of a curve that arrives before an instant is the least before it.
 pub lookup-is-least : (end : ℕ) {cs : List Cover} {ps : List Point} → IsCurve cs ps → lookup end ps ≡ least end cs
-lookup-is-least end {cs} {ps} h = go (looked end (h .falls)) (least-is end cs)
-  where
-    go : {o o′ : Option Point} → Looked end ps o → LeastOf end (In cs) o′ → o ≡ o′
-    go (miss a) (absent b) = refl
-    go (miss a) (found {p = q} f) = absurd (omega (arith, a q (h .holds q .1 (least-is-tradeoff f)), f .intime))
-    go (hit {p = p} m t k) (absent b) = let r = h .holds p .0 m in absurd (omega (arith, b (r .cover) (r .among), ap (λ x. x .arrival) (r .point)))
-    go (hit {p = p} m t k) (found {p = q} f) =
-        let r = h .holds p .0 m in
-        let a : q .area ≤ p .area = rw (r .point) at (leq-area (f .first (r .cover) (r .among) (rw (r .point) t))) in
-        let u : q .arrival ≤ p .arrival = k q (h .holds q .1 (least-is-tradeoff f)) (f .intime) in
-        ap {B = Option Point} some (sym (r .unbeaten (f .cover) (f .among) (rw (f .point) a) (rw (f .point) u)) ∙ f .point)
+lookup-is-least end {cs} {ps} h =
+    lookup-cases (λ o. o ≡ least end cs) end (h .falls)
+    (λ a. least-cases (λ o. none ≡ o) end cs (λ b. refl) (λ q f. absurd (omega (arith, a q (h .holds q .1 (least-is-tradeoff f)), f .intime))))
+    (λ p m t k. let r = h .holds p .0 m in least-cases (λ o. some p ≡ o) end cs (λ b. absurd (omega (arith, b (r .cover) (r .among), ap (λ x. x .arrival) (r .point))))
+    (λ q f. let a : q .area ≤ p .area = rw (r .point) at (leq-area (f .first (r .cover) (r .among) (rw (r .point) t))) in
+    let u : q .arrival ≤ p .arrival = k q (h .holds q .1 (least-is-tradeoff f)) (f .intime) in
+    ap {B = Option Point} some (sym (r .unbeaten (f .cover) (f .among) (rw (f .point) a) (rw (f .point) u)) ∙ f .point)))
 
 found-by-deadline : (k : ℕ) (best : ℕ → Option Point) (end : ℕ) {ps : List Point} → ((e : ℕ) → e ≤ end → best e ≡ lookup e ps) → Falling ps → ((p : Point) → List·Memᴰ p ps → p .arrival < end) → byDeadline k best end ≡ take k ps
 unfolding byDeadline chained lookup

@@ -11,9 +11,8 @@ use Rattle.fields.proofs.Answer.{both-succeed, after-success}
 use Rattle.sheets_rules.specs.Model.{Library, Tree}
 use Rattle.sheets_rules.specs.Report.{librarySaid, treeSaid}
 use Rattle.sheets_rules.proofs.Sound.{library-sound, tree-sound}
-use Rattle.covers.specs.Capacity.{capacity, workWords, allowed}
 use Rattle.covers.specs.Cover.{Point, Cover}
-use Rattle.covers.specs.Tradeoff.{Node, considered}
+use Rattle.covers.specs.Tradeoff.{considered}
 use Rattle.covers.specs.CoverSheet.{coverSheet, listSheet, CoverReads, ListReads}
 use Rattle.covers.specs.Answer.{overfullNumber, mapAnswer, listAnswer}
 use Rattle.covers.specs.Lending.{lent, told, outputAfter, observed}
@@ -21,7 +20,7 @@ use Rattle.covers.specs.Outcome.{operation, mapBytes, listBytes, mapOutc
 use Rattle.covers.specs.Promise.{HighestTooMany, NoneTooMany, RootTradeoffs}
 use Rattle.covers.specs.Demands.{Demands, MapDemands, ListDemands, WhereSound}
 use Rattle.covers.proofs.Basics.{lt-or-le}
-use Rattle.covers.proofs.Lent.{allowed-is, lent-enough, enough-lent}
+use Rattle.covers.proofs.Lent.{allowed-is, enough-lent}
 use Rattle.covers.proofs.Nodes.{root-in}
 use Rattle.covers.proofs.ReadBack.{cover-reads, list-reads}
 use Rattle.covers.proofs.FromSheets.{cover-fits, list-fits}
@@ -71,10 +70,7 @@ module _ {most : ℕ} {l : Library} {t : Tree} where
 -- With no node overfull the root has at most as many trade-offs as a node may have.
 few : {most : ℕ} {l : Library} {t : Tree} {ps : List Point} → NoneTooMany most l t → RootTradeoffs l t ps → length ps ≤ most
 unfolding considered
-few {most} {l} {t} {ps} n r = ⊎-elim (λ h. absurd (n root (root-in 0 (t .shape)) record { load = t .load; among = List·Memᴰ·head refl; points = ps; apart = r .earliest-first; each = λ p. r .all p .0; exceeds = h })) (λ h. h) (lt-or-le most (length ps))
-  where
-    root : Node
-    root = record { number = 0; shape = t .shape }
+few {most} {l} {t} {ps} n r = ⊎-elim (λ h. absurd (n (record { number = 0; shape = t .shape }) (root-in 0 (t .shape)) record { load = t .load; among = List·Memᴰ·head refl; points = ps; apart = r .earliest-first; each = λ p. r .all p .0; exceeds = h })) (λ h. h) (lt-or-le most (length ps))
 
 -- The caller sees the outcome.
 pub observed-is : (o : Answer (List ℕ)) (output : List ℕ) → observed (told o) (outputAfter o output) ≡ o
@@ -83,12 +79,10 @@ observed-is (refusedIn i n p) output = refl
 observed-is (success s) output = ap success (take-at s (drop (length s) output) (length s) refl)
 
 -- A sound library and a sound tree are answered, if what is lent is enough.
-pub answers : {A : Type 0} (least : ℕ) (f : ℕ → Library → Tree → Answer A) (ls ts : List ℕ) (output work : ℕ) {l : Library} {t : Tree} → least ≤ output → workWords capacity ≤ work → librarySaid ls ≡ success l → treeSaid ts ≡ success t → operation least f ls ts output work ≡ f (allowed work) l t
+pub answers : {A : Type 0} (least : ℕ) (f : ℕ → Library → Tree → Answer A) (ls ts : List ℕ) (output work : ℕ) {most : ℕ} {l : Library} {t : Tree} → lent least output work ≡ success most → librarySaid ls ≡ success l → treeSaid ts ≡ success t → operation least f ls ts output work ≡ f most l t
 unfolding operation
-answers least f ls ts output work {l} {t} h g e e′ =
-    after-success (λ most. librarySaid ls >>= (λ l. treeSaid ts >>= (λ t. f most l t))) (lent-enough least output work h g)
-    ∙ after-success (λ l. treeSaid ts >>= (λ t. f (allowed work) l t)) e
-    ∙ after-success (λ t. f (allowed work) l t) e′
+answers least f ls ts output work {most} {l} {t} h e e′ =
+    after-success (λ most. librarySaid ls >>= (λ l. treeSaid ts >>= (λ t. f most l t))) h ∙ after-success (λ l. treeSaid ts >>= (λ t. f most l t)) e ∙ after-success (λ t. f most l t) e′
 
 -- Sheets that say the same tree are answered alike.
 pub operation-alike : {A : Type 0} (least : ℕ) (f : ℕ → Library → Tree → Answer A) (ls ts ts′ : List ℕ) (output work : ℕ) → treeSaid ts ≡ treeSaid ts′ → operation least f ls ts output work ≡ operation least f ls ts′ output work
@@ -97,15 +91,14 @@ operation-alike least f ls ts ts′ output work e = ap (λ (o : Answer Tree). le
 
 pub map-demands : (ls ts : List ℕ) (output work : ℕ) → WhereSound MapDemands mapBytes ls ts output work (mapOutcome ls ts output work)
 unfolding mapOutcome mapAnswer
-map-demands ls ts output work l t h g e e′ = rw (answers mapBytes mapAnswer ls ts output work h g e e′) (meets coverSheet CoverReads (λ c r. (c, (r .best .legal, r .best .intime))) (λ c n r. cover-reads (cover-fits (library-sound ls e) (tree-sound ts e′) (r .best .legal))) (map-promise (allowed work) l t))
+map-demands ls ts output work most l t h e e′ = rw (answers mapBytes mapAnswer ls ts output work h e e′) (meets coverSheet CoverReads (λ c r. (c, (r .best .legal, r .best .intime))) (λ c n r. cover-reads (cover-fits (library-sound ls e) (tree-sound ts e′) (r .best .legal))) (map-promise most l t))
 
 -- What map handed over was lent enough.
-pub map-lent : (ls ts : List ℕ) (output work : ℕ) {bytes : List ℕ} → mapOutcome ls ts output work ≡ success bytes → (mapBytes ≤ output) × (workWords capacity ≤ work)
+pub map-lent : (ls ts : List ℕ) (output work : ℕ) {bytes : List ℕ} → mapOutcome ls ts output work ≡ success bytes → (most : ℕ) × (lent mapBytes output work ≡ success most)
 unfolding mapOutcome operation
 map-lent ls ts output work e =
-    let h = enough-lent mapBytes output work (both-succeed (lent mapBytes output work) (λ most. librarySaid ls >>= (λ l. treeSaid ts >>= (λ t. mapAnswer most l t))) e .1) in
-    (h .0, h .1)
+    let h = both-succeed (lent mapBytes output work) (λ most. librarySaid ls >>= (λ l. treeSaid ts >>= (λ t. mapAnswer most l t))) e in (h .0, h .1)
 
 pub list-demands : (ls ts : List ℕ) (output work : ℕ) → WhereSound ListDemands listBytes ls ts output work (listOutcome ls ts output work)
 unfolding listOutcome listAnswer
-list-demands ls ts output work l t h g e e′ = rw (answers listBytes listAnswer ls ts output work h g e e′) (meets listSheet ListReads (λ ps r. let p = r .all (r .one .0) .0 (r .one .1) in (p .cover, p .among)) (λ ps n r. list-reads (list-fits (library-sound ls e) (tree-sound ts e′) (omega (arith, few n r, allowed-is work .listed)) (λ p. r .all p .0))) (list-promise (allowed work) l t))
+list-demands ls ts output work most l t h e e′ = rw (answers listBytes listAnswer ls ts output work h e e′) (meets listSheet ListReads (λ ps r. let p = r .all (r .one .0) .0 (r .one .1) in (p .cover, p .among)) (λ ps n r. list-reads (list-fits (library-sound ls e) (tree-sound ts e′) (omega (arith, few n r, enough-lent listBytes output work h .2, allowed-is work .listed)) (λ p. r .all p .0))) (list-promise most l t))

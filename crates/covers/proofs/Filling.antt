@@ -1,7 +1,7 @@
 -- Curves filled node by node from the highest number down: a node's curves come from those of higher-numbered nodes by look-up and deadline.
-use Prim.Native.Nat.{ℕ, suc, _-_, _≤_, _<_}
+use Prim.Native.Nat.{ℕ, suc, _-_, _<_}
 use mathlib.Core.Path.{_≡_, refl, sym, ap, ap₂, _∙_}
-use mathlib.Core.Logic.{_⊎_, inl, inr, _↔_}
+use mathlib.Core.Logic.{⊎-elim, _↔_}
 use mathlib.Core.Bool.{true}
 use mathlib.Core.List.{List, [], _∷_, List·Memᴰ, List·Memᴰ·head, List·Memᴰ·tail}
 use mathlib.Core.Option.{Option, some, Option·map}
@@ -65,11 +65,9 @@ module _ (l : Library) where
 
   -- A node's curves put in keep those above it.
   pub filled-next : (root : Shape) (table table′ : ℕ → ℕ → List Point) (n : ℕ) (s : Shape) → Filled l root table (suc n) → List·Memᴰ (record { number = n; shape = s }) (nodes 0 root) → ((k b : ℕ) → n < k → table′ k b ≡ table k b) → (0 < gates s → (b : ℕ) → b < length (l .bins) → table′ n b ≡ curve (covers l (getD (l .bins) b 0) n s)) → Filled l root table′ n
-  filled-next root table table′ n s filled here kept new x m h = go (lt-or-le n (x .number))
-    where
-      go : (n < x .number) ⊎ (x .number ≤ n) → 0 < gates (x .shape) → (b : ℕ) → b < length (l .bins) → table′ (x .number) b ≡ curve (covers l (getD (l .bins) b 0) (x .number) (x .shape))
-      go (inl k) = λ g b i. kept (x .number) b k ∙ filled x m k g b i
-      go (inr k) = let e : x ≡ record { number = n; shape = s } = ascending-unique (nodes-ascend 0 root) m here (omega arith) in rw e new
+  filled-next root table table′ n s filled here kept new x m h =
+      ⊎-elim (λ k g b i. kept (x .number) b k ∙ filled x m k g b i)
+      (λ k. let e : x ≡ record { number = n; shape = s } = ascending-unique (nodes-ascend 0 root) m here (omega arith) in rw e new) (lt-or-le n (x .number))
 
   module _ (binned : Binned l) (root : Shape) (table : ℕ → ℕ → List Point) (n : ℕ) (s : Shape) (filled : Filled l root table (suc n)) (here : List·Memᴰ (record { number = n; shape = s }) (nodes 0 root)) where
     input-best : {load : ℕ} {m : Match} → IsMatch l load n s m → (i : Input) → List·Memᴰ i (m .inputs) → (end : ℕ) → fromTable l table (feeds (m .pattern .cell) i) i end ≡ leastInput (allBelow l) (feeds (m .pattern .cell) i) i end

@@ -18,11 +18,7 @@ use Rattle.covers.proofs.ReadBack.{CoverFits, ListFits}
 use Rattle.covers.proofs.Filling.{Binned}
 
 pub limited : {l : Library} → SoundLibrary l → Limited l 65_535 65_535 255 255
-limited h = record {
-  areas = λ c m. h .cells c m .area;
-  pins = λ c m p k. let q = h .cells c m .pins p k in (q .1, q .2);
-  bins = h .loads;
-}
+limited h = record { areas = λ c m. h .cells c m .area; pins = λ c m p k. let q = h .cells c m .pins p k in (q .1, q .2); bins = h .loads }
 
 pub binned : {l : Library} → SoundLibrary l → Binned l
 binned h = record { some-bin = h .some-bin; pins = λ c m p k. h .cells c m .pins p k .0 }

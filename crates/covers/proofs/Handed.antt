@@ -1,69 +1,54 @@
 -- What the choice rule hands over.
 use Prim.Native.Nat.{ℕ, suc, _+_, _-_, _*_, _≤_, _<_}
-use mathlib.Core.Path.{_≡_, refl, sym, ap, ap₂, _∙_}
-use mathlib.Core.Logic.{_⊎_, inl, inr, _↔_}
-use mathlib.Core.Bool.{Bool, true, false, cond, false≢true}
+use mathlib.Core.Path.{_≡_, refl, sym, ap, _∙_}
+use mathlib.Core.Logic.{⊎-elim, _↔_}
+use mathlib.Core.Bool.{true, false≢true}
 use mathlib.Core.List.{List, [], _∷_, List·Memᴰ, List·Memᴰ·head, List·Memᴰ·tail, List·Memᴰ·eq-of-singleton, Memᴰ·of-map}
 use mathlib.Core.Option.{Option, none, some, Option·map, Option·none-ne-some, Option·some-injective, map-eq-some-iff}
 use native.Mathlib.Nat.{le-refl}
 use native.Mathlib.Omega.{arith}
 use lib.Dec.{leb}
+use borrow.Table.Steps.{cases}
 use borrow.Author.Tests.{le-leb, lt-leb}
 use Rattle.sheets_rules.specs.Model.{Leaf, Shape, leaf, inv, nand, size, Pin, Cell, Library}
 use Rattle.covers.specs.Match.{Input, Match, matches, pinLoad}
 use Rattle.covers.specs.Cover.{Point, Cover, IsCover, bare, matching, AreCovers, done, more, leafArrival, leafCover, nothing, late, raised, together, delayed, topped, feeds, inputDelay}
 use Rattle.covers.specs.Enumeration.{inputCovers, matchCovers, gateCovers, under, coversStep, covers, allBelow}
 use Rattle.covers.specs.Tradeoff.{same}
-use Rattle.covers.specs.Choice.{lesser, before, least, reaches, bothChosen, chosenInputs, withInputs, firstReaching, gateChoice, choiceStep, choice}
+use Rattle.covers.specs.Choice.{lesser, least, reaches, bothChosen, chosenInputs, withInputs, firstReaching, gateChoice, choiceStep, choice}
 use Rattle.covers.specs.Crossing.{crossingLimit}
 use Rattle.covers.specs.Promise.{firstPlaced, rootPattern, rootCrossing, Handed}
-use Rattle.covers.proofs.Basics.{lt-or-le, before-next, by-then, any-true, true-any, FirstOf, nowhere, somewhere, first-of, in-flatMap, of-flatMap}
+use Rattle.covers.proofs.Basics.{lt-or-le, option-cases, before-next, by-then, any-true, true-any, first-cases, in-flatMap, of-flatMap}
 use Rattle.covers.specs.Inside.Curve.{both, gates}
-use Rattle.covers.proofs.Points.{same-true, same-refl, Leq, smaller, earlier, leq-area, before-yes, before-no}
-use Rattle.covers.proofs.Least.{IsLeast, LeastOf, absent, found, In, least-is, least-some, least-none, is-least}
+use Rattle.covers.proofs.Points.{same-true, same-refl, leq-area, leq-time, before-yes, before-no}
+use Rattle.covers.proofs.Least.{IsLeast, In, least-is, least-cases, least-some, least-none, is-least}
 use Rattle.covers.proofs.Deadline.{bestInputs, bestMatch, leastInput, deadline-match}
 use Rattle.covers.proofs.Matching.{crossing-small, rank, matches-are, matches-ascend, match-inside, input-smaller}
 use Rattle.covers.proofs.Ascending.{first-lowest}
-use Rattle.covers.proofs.Unroll.{covers-unroll, gate-covers, choice-unroll, gate-choice, by-size}
+use Rattle.covers.proofs.Unroll.{covers-unroll, gate-covers, choice-unroll, gate-choice, by-gate}
 use Rattle.covers.proofs.Relation.{covers-all}
 
--- The test finds a cover of that point if and only if there is one.
-reaches-true : (p : Point) (cs : List Cover) → reaches p cs ≡ true → (c : Cover) × In cs c × (c .point ≡ p)
-unfolding reaches
-reaches-true p cs h = let r = any-true (λ c. same (c .point) p) cs h in (r .0, r .1, same-true (r .0 .point) p (r .2))
-
+-- The test finds a cover of that point if there is one.
 true-reaches : (p : Point) (cs : List Cover) {c : Cover} → In cs c → c .point ≡ p → reaches p cs ≡ true
 unfolding reaches
 true-reaches p cs m h = true-any (λ c. same (c .point) p) cs m (rw h (same-refl p))
 
 -- With p the least point before an instant, some of these covers reach p exactly when their own least before the instant after p's arrival is p.
 pub reaches-when-best : {end : ℕ} {p : Point} (cs ds : List Cover) → IsLeast end (In cs) p → ((c : Cover) → In ds c → In cs c) → (reaches p ds ≡ true) ↔ (least (suc (p .arrival)) ds ≡ some p)
-reaches-when-best {end} {p} cs ds f sub = (to, from)
-  where
-    to : reaches p ds ≡ true → least (suc (p .arrival)) ds ≡ some p
-    to h = let r = reaches-true p ds h in is-least ds record { cover = r .0; among = r .1; point = r .2; intime = le-refl (suc (p .arrival)); first = λ c m t. f .first c (sub c m) (omega (arith, f .intime)) }
-
-    from : least (suc (p .arrival)) ds ≡ some p → reaches p ds ≡ true
-    from h = let g = least-some (least-is (suc (p .arrival)) ds) h in true-reaches p ds (g .among) (g .point)
+unfolding reaches
+reaches-when-best {p = p} cs ds f sub = (
+  λ h. let r = any-true (λ c. same (c .point) p) ds h in
+      is-least ds record { cover = r .0; among = r .1; point = same-true (r .0 .point) p (r .2); intime = le-refl (suc (p .arrival)); first = λ c m t. f .first c (sub c m) (omega (arith, f .intime)) },
+  λ h. let g = least-some (least-is (suc (p .arrival)) ds) h in true-reaches p ds (g .among) (g .point),
+)
 
 both-some : (a b : Option Point) {r : Point} → both a b ≡ some r → (p : Point) × (q : Point) × (a ≡ some p) × (b ≡ some q)
 unfolding both
-both-some none b e = absurd (Option·none-ne-some _ e)
-both-some (some p) none e = absurd (Option·none-ne-some _ e)
-both-some (some p) (some q) e = (p, q, refl, refl)
+both-some a b = elim a [ none ↦ λ e. absurd (Option·none-ne-some _ e) | some p ↦ elim b [ none ↦ λ e. absurd (Option·none-ne-some _ e) | some q ↦ λ e. (p, q, refl, refl) ] ]
 
 pub chosen-some : (a b : Option Cover) {e : Cover} → bothChosen a b ≡ some e → (c : Cover) × (d : Cover) × (a ≡ some c) × (b ≡ some d) × (e ≡ together c d)
 unfolding bothChosen
-chosen-some none b h = absurd (Option·none-ne-some _ h)
-chosen-some (some c) none h = absurd (Option·none-ne-some _ h)
-chosen-some (some c) (some d) h = (c, d, refl, refl, cc)
-
-least-zero : (cs : List Cover) → least 0 cs ≡ none
-least-zero cs = go (least-is 0 cs)
-  where
-    go : {o : Option Point} → LeastOf 0 (In cs) o → o ≡ none
-    go (absent a) = refl
-    go (found f) = absurd (omega (arith, f .intime))
+chosen-some a b = elim a [ none ↦ λ h. absurd (Option·none-ne-some _ h) | some c ↦ elim b [ none ↦ λ h. absurd (Option·none-ne-some _ h) | some d ↦ λ h. (c, d, refl, refl, cc) ] ]
 
 -- The point of a cover that may be there.
 abbrev pub costOf : Option Cover → Option Point
@@ -71,19 +56,10 @@ costOf = Option·map (λ c. c .point)
 
 point-both : (a b : Option Cover) → costOf (bothChosen a b) ≡ both (costOf a) (costOf b)
 unfolding bothChosen both together
-point-both none b = refl
-point-both (some c) none = refl
-point-both (some c) (some d) = refl
+point-both a b = elim a [ none ↦ refl | some c ↦ elim b [ none ↦ refl | some d ↦ refl ] ]
 
-point-delayed : (d : ℕ) (a : Option Cover) → costOf (Option·map (delayed d) a) ≡ Option·map (late d) (costOf a)
-unfolding delayed
-point-delayed d none = refl
-point-delayed d (some c) = refl
-
-point-topped : (n : ℕ) (m : Match) (a : Option Cover) → costOf (Option·map (topped n m) a) ≡ Option·map (raised (m .pattern .cell .area)) (costOf a)
-unfolding topped
-point-topped n m none = refl
-point-topped n m (some c) = refl
+point-map : (f : Cover → Cover) (g : Point → Point) → ((c : Cover) → f c .point ≡ g (c .point)) → (a : Option Cover) → costOf (Option·map f a) ≡ Option·map g (costOf a)
+point-map f g e a = elim a [ none ↦ refl | some c ↦ ap {B = Option Point} some (e c) ]
 
 module _ (l : Library) where
   abbrev chosenBelow : Pin → Input → ℕ → Option Cover
@@ -94,20 +70,18 @@ module _ (l : Library) where
   Chosen s = (load n time : ℕ) → costOf (choice l load n s time) ≡ least (suc time) (covers l load n s)
 
   inputs-point : (cell : Cell) (load t : ℕ) (is : List Input) {q : Point} → ((i : Input) → List·Memᴰ i is → Chosen (i .shape)) → bestInputs (leastInput (allBelow l)) cell load (suc t) is ≡ some q → costOf (chosenInputs chosenBelow cell load t is) ≡ some q
-  unfolding chosenInputs bestInputs under nothing
+  unfolding chosenInputs bestInputs under nothing delayed
   inputs-point cell load t [] {q} h e = sym (before-yes (suc t) (record { area = 0; arrival = 0 }) (omega arith)) ∙ e
   inputs-point cell load t (i ∷ is) {q} h e =
       let d = inputDelay cell load i in
       let below = covers l (pinLoad l (feeds cell i)) (i .node) (i .shape) in
       let parts = both-some (Option·map (late d) (least (suc t - d) below)) (bestInputs (leastInput (allBelow l)) cell load (suc t) is) e in
-      point-both (Option·map (delayed d) (chosenBelow (feeds cell i) i (t - d))) (chosenInputs chosenBelow cell load t is) ∙ ap₂ both (point-delayed d (chosenBelow (feeds cell i) i (t - d)) ∙ ap (Option·map (late d)) (h i (List·Memᴰ·head refl) (pinLoad l (feeds cell i)) (i .node) (t - d) ∙ ap (λ k. least k below) (in-time d below (parts .2)))) (inputs-point cell load t is (λ j m. h j (List·Memᴰ·tail m)) (parts .3) ∙ sym (parts .3)) ∙ e
-    where
-      in-time : (d : ℕ) (cs : List Cover) {a : Point} → Option·map (late d) (least (suc t - d) cs) ≡ some a → suc (t - d) ≡ suc t - d
-      in-time d cs {a} f = go (lt-or-le t d)
-        where
-          go : (t < d) ⊎ (d ≤ t) → suc (t - d) ≡ suc t - d
-          go (inl k) = let z : suc t - d ≡ 0 = omega arith in let y : least (suc t - d) cs ≡ none = rw z (least-zero cs) in absurd (Option·none-ne-some a (rw y at f))
-          go (inr k) = omega arith
+      let best = map-eq-some-iff (late d) (least (suc t - d) below) .0 (parts .2) in
+      let left : suc (t - d) ≡ suc t - d = omega (arith, least-some (least-is (suc t - d) below) (best .1) .intime) in
+      let first = chosenBelow (feeds cell i) i (t - d) in
+      let here = h i (List·Memᴰ·head refl) (pinLoad l (feeds cell i)) (i .node) (t - d) in
+      let rest = inputs-point cell load t is (λ j m. h j (List·Memᴰ·tail m)) (parts .3) in
+      cc (point-both (Option·map (delayed d) first) (chosenInputs chosenBelow cell load t is), point-map (delayed d) (late d) (λ c. refl) first)
 
   module _ (load n : ℕ) (s : Shape) where
     -- Every cover of a match at the node is a cover of the node.
@@ -119,41 +93,29 @@ module _ (l : Library) where
     pub pattern-reaches : {end : ℕ} {p : Point} {m : Match} → IsLeast end (In (covers l load n s)) p → List·Memᴰ m (matches l load n s) → (reaches p (matchCovers (allBelow l) load n m) ≡ true) ↔ (bestMatch (leastInput (allBelow l)) load (suc (p .arrival)) m ≡ some p)
     pattern-reaches {p} {m} f h = rw (← (deadline-match (allBelow l) load n (suc (p .arrival)) m)) (reaches-when-best (covers l load n s) (matchCovers (allBelow l) load n m) f (match-covers-in h))
 
-    gate-point : ((t : Shape) → size t < size s → Chosen t) → 0 < gates s → (time : ℕ) → costOf (choice l load n s time) ≡ least (suc time) (covers l load n s)
-    unfolding gateChoice gateCovers firstReaching withInputs
-    gate-point below g time = ap costOf (gate-choice l load n s time g) ∙ go (least-is (suc time) (covers l load n s))
-      where
-        at-match : {p : Point} → IsLeast (suc time) (In (covers l load n s)) p → {o : Option Match} → FirstOf (λ m. reaches p (matchCovers (allBelow l) load n m)) (matches l load n s) o → costOf (withInputs chosenBelow load n (p .arrival) o) ≡ some p
-        at-match {p} f (nowhere a) = let r = of-flatMap (matchCovers (allBelow l) load n) (matches l load n s) (rw (gate-covers l load n s g) at (f .among)) in absurd (false≢true (sym (a (r .0) (r .1)) ∙ true-reaches p (matchCovers (allBelow l) load n (r .0)) (r .2) (f .point)))
-        at-match {p} f (somewhere {x = m} k r) = unfold bestMatch in
-            let a = m .pattern .cell .area in
-            let chosen = chosenInputs chosenBelow (m .pattern .cell) load (p .arrival) (m .inputs) in
-            let q = map-eq-some-iff (raised a) (bestInputs (leastInput (allBelow l)) (m .pattern .cell) load (suc (p .arrival)) (m .inputs)) .0 (pattern-reaches f k .0 r) in
-            point-topped n m chosen ∙ ap (Option·map (raised a)) (inputs-point (m .pattern .cell) load (p .arrival) (m .inputs) (λ i j. below (i .shape) (input-smaller (matches-are l load n s k) j)) (q .1)) ∙ ap {B = Option Point} some (q .2)
+  gate-point : (s : Shape) → 0 < gates s → ((t : Shape) → size t < size s → Chosen t) → Chosen s
+  unfolding gateChoice gateCovers firstReaching withInputs topped bestMatch
+  gate-point s g below load n time =
+      let by = matchCovers (allBelow l) load n in
+      rw (gate-choice l load n s time g) (least-cases (λ o. costOf (gateChoice l (choice l) load n s o) ≡ o) (suc time) (covers l load n s) (λ a. refl)
+      (λ p f. first-cases (λ m. reaches p (by m)) (λ o. costOf (withInputs chosenBelow load n (p .arrival) o) ≡ some p) (matches l load n s)
+      (λ a. let r = of-flatMap by (matches l load n s) (rw (gate-covers l load n s g) at (f .among)) in absurd (false≢true (sym (a (r .0) (r .1)) ∙ true-reaches p (by (r .0)) (r .2) (f .point))))
+      (λ m k r. let cell = m .pattern .cell in
+      let q = map-eq-some-iff (raised (cell .area)) (bestInputs (leastInput (allBelow l)) cell load (suc (p .arrival)) (m .inputs)) .0 (pattern-reaches load n s f k .0 r) in
+      let given = inputs-point cell load (p .arrival) (m .inputs) (λ i j. below (i .shape) (input-smaller (matches-are l load n s k) j)) (q .1) in
+      cc (point-map (topped n m) (raised (cell .area)) (λ c. refl) (chosenInputs chosenBelow cell load (p .arrival) (m .inputs)), given, q .2))))
 
-        go : {o : Option Point} → LeastOf (suc time) (In (covers l load n s)) o → costOf (gateChoice l (choice l) load n s o) ≡ o
-        go (absent a) = refl
-        go (found {p = p} f) = at-match f (first-of (λ m. reaches p (matchCovers (allBelow l) load n m)) (matches l load n s))
-
-  leaf-point : (load n : ℕ) (x : Leaf) (time : ℕ) → costOf (choice l load n (leaf x) time) ≡ least (suc time) (covers l load n (leaf x))
-  unfolding choiceStep coversStep least lesser
-  leaf-point load n x time = ap (λ f. costOf (f time)) (choice-unroll l load n (leaf x)) ∙ go (lt-or-le a (suc time)) ∙ ap (least (suc time)) (sym (covers-unroll l load n (leaf x)))
-    where
-      a : ℕ
-      a = leafArrival x load
-
-      go : (a < suc time) ⊎ (suc time ≤ a) → costOf (cond (leb a time) (some (leafCover x load)) none) ≡ lesser (before (suc time) (leafCover x load .point)) none
-      go (inl h) = rw (le-leb a time (omega arith), before-yes (suc time) (leafCover x load .point) h)
-      go (inr h) = rw (lt-leb a time h, before-no (suc time) (leafCover x load .point) h)
+  leaf-point : (x : Leaf) → Chosen (leaf x)
+  unfolding coversStep least lesser
+  leaf-point x load n time =
+      let a = leafArrival x load in
+      let p = leafCover x load .point in
+      rw (choice-unroll l load n (leaf x), covers-unroll l load n (leaf x))
+      (unfold choiceStep in ⊎-elim (λ h. rw (le-leb a time (omega arith), before-yes (suc time) p h)) (λ h. rw (lt-leb a time h, before-no (suc time) p h)) (lt-or-le a (suc time)))
 
   -- The choice rule hands over the least point: the least area with arrival at most the time, and the least arrival with that area.
   pub choice-point : (load n : ℕ) (s : Shape) (time : ℕ) → costOf (choice l load n s time) ≡ least (suc time) (covers l load n s)
-  choice-point load n s time = by-size Chosen step s load n time
-    where
-      step : (s : Shape) → ((t : Shape) → size t < size s → Chosen t) → Chosen s
-      step (leaf x) below load n time = leaf-point load n x time
-      step (inv s) below load n time = gate-point load n (inv s) below (unfold gates in omega arith) time
-      step (nand s t) below load n time = gate-point load n (nand s t) below (unfold gates in omega arith) time
+  choice-point load n s = by-gate Chosen leaf-point gate-point s load n
 
   -- What is claimed of a shape: the chosen cover is a legal one.
   abbrev Legal : Shape → Type 0
@@ -168,35 +130,24 @@ module _ (l : Library) where
       let k = map-eq-some-iff (delayed d) (chosenBelow (feeds cell i) i (t - d)) .0 (r .2) in
       more (h i (List·Memᴰ·head refl) _ _ _ _ (k .1)) (inputs-legal cell load t is (λ j m. h j (List·Memᴰ·tail m)) (r .3)) (r .4 ∙ ap (λ x. together x (r .1)) (sym (k .2)))
 
-  gate-legal : (load n : ℕ) (s : Shape) → ((t : Shape) → size t < size s → Legal t) → 0 < gates s → (time : ℕ) (c : Cover) → choice l load n s time ≡ some c → IsCover l load n s c
+  gate-legal : (s : Shape) → 0 < gates s → ((t : Shape) → size t < size s → Legal t) → Legal s
   unfolding gateChoice firstReaching withInputs
-  gate-legal load n s below g time c e = go (least (suc time) (covers l load n s)) (sym (gate-choice l load n s time g) ∙ e)
-    where
-      at-match : (t : ℕ) {test : Match → Bool} {o : Option Match} → FirstOf test (matches l load n s) o → withInputs chosenBelow load n t o ≡ some c → IsCover l load n s c
-      at-match t (nowhere a) e = absurd (Option·none-ne-some _ e)
-      at-match t (somewhere {x = m} k r) e =
-          let q = map-eq-some-iff (topped n m) (chosenInputs chosenBelow (m .pattern .cell) load t (m .inputs)) .0 e in
-          let h = matches-are l load n s k in
-          matching m h (inputs-legal (m .pattern .cell) load t (m .inputs) (λ i j. below (i .shape) (input-smaller h j)) (q .1)) (sym (q .2))
+  gate-legal s g below load n time c e =
+      let w : gateChoice l (choice l) load n s (least (suc time) (covers l load n s)) ≡ some c = rw (gate-choice l load n s time g) at e in
+      option-cases (least (suc time) (covers l load n s)) (λ f. absurd (Option·none-ne-some _ (rw f at w)))
+      (λ p f. first-cases (λ m. reaches p (matchCovers (allBelow l) load n m)) (λ o. withInputs chosenBelow load n (p .arrival) o ≡ some c → IsCover l load n s c) (matches l load n s)
+      (λ a e. absurd (Option·none-ne-some _ e))
+      (λ m k r e. let q = map-eq-some-iff (topped n m) (chosenInputs chosenBelow (m .pattern .cell) load (p .arrival) (m .inputs)) .0 e in let h = matches-are l load n s k in
+      matching m h (inputs-legal (m .pattern .cell) load (p .arrival) (m .inputs) (λ i j. below (i .shape) (input-smaller h j)) (q .1)) (sym (q .2))) (rw f at w))
 
-      go : (o : Option Point) → gateChoice l (choice l) load n s o ≡ some c → IsCover l load n s c
-      go none e = absurd (Option·none-ne-some _ e)
-      go (some p) e = at-match (p .arrival) (first-of (λ m. reaches p (matchCovers (allBelow l) load n m)) (matches l load n s)) e
+  leaf-legal : (x : Leaf) → Legal (leaf x)
+  unfolding choiceStep
+  leaf-legal x load n time c e =
+      let f : choiceStep l (choice l) load n (leaf x) time ≡ some c = rw (choice-unroll l load n (leaf x)) at e in
+      cases (leb (leafArrival x load) time) (λ k. bare (sym (Option·some-injective _ _ (rw k at f)))) (λ k. absurd (Option·none-ne-some _ (rw k at f)))
 
   choice-legal : (load n : ℕ) (s : Shape) (time : ℕ) {c : Cover} → choice l load n s time ≡ some c → IsCover l load n s c
-  choice-legal load n s time {c} e = by-size Legal step s load n time c e
-    where
-      leaf-legal : (x : Leaf) → Legal (leaf x)
-      leaf-legal x load n time c e = unfold choiceStep in go (leb (leafArrival x load) time) (ap (λ f. f time) (sym (choice-unroll l load n (leaf x))) ∙ e)
-        where
-          go : (b : Bool) → cond b (some (leafCover x load)) none ≡ some c → IsCover l load n (leaf x) c
-          go true e = bare (sym (Option·some-injective _ _ e))
-          go false e = absurd (Option·none-ne-some _ e)
-
-      step : (s : Shape) → ((t : Shape) → size t < size s → Legal t) → Legal s
-      step (leaf x) below load n = leaf-legal x load n
-      step (inv s) below load n = gate-legal load n (inv s) below (unfold gates in omega arith)
-      step (nand s t) below load n = gate-legal load n (nand s t) below (unfold gates in omega arith)
+  choice-legal load n s time {c} = by-gate Legal leaf-legal gate-legal s load n time c
 
   -- The order of the match at a cover's root.
   abbrev rootRank : Cover → ℕ
@@ -211,14 +162,14 @@ module _ (l : Library) where
   gate-lowest : (load n : ℕ) (s : Shape) (time : ℕ) → 0 < gates s → {c : Cover} → choice l load n s time ≡ some c → (d : Cover) → IsCover l load n s d → d .point ≡ c .point → rootRank c ≤ rootRank d
   unfolding gateChoice gateCovers matchCovers firstReaching withInputs topped firstPlaced rootPattern rootCrossing
   gate-lowest load n s time g {c} e d k h =
+      let by = matchCovers (allBelow l) load n in
       let q : least (suc time) (covers l load n s) ≡ some (c .point) = sym (choice-point load n s time) ∙ ap costOf e in
-      let r = of-flatMap (matchCovers (allBelow l) load n) (matches l load n s) (rw (gate-covers l load n s g) at (covers-all l k)) in
+      let r = of-flatMap by (matches l load n s) (rw (gate-covers l load n s g) at (covers-all l k)) in
       let t = Memᴰ·of-map (topped n (r .0)) (inputCovers (allBelow l) (r .0 .pattern .cell) load (r .0 .inputs)) (r .2) in
-      rw (← (t .2)) (go (firstReaching l load n s (c .point)) refl (sym (ap (gateChoice l (choice l) load n s) q) ∙ sym (gate-choice l load n s time g) ∙ e) (r .1) (true-reaches (c .point) (matchCovers (allBelow l) load n (r .0)) (r .2) h))
-    where
-      go : (o : Option Match) → firstReaching l load n s (c .point) ≡ o → withInputs chosenBelow load n (c .point .arrival) o ≡ some c → {m : Match} → List·Memᴰ m (matches l load n s) → reaches (c .point) (matchCovers (allBelow l) load n m) ≡ true → rootRank c ≤ rank m
-      go none f e k r = absurd (Option·none-ne-some _ e)
-      go (some x) f e k r = let t = map-eq-some-iff (topped n x) (chosenInputs chosenBelow (x .pattern .cell) load (c .point .arrival) (x .inputs)) .0 e in rw (← (ap rootRank (t .2))) (first-lowest (λ m. reaches (c .point) (matchCovers (allBelow l) load n m)) (matches-ascend l load n s) f k r)
+      let w : withInputs chosenBelow load n (c .point .arrival) (firstReaching l load n s (c .point)) ≡ some c = rw (gate-choice l load n s time g, q) at e in
+      rw (← (t .2)) (option-cases {X = rootRank c ≤ rank (r .0)} (firstReaching l load n s (c .point)) (λ f. absurd (Option·none-ne-some _ (rw f at w)))
+      (λ x f. let u = map-eq-some-iff (topped n x) (chosenInputs chosenBelow (x .pattern .cell) load (c .point .arrival) (x .inputs)) .0 (rw f at w) in
+      rw (← (ap rootRank (u .2))) (first-lowest (λ m. reaches (c .point) (by m)) (matches-ascend l load n s) f (r .1) (true-reaches (c .point) (by (r .0)) (r .2) h))))
 
   choice-lowest : (load n : ℕ) (s : Shape) (time : ℕ) {c : Cover} → choice l load n s time ≡ some c → (d : Cover) → IsCover l load n s d → d .point ≡ c .point → rootRank c ≤ rootRank d
   unfolding gates coversStep leafCover firstPlaced rootPattern rootCrossing
@@ -231,18 +182,15 @@ module _ (l : Library) where
     pub choice-handed : {c : Cover} → choice l load n s time ≡ some c → Handed l load n s time c
     choice-handed {c} e =
         let h = least-some (least-is (suc time) (covers l load n s)) (sym (choice-point load n s time) ∙ ap costOf e) in
-        record { legal = choice-legal load n s time e; intime = by-then (h .intime); smallest = λ d k t. leq-area (h .first d (covers-all l k) (before-next t)); earliest = λ d k a. go a (lt-or-le (d .point .arrival) (suc time)) (h .first d (covers-all l k)) (h .intime); lowest = λ d k q. by-rank (choice-lowest load n s time e d k q) (root-crossing-small (choice-legal load n s time e)) (root-crossing-small k) .0; least-crossed = λ d k q r. by-rank (choice-lowest load n s time e d k q) (root-crossing-small (choice-legal load n s time e)) (root-crossing-small k) .1 r }
-      where
-        by-rank : {a x b y : ℕ} → 32 * a + x ≤ 32 * b + y → x < crossingLimit → y < crossingLimit → (a ≤ b) × (b ≡ a → x ≤ y)
-        by-rank h f g = (omega arith, λ e. omega arith)
-
-        same-area : {p q : Point} → Leq p q → q .area ≡ p .area → p .arrival ≤ q .arrival
-        same-area (smaller h) a = absurd (omega arith)
-        same-area (earlier h t) a = t
-
-        go : {p q : Point} → q .area ≡ p .area → (q .arrival < suc time) ⊎ (suc time ≤ q .arrival) → (q .arrival < suc time → Leq p q) → p .arrival < suc time → p .arrival ≤ q .arrival
-        go a (inl t) f i = same-area (f t) a
-        go a (inr t) f i = omega arith
+        let legal = choice-legal load n s time e in
+        record {
+          legal = legal;
+          intime = by-then (h .intime);
+          smallest = λ d k t. leq-area (h .first d (covers-all l k) (before-next t));
+          earliest = λ d k a. ⊎-elim (λ t. leq-time (h .first d (covers-all l k) t) (omega arith)) (λ t. omega (arith, h .intime)) (lt-or-le (d .point .arrival) (suc time));
+          lowest = λ d k q. omega (arith, choice-lowest load n s time e d k q, root-crossing-small legal, root-crossing-small k);
+          least-crossed = λ d k q r. omega (arith, choice-lowest load n s time e d k q);
+        }
 
     -- None is handed over only if no legal cover meets the time.
     pub choice-none : choice l load n s time ≡ none → (d : Cover) → IsCover l load n s d → time < d .point .arrival

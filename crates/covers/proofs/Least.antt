@@ -1,15 +1,15 @@
 -- The least point of a list of covers before an instant: how it goes through lists, that it is what it says, and that nothing else is.
 use Prim.Native.Nat.{ℕ, _≤_, _<_}
 use mathlib.Core.Path.{_≡_, refl, sym, ap, ap₂, subst, _∙_}
-use mathlib.Core.Logic.{_⊎_, inl, inr}
-use mathlib.Core.Bool.{Bool, true, false, cond}
+use mathlib.Core.Logic.{⊎-elim}
 use mathlib.Core.List.{List, [], _∷_, _++_, map, flatMap, List·Memᴰ, List·Memᴰ·head, List·Memᴰ·tail, List·Memᴰ·not-nil}
 use mathlib.Core.Option.{Option, none, some, Option·none-ne-some, Option·some-ne-none, Option·some-injective}
 use native.Mathlib.Omega.{arith}
 use lib.Dec.{ltb}
+use borrow.Table.Steps.{cases}
 use Rattle.covers.specs.Cover.{Point, Cover, together}
 use Rattle.covers.specs.Enumeration.{combined}
-use Rattle.covers.specs.Choice.{pick, lesser, before, least}
+use Rattle.covers.specs.Choice.{lesser, before, least}
 use Rattle.covers.proofs.Basics.{tests, each}
 use Rattle.covers.specs.Inside.Curve.{both}
 use Rattle.covers.proofs.Points.{Leq, leq-refl, leq-trans, leq-antisym, leq-total, pick-left, pick-right, lesser-assoc, Carries, both-lesser, both-carries, before-beside}
@@ -46,28 +46,34 @@ abbrev pub In : List Cover → Cover → Type 0
 In cs c = List·Memᴰ c cs
 
 module _ (end : ℕ) (c : Cover) (cs : List Cover) where
+  -- The first cover may be of the least point, or the least of the others may stay it.
+  first-least : c .point .arrival < end → ((d : Cover) → In cs d → d .point .arrival < end → Leq (c .point) (d .point)) → IsLeast end (In (c ∷ cs)) (c .point)
+  first-least h f = record { cover = c; among = List·Memᴰ·head refl; point = refl; intime = h; first = each {P = λ d. d .point .arrival < end → Leq (c .point) (d .point)} (λ t. leq-refl (c .point)) f }
+
+  still-least : {p : Point} → (c .point .arrival < end → Leq p (c .point)) → IsLeast end (In cs) p → IsLeast end (In (c ∷ cs)) p
+  still-least {p} h f = record { cover = f .cover; among = List·Memᴰ·tail (f .among); point = f .point; intime = f .intime; first = each {P = λ d. d .point .arrival < end → Leq p (d .point)} h (f .first) }
+
   late-first : {o : Option Point} → end ≤ c .point .arrival → LeastOf end (In cs) o → LeastOf end (In (c ∷ cs)) o
   late-first h (absent a) = absent (each {P = λ d. end ≤ d .point .arrival} h a)
-  late-first h (found {p} f) = found record { cover = f .cover; among = List·Memᴰ·tail (f .among); point = f .point; intime = f .intime; first = each {P = λ d. d .point .arrival < end → Leq p (d .point)} (λ k. absurd (omega arith)) (f .first) }
+  late-first h (found f) = found (still-least (λ t. absurd (omega arith)) f)
 
   timely-first : {o : Option Point} → c .point .arrival < end → LeastOf end (In cs) o → LeastOf end (In (c ∷ cs)) (lesser (some (c .point)) o)
   unfolding lesser
-  timely-first h (absent a) = found record { cover = c; among = List·Memᴰ·head refl; point = refl; intime = h; first = each {P = λ d. d .point .arrival < end → Leq (c .point) (d .point)} (λ k. leq-refl (c .point)) (λ d m k. let z = a d m in absurd (omega arith)) }
-  timely-first h (found {p} f) = go (leq-total (c .point) p)
-    where
-      go : Leq (c .point) p ⊎ Leq p (c .point) → LeastOf end (In (c ∷ cs)) (some (pick (c .point) p))
-      go (inl k) = rw (pick-left k) (found record { cover = c; among = List·Memᴰ·head refl; point = refl; intime = h; first = each {P = λ d. d .point .arrival < end → Leq (c .point) (d .point)} (λ t. leq-refl (c .point)) (λ d m t. leq-trans k (f .first d m t)) })
-      go (inr k) = rw (pick-right k) (found record { cover = f .cover; among = List·Memᴰ·tail (f .among); point = f .point; intime = f .intime; first = each {P = λ d. d .point .arrival < end → Leq p (d .point)} (λ t. k) (f .first) })
+  timely-first h (absent a) = found (first-least h (λ d m t. absurd (omega (arith, a d m))))
+  timely-first h (found {p} f) =
+      ⊎-elim (λ (k : Leq (c .point) p). rw (pick-left k) (found (first-least h (λ d m t. leq-trans k (f .first d m t)))))
+      (λ (k : Leq p (c .point)). rw (pick-right k) (found (still-least (λ t. k) f))) (leq-total (c .point) p)
 
 -- The least is what it says.
 pub least-is : (end : ℕ) (cs : List Cover) → LeastOf end (In cs) (least end cs)
 unfolding least before lesser
 least-is end [] = absent (λ c m. absurd (List·Memᴰ·not-nil m))
-least-is end (c ∷ cs) = go (ltb (c .point .arrival) end) refl (least-is end cs)
-  where
-    go : (b : Bool) → ltb (c .point .arrival) end ≡ b → LeastOf end (In cs) (least end cs) → LeastOf end (In (c ∷ cs)) (lesser (cond b (some (c .point)) none) (least end cs))
-    go true e v = timely-first end c cs (omega (arith, tests)) v
-    go false e v = late-first end c cs (omega (arith, tests)) v
+least-is end (c ∷ cs) =
+    cases (ltb (c .point .arrival) end) (λ e. rw e (timely-first end c cs (omega (arith, tests)) (least-is end cs))) (λ e. rw e (late-first end c cs (omega (arith, tests)) (least-is end cs)))
+
+pub least-cases : (P : Option Point → Type 0) (end : ℕ) (cs : List Cover) → (((c : Cover) → In cs c → end ≤ c .point .arrival) → P none) →
+    ((p : Point) → IsLeast end (In cs) p → P (some p)) → P (least end cs)
+least-cases P end cs f g = elim (least-is end cs) as (λ o v. P o) [ absent a ↦ f a | found {p} h ↦ g p h ]
 
 pub least-some : {end : ℕ} {Among : Cover → Type 0} {o : Option Point} {p : Point} → LeastOf end Among o → o ≡ some p → IsLeast end Among p
 least-some (absent a) e = absurd (Option·none-ne-some _ e)
@@ -79,16 +85,14 @@ least-none (found f) e = absurd (Option·some-ne-none _ e)
 
 -- Before a later instant it is no greater.
 pub least-rises : {end end′ : ℕ} → end ≤ end′ → (cs : List Cover) {p : Point} → least end cs ≡ some p → (q : Point) × (least end′ cs ≡ some q) × Leq q p
-least-rises {end} {end′} h cs {p} e = go (least-some (least-is end cs) e) (least-is end′ cs)
-  where
-    go : IsLeast end (In cs) p → {o : Option Point} → LeastOf end′ (In cs) o → (q : Point) × (o ≡ some q) × Leq q p
-    go f (absent a) = absurd (omega (arith, a (f .cover) (f .among), ap (λ x. x .arrival) (f .point), f .intime))
-    go f (found {p = q} g) = (q, refl, rw (f .point) at (g .first (f .cover) (f .among) (omega (arith, ap (λ x. x .arrival) (f .point), f .intime))))
+least-rises {end} {end′} h cs {p} e =
+    let f = least-some (least-is end cs) e in
+    let t : f .cover .point .arrival < end′ = rw (f .point) (omega (arith, f .intime)) in
+    least-cases (λ o. (q : Point) × (o ≡ some q) × Leq q p) end′ cs (λ a. absurd (omega (arith, a (f .cover) (f .among)))) (λ q g. (q, refl, rw (f .point) at (g .first (f .cover) (f .among) t)))
 
 -- Nothing else is.
 pub is-least : {end : ℕ} (cs : List Cover) {p : Point} → IsLeast end (In cs) p → least end cs ≡ some p
-is-least {end} cs {p} f = go (least-is end cs)
-  where
-    go : {o : Option Point} → LeastOf end (In cs) o → o ≡ some p
-    go (absent a) = absurd (omega (arith, a (f .cover) (f .among), ap (λ x. x .arrival) (f .point), f .intime))
-    go (found {p = q} g) = ap {B = Option Point} some (leq-antisym (rw (f .point) at (g .first (f .cover) (f .among) (rw (f .point) (f .intime)))) (rw (g .point) at (f .first (g .cover) (g .among) (rw (g .point) (g .intime)))))
+is-least {end} cs {p} f =
+    let t : f .cover .point .arrival < end = rw (f .point) (f .intime) in
+    least-cases (λ o. o ≡ some p) end cs (λ a. absurd (omega (arith, a (f .cover) (f .among))))
+    (λ q g. ap {B = Option Point} some (leq-antisym (rw (f .point) at (g .first (f .cover) (f .among) t)) (rw (g .point) at (f .first (g .cover) (g .among) (rw (g .point) (g .intime))))))

@@ -1,16 +1,18 @@
 -- What is lent, and what it allows.
 use Prim.Native.Nat.{ℕ, _≤_, _<_}
 use mathlib.Core.Path.{_≡_, refl, sym}
-use mathlib.Core.Bool.{Bool, true, false, _&&_, cond}
+use mathlib.Core.Bool.{_&&_}
 use native.Mathlib.Omega.{arith}
 use lib.Dec.{leb}
+use borrow.Table.Steps.{cases}
 use borrow.Author.Tests.{le-leb, lt-leb, leb-true}
-use Rattle.fields.specs.Answer.{Answer, refused, success}
+use Rattle.fields.specs.Answer.{refused, success}
 use Rattle.fields.proofs.Answer.{answer-apart}
 use Rattle.covers.specs.Capacity.{capacity, workWords, allowed}
 use Rattle.covers.specs.Answer.{shortNumber}
 use Rattle.covers.specs.Inside.Allowed.{Allowed}
 use Rattle.covers.specs.Lending.{lent}
+use Rattle.covers.proofs.Basics.{both-true}
 
 -- ---- the capacity
 
@@ -41,9 +43,7 @@ module _ (least output work : ℕ) where
   -- And what was not refused was lent enough.
   pub enough-lent : {most : ℕ} → lent least output work ≡ success most → (least ≤ output) × (workWords capacity ≤ work) × (most ≡ allowed work)
   unfolding lent
-  enough-lent {most} e = go (leb least output) refl (leb (workWords capacity) work) refl e
-    where
-      go : (b : Bool) → leb least output ≡ b → (d : Bool) → leb (workWords capacity) work ≡ d → cond (b && d) (success (allowed work)) (refused shortNumber 0) ≡ success most → (least ≤ output) × (workWords capacity ≤ work) × (most ≡ allowed work)
-      go true f true g e = (leb-true least output f, leb-true (workWords capacity) work g, sym (cc))
-      go true f false g e = absurd (answer-apart (sym e))
-      go false f d g e = absurd (answer-apart (sym e))
+  enough-lent {most} e =
+      cases (leb least output && leb (workWords capacity) work)
+      (λ f. let b = both-true (leb least output) (leb (workWords capacity) work) f in let g : success (allowed work) ≡ success most = rw f at e in
+      (leb-true least output (b .0), leb-true (workWords capacity) work (b .1), sym (cc))) (λ f. absurd (answer-apart (sym (rw f at e))))

@@ -1,5 +1,5 @@
 -- The overfull node is named exactly when it is the highest with more trade-offs than allowed under a load considered there, and none is named exactly when there is none.
-use Prim.Native.Nat.{ℕ, suc, _+_, _≤_, _<_}
+use Prim.Native.Nat.{ℕ, suc, _+_, _<_}
 use mathlib.Core.Path.{_≡_, refl, sym, ap, _∙_}
 use mathlib.Core.Logic.{_↔_}
 use mathlib.Core.Bool.{Bool, true, false, cond, false≢true}
@@ -49,28 +49,20 @@ last-of test (then {x = x} {xs = xs} h r) = go (test x) refl (last-of test r)
 -- What the test says of the list of trade-offs.
 pub overfull-listed : (most : ℕ) (l : Library) (t : Tree) (x : Node) → (overfull most l t x ≡ true) ↔ ((load : ℕ) × List·Memᴰ load (considered l t (x .number) (x .shape)) × (most < length (tradeoffs l load (x .number) (x .shape))))
 unfolding overfull
-overfull-listed most l t x = (λ e. let r = any-true test loads e in (r .0, r .1, omega (arith, tests, r .2)), λ m. true-any test loads (m .1) (lt-ltb _ _ (m .2)))
-  where
-    test : ℕ → Bool
-    test load = ltb most (length (tradeoffs l load (x .number) (x .shape)))
-
-    loads : List ℕ
-    loads = considered l t (x .number) (x .shape)
+overfull-listed most l t x =
+    let test : ℕ → Bool = λ load. ltb most (length (tradeoffs l load (x .number) (x .shape))) in
+    let loads = considered l t (x .number) (x .shape) in
+    (λ e. let r = any-true test loads e in (r .0, r .1, omega (arith, tests, r .2)), λ m. true-any test loads (m .1) (lt-ltb _ _ (m .2)))
 
 -- What it says of all legal covers.
 pub overfull-when : (most : ℕ) (l : Library) (t : Tree) (x : Node) → (overfull most l t x ≡ true) ↔ TooMany most l t x
 unfolding tradeoffs
-overfull-when most l t x = (to, from)
-  where
-    to : overfull most l t x ≡ true → TooMany most l t x
-    to e =
-        let r = overfull-listed most l t x .0 e in
-        record { load = r .0; among = r .1; points = tradeoffs l (r .0) (x .number) (x .shape); apart = tradeoffs-climb (points (covers l (r .0) (x .number) (x .shape))); each = λ p. tradeoffs-legal l (r .0) (x .number) (x .shape) p .0; exceeds = r .2 }
-
-    from : TooMany most l t x → overfull most l t x ≡ true
-    from m =
-        let fewer : length (m .points) ≤ length (tradeoffs l (m .load) (x .number) (x .shape)) = climbing-fewer (m .apart) (tradeoffs-climb (points (covers l (m .load) (x .number) (x .shape)))) (λ p k. tradeoffs-legal l (m .load) (x .number) (x .shape) p .1 (m .each p k)) in
-        overfull-listed most l t x .1 (m .load, m .among, omega (arith, m .exceeds))
+overfull-when most l t x = (
+  λ e. let r = overfull-listed most l t x .0 e in
+      record { load = r .0; among = r .1; points = tradeoffs l (r .0) (x .number) (x .shape); apart = tradeoffs-climb (points (covers l (r .0) (x .number) (x .shape))); each = λ p. tradeoffs-legal l (r .0) (x .number) (x .shape) p .0; exceeds = r .2 },
+  λ m. let fewer = climbing-fewer (m .apart) (tradeoffs-climb (points (covers l (m .load) (x .number) (x .shape)))) (λ p k. tradeoffs-legal l (m .load) (x .number) (x .shape) p .1 (m .each p k)) in
+      overfull-listed most l t x .1 (m .load, m .among, omega (arith, m .exceeds, fewer)),
+)
 
 -- What is named, and when nothing is.
 pub overfull-named : (most : ℕ) (l : Library) (t : Tree) → LastOf (overfull most l t) (nodes 0 (t .shape)) (overfullNode most l t)

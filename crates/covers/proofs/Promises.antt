@@ -9,11 +9,12 @@ use Rattle.fields.specs.Answer.{Answer, refused, success}
 use Rattle.sheets_rules.specs.Model.{Library, Tree}
 use Rattle.covers.specs.Cover.{Point, Cover}
 use Rattle.covers.specs.Enumeration.{covers}
-use Rattle.covers.specs.Tradeoff.{Climbing, points, tradeoffs, Node, nodes, TooMany, overfull, overfullNode}
+use Rattle.covers.specs.Tradeoff.{Climbing, points, tradeoffs, Node, nodes, TooMany, overfull}
 use Rattle.covers.specs.Choice.{choice}
 use Rattle.covers.specs.Answer.{overfullNumber, noCoverNumber, answered, mapped, nonempty, listed}
 use Rattle.covers.specs.Promise.{RootCover, HighestTooMany, NoneTooMany, InTime, BestCover, RootTradeoffs}
-use Rattle.covers.proofs.Least.{LeastOf, absent, found, In, least-is}
+use Rattle.covers.proofs.Basics.{option-cases}
+use Rattle.covers.proofs.Least.{least-cases}
 use Rattle.covers.proofs.Relation.{covers-all}
 use Rattle.covers.proofs.Listing.{area-listed}
 use Rattle.covers.proofs.Determined.{placed-determines}
@@ -40,44 +41,39 @@ module _ (most : ℕ) (l : Library) (t : Tree) where
   fails : {x : Node} → overfull most l t x ≡ false → TooMany most l t x → ⊥
   fails {x} e m = false≢true (sym e ∙ overfull-when most l t x .1 m)
 
-  -- What is known of the node named.
-  data Counted : Option ℕ → Type 0 where
-    fits : NoneTooMany most l t → Counted none
-    exceeds : {k : ℕ} → HighestTooMany most l t k → Counted (some k)
+  -- What is asked of a cover or list that may be missing.
+  abbrev Kept : {A : Type 0} → (Cover → Type 0) → (A → Type 0) → Option A → Type 0
+  Kept Wanted Right none = (c : Cover) → Wanted c → ⊥
+  Kept Wanted Right (some a) = Right a
 
-  counted : Counted (overfullNode most l t)
-  counted = go (overfull-named most l t)
-    where
-      go : {o : Option ℕ} → LastOf (overfull most l t) (nodes 0 (t .shape)) o → Counted o
-      go (nowhere a) = fits (λ x m. fails (a x m))
-      go (at h) = exceeds record { node = h .node; among = h .among; number = h .number; tooMany = overfull-when most l t (h .node) .0 (h .passes); none-above = λ x m k. fails (h .above x m k) }
+  promised : {A : Type 0} {Wanted : Cover → Type 0} {Right : A → Type 0} {o : Option ℕ} →
+      LastOf (overfull most l t) (nodes 0 (t .shape)) o → (c : Option A) → Kept Wanted Right c → Promise Wanted Right most l t (answered o c)
+  unfolding answered
+  promised (at h) c k = too-many record { node = h .node; among = h .among; number = h .number; tooMany = overfull-when most l t (h .node) .0 (h .passes); none-above = λ x m k. fails (h .above x m k) }
+  promised (nowhere a) none k = none-wanted (λ x m. fails (a x m)) k
+  promised (nowhere a) (some c) k = right (λ x m. fails (a x m)) k
 
   pub map-promise : MapPromise most l t (mapped most l t)
-  unfolding mapped answered
-  map-promise = go counted (choice l (t .load) 0 (t .shape) (t .required)) refl
-    where
-      go : {o : Option ℕ} → Counted o → (c : Option Cover) → choice l (t .load) 0 (t .shape) (t .required) ≡ c → MapPromise most l t (answered o c)
-      go (exceeds h) c e = too-many h
-      go (fits a) none e = none-wanted a (λ c k. omega (arith, choice-none l (t .load) 0 (t .shape) (t .required) e c (k .0), k .1))
-      go (fits a) (some c) e = let h = choice-handed l (t .load) 0 (t .shape) (t .required) e in right a record { best = h; area-is = area-listed l (h .legal); only = λ d k. placed-determines k (h .legal) }
+  unfolding mapped
+  map-promise =
+      let given = choice l (t .load) 0 (t .shape) (t .required) in
+      promised (overfull-named most l t) given (option-cases given (λ e. rw e (λ c k. omega (arith, choice-none l (t .load) 0 (t .shape) (t .required) e c (k .0), k .1)))
+      (λ c e. let h = choice-handed l (t .load) 0 (t .shape) (t .required) e in rw e record { best = h; area-is = area-listed l (h .legal); only = λ d k. placed-determines k (h .legal) }))
 
   -- With no trade-off there is no cover: the least point of any is one.
   none-listed : tradeoffs l (t .load) 0 (t .shape) ≡ [] → (c : Cover) → RootCover l t c → ⊥
   unfolding tradeoffs
-  none-listed e c k = go (least-is (suc (c .point .arrival)) (covers l (t .load) 0 (t .shape)))
-    where
-      go : {o : Option Point} → LeastOf (suc (c .point .arrival)) (In (covers l (t .load) 0 (t .shape))) o → ⊥
-      go (absent a) = omega (arith, a c (covers-all l k))
-      go (found {p = p} f) = List·Memᴰ·not-nil (rw e at (tradeoffs-are (covers l (t .load) 0 (t .shape)) p .1 (least-is-tradeoff f)))
+  none-listed e c k =
+      let all = covers l (t .load) 0 (t .shape) in
+      least-cases (λ o. ⊥) (suc (c .point .arrival)) all (λ a. omega (arith, a c (covers-all l k))) (λ p f. List·Memᴰ·not-nil (rw e at (tradeoffs-are all p .1 (least-is-tradeoff f))))
 
   pub list-promise : ListPromise most l t (listed most l t)
-  unfolding listed answered nonempty tradeoffs
-  list-promise = go counted (tradeoffs l (t .load) 0 (t .shape)) refl
+  unfolding listed nonempty tradeoffs
+  list-promise = promised (overfull-named most l t) (nonempty (tradeoffs l (t .load) 0 (t .shape))) (go (tradeoffs l (t .load) 0 (t .shape)) refl)
     where
-      go : {o : Option ℕ} → Counted o → (ps : List Point) → tradeoffs l (t .load) 0 (t .shape) ≡ ps → ListPromise most l t (answered o (nonempty ps))
-      go (exceeds h) ps e = too-many h
-      go (fits a) [] e = none-wanted a (none-listed e)
-      go (fits a) (p ∷ ps) e = right a record {
+      go : (ps : List Point) → tradeoffs l (t .load) 0 (t .shape) ≡ ps → Kept (RootCover l t) (RootTradeoffs l t) (nonempty ps)
+      go [] e = none-listed e
+      go (p ∷ ps) e = record {
         one = (p, List·Memᴰ·head refl);
         all = λ q. rw e at (tradeoffs-legal l (t .load) 0 (t .shape) q);
         earliest-first = subst Climbing e (tradeoffs-climb (points (covers l (t .load) 0 (t .shape))));

@@ -50,15 +50,11 @@ cover-reads {c} h =
     let matches : ℕ → ℕ → ℕ → Reader Cover = λ a t n. times n (placedRead s) >>= last a t in
     let counted : ℕ → ℕ → Reader Cover = λ a t. field s matchCountWidth free >>= matches a t in
     let timed : ℕ → Reader Cover = λ a. field s arrivalWidth free >>= counted a in
-    record {
-      reads =
-          says-all (ap (λ (fs : List Field). fieldOf (c .point .area) areaWidth ∷ fieldOf (c .point .arrival) arrivalWidth ∷ fieldOf (length (c .placed)) matchCountWidth ∷ fs) (append-nil (placedFields (c .placed))))
-          (says-then timed (says-field areaWidth (h .area))
-          (says-then (counted (c .point .area)) (says-field arrivalWidth (h .arrival))
-          (says-then (matches (c .point .area) (c .point .arrival)) (says-field matchCountWidth (h .count))
-          (says-then (last (c .point .area) (c .point .arrival)) (says-times all placedEntry placedFields refl (λ x xs. refl) (placedRead s) (c .placed) (λ x m ys gs. placed-says all gs (h .placed x m .0) (h .placed x m .1) (h .placed x m .2)))
-          (says-end c)))));
-    }
+    let listed = says-times all placedEntry placedFields refl (λ x xs. refl) (placedRead s) (c .placed) (λ x m ys gs. placed-says all gs (h .placed x m .0) (h .placed x m .1) (h .placed x m .2)) in
+    let numbered = says-then (matches (c .point .area) (c .point .arrival)) (says-field matchCountWidth (h .count)) (says-then (last (c .point .area) (c .point .arrival)) listed (says-end c)) in
+    let said = says-then timed (says-field areaWidth (h .area)) (says-then (counted (c .point .area)) (says-field arrivalWidth (h .arrival)) numbered) in
+    let fields : List Field → List Field = λ fs. fieldOf (c .point .area) areaWidth ∷ fieldOf (c .point .arrival) arrivalWidth ∷ fieldOf (length (c .placed)) matchCountWidth ∷ fs in
+    record { reads = says-all (ap fields (append-nil (placedFields (c .placed)))) said }
 
 -- What is read from any bytes fits.
 pub cover-read-fits : (s : List ℕ) (c : Scan) → CoverFits (coverRead s c .0)
@@ -82,22 +78,14 @@ pub record ListFits (ps : List Point) : Type 0 where
   pub count : length ps < 2 ^ pointCountWidth
   pub points : (p : Point) → List·Memᴰ p ps → (p .arrival < 2 ^ arrivalWidth) × (p .area < 2 ^ areaWidth)
 
-abbrev makePoint : ℕ → ℕ → Point
-makePoint t a = record { area = a; arrival = t }
-
-abbrev pointEntry : Point → List Field
-pointEntry p = fieldOf (p .arrival) arrivalWidth ∷ fieldOf (p .area) areaWidth ∷ []
-
 pub list-reads : {ps : List Point} → ListFits ps → ListReads ps (listSheet ps)
 unfolding listSheet listRead pointRead listFields pointFields
 list-reads {ps} h =
     let all = listFields ps in
     let s = packed all in
     let last : List Point → Reader (List Point) = λ xs q. (xs, ended s q) in
-    record {
-      reads =
-          says-all (ap (λ (fs : List Field). fieldOf (length ps) pointCountWidth ∷ fs) (append-nil (pointFields ps)))
-          (says-then (λ n. times n (pointRead s) >>= last) (says-field pointCountWidth (h .count))
-          (says-then last (says-times all pointEntry pointFields refl (λ x xs. refl) (pointRead s) ps (λ x m ys gs. pair-says all gs makePoint arrivalWidth areaWidth (h .points x m .0) (h .points x m .1)))
-          (says-end ps)));
-    }
+    let entry : Point → List Field = λ p. fieldOf (p .arrival) arrivalWidth ∷ fieldOf (p .area) areaWidth ∷ [] in
+    let make : ℕ → ℕ → Point = λ t a. record { area = a; arrival = t } in
+    let listed = says-times all entry pointFields refl (λ x xs. refl) (pointRead s) ps (λ x m ys gs. pair-says all gs make arrivalWidth areaWidth (h .points x m .0) (h .points x m .1)) in
+    let said = says-then (λ n. times n (pointRead s) >>= last) (says-field pointCountWidth (h .count)) (says-then last listed (says-end ps)) in
+    record { reads = says-all (ap (λ (fs : List Field). fieldOf (length ps) pointCountWidth ∷ fs) (append-nil (pointFields ps))) said }

@@ -3,13 +3,14 @@ use Prim.Native.Nat.{ℕ, _<_}
 use mathlib.Core.Path.{refl, sym, ap, _∙_}
 use mathlib.Core.List.{List, [], _∷_, map, List·Memᴰ, List·Memᴰ·head, List·Memᴰ·tail, List·Memᴰ·eq-of-singleton, Memᴰ·map, Memᴰ·of-map, Memᴰ·cast}
 use native.Mathlib.Omega.{arith}
-use Rattle.sheets_rules.specs.Model.{Shape, leaf, inv, nand, size, Cell, Library}
+use Rattle.sheets_rules.specs.Model.{Shape, leaf, size, Cell, Library}
 use Rattle.covers.specs.Match.{Input, matches}
 use Rattle.covers.specs.Cover.{Cover, IsCover, bare, matching, AreCovers, done, more, nothing, together, delayed, topped, feeds, inputDelay}
 use Rattle.covers.specs.Enumeration.{combined, inputCovers, matchCovers, gateCovers, under, coversStep, covers, allBelow}
+use Rattle.covers.specs.Inside.Curve.{gates}
 use Rattle.covers.proofs.Basics.{in-flatMap, of-flatMap}
 use Rattle.covers.proofs.Matching.{matches-are, matches-all, match-inside, input-smaller}
-use Rattle.covers.proofs.Unroll.{covers-unroll, gate-covers, by-size}
+use Rattle.covers.proofs.Unroll.{covers-unroll, gate-covers, by-gate}
 
 in-combined : {c d : Cover} {cs ds : List Cover} → List·Memᴰ c cs → List·Memᴰ d ds → List·Memᴰ (together c d) (combined cs ds)
 unfolding combined
@@ -28,7 +29,11 @@ module _ (l : Library) where
     inputs-all (done e) = List·Memᴰ·head e
     inputs-all (more {cell} {load} {i} h k e) = Memᴰ·cast e (in-combined (Memᴰ·map (delayed (inputDelay cell load i)) (covers-all h)) (inputs-all k))
 
-  inputs-are : (cell : Cell) (load : ℕ) (is : List Input) → ((i : Input) → List·Memᴰ i is → (load n : ℕ) (c : Cover) → List·Memᴰ c (covers l load n (i .shape)) → IsCover l load n (i .shape) c) → {c : Cover} → List·Memᴰ c (inputCovers (allBelow l) cell load is) → AreCovers l cell load is c
+  -- What is claimed of a shape: the list holds nothing else.
+  abbrev Are : Shape → Type 0
+  Are s = (load n : ℕ) (c : Cover) → List·Memᴰ c (covers l load n s) → IsCover l load n s c
+
+  inputs-are : (cell : Cell) (load : ℕ) (is : List Input) → ((i : Input) → List·Memᴰ i is → Are (i .shape)) → {c : Cover} → List·Memᴰ c (inputCovers (allBelow l) cell load is) → AreCovers l cell load is c
   unfolding inputCovers combined under
   inputs-are cell load [] h {c} k = done (List·Memᴰ·eq-of-singleton k)
   inputs-are cell load (i ∷ is) h {c} k =
@@ -37,21 +42,14 @@ module _ (l : Library) where
       let rest = Memᴰ·of-map (together (r .0)) (inputCovers (allBelow l) cell load is) (r .2) in
       more (h i (List·Memᴰ·head refl) _ _ _ (first .1)) (inputs-are cell load is (λ j m. h j (List·Memᴰ·tail m)) (rest .1)) (sym (ap (λ x. together x (rest .0)) (first .2) ∙ rest .2))
 
-  -- The list holds nothing else.
-  pub covers-are : (load n : ℕ) (s : Shape) {c : Cover} → List·Memᴰ c (covers l load n s) → IsCover l load n s c
-  covers-are load n s {c} h = by-size (λ s. (load n : ℕ) (c : Cover) → List·Memᴰ c (covers l load n s) → IsCover l load n s c) step s load n c h
-    where
-      gate : (s : Shape) → ((t : Shape) → size t < size s → (load n : ℕ) (c : Cover) → List·Memᴰ c (covers l load n t) → IsCover l load n t c) → (load n : ℕ) (c : Cover) → List·Memᴰ c (gateCovers (allBelow l) l load n s) → IsCover l load n s c
-      gate s below load n c h = unfold gateCovers matchCovers in
-          let r = of-flatMap (matchCovers (allBelow l) load n) (matches l load n s) h in
-          let m = matches-are l load n s (r .1) in
-          let t = Memᴰ·of-map (topped n (r .0)) (inputCovers (allBelow l) (r .0 .pattern .cell) load (r .0 .inputs)) (r .2) in
-          matching (r .0) m (inputs-are (r .0 .pattern .cell) load (r .0 .inputs) (λ i k. below (i .shape) (input-smaller m k)) (t .1)) (sym (t .2))
+  gate-are : (s : Shape) → 0 < gates s → ((t : Shape) → size t < size s → Are t) → Are s
+  unfolding gateCovers matchCovers
+  gate-are s g below load n c h =
+      let r = of-flatMap (matchCovers (allBelow l) load n) (matches l load n s) (rw (gate-covers l load n s g) at h) in
+      let m = matches-are l load n s (r .1) in
+      let t = Memᴰ·of-map (topped n (r .0)) (inputCovers (allBelow l) (r .0 .pattern .cell) load (r .0 .inputs)) (r .2) in
+      matching (r .0) m (inputs-are (r .0 .pattern .cell) load (r .0 .inputs) (λ i k. below (i .shape) (input-smaller m k)) (t .1)) (sym (t .2))
 
-      step : (s : Shape) → ((t : Shape) → size t < size s → (load n : ℕ) (c : Cover) → List·Memᴰ c (covers l load n t) → IsCover l load n t c) → (load n : ℕ) (c : Cover) → List·Memᴰ c (covers l load n s) → IsCover l load n s c
-      step s below load n c h = from s below (rw covers-unroll at h)
-        where
-          from : (s : Shape) → ((t : Shape) → size t < size s → (load n : ℕ) (c : Cover) → List·Memᴰ c (covers l load n t) → IsCover l load n t c) → List·Memᴰ c (coversStep l (covers l) load n s) → IsCover l load n s c
-          from (leaf x) below k = unfold coversStep in bare (List·Memᴰ·eq-of-singleton k)
-          from (inv s) below k = unfold coversStep in gate (inv s) below load n c k
-          from (nand s t) below k = unfold coversStep in gate (nand s t) below load n c k
+  pub covers-are : (load n : ℕ) (s : Shape) {c : Cover} → List·Memᴰ c (covers l load n s) → IsCover l load n s c
+  unfolding coversStep
+  covers-are load n s {c} h = by-gate Are (λ x load n c h. bare (List·Memᴰ·eq-of-singleton (rw (covers-unroll l load n (leaf x)) at h))) gate-are s load n c h

@@ -5,12 +5,12 @@ use mathlib.Core.List.{List, [], _∷_, _++_, map, flatMap, List·Memᴰ, List·
 use mathlib.Core.Option.{Option, none, some, Option·map}
 use native.Mathlib.Nat.{le-refl}
 use native.Mathlib.Omega.{arith}
-use Rattle.sheets_rules.specs.Model.{Shape, leaf, inv, nand, size, Pin, Cell, Library}
+use Rattle.sheets_rules.specs.Model.{Leaf, Shape, leaf, inv, nand, size, Pin, Cell, Library}
 use Rattle.covers.specs.Match.{Input, Match, matches}
 use Rattle.covers.specs.Cover.{Point, Cover, delayed, topped, feeds, inputDelay}
 use Rattle.covers.specs.Enumeration.{combined, deepened, throughout, inputCovers, matchCovers, gateCovers, under, coversStep, covers, allBelow}
 use Rattle.covers.specs.Choice.{least, reaches, bothChosen, chosenInputs, withInputs, firstReaching, gateChoice, choiceStep, choice}
-use Rattle.covers.proofs.Basics.{FirstOf, nowhere, somewhere, first-of}
+use Rattle.covers.proofs.Basics.{first-cases}
 use Rattle.covers.specs.Inside.Curve.{gates}
 use Rattle.covers.proofs.Matching.{size-pos, matches-are, input-smaller}
 
@@ -54,31 +54,26 @@ covers-unroll l = unroll [] (coversStep l) (covers-local l)
 -- At a gate, by its matches.
 pub gate-covers : (l : Library) (load n : ℕ) (s : Shape) → 0 < gates s → covers l load n s ≡ gateCovers (allBelow l) l load n s
 unfolding gates coversStep
-gate-covers l load n (leaf x) h = absurd (omega arith)
-gate-covers l load n (inv s) h = covers-unroll l load n (inv s)
-gate-covers l load n (nand s t) h = covers-unroll l load n (nand s t)
+gate-covers l load n s = elim s [ leaf x ↦ λ h. absurd (omega arith) | inv t ↦ λ h. covers-unroll l load n (inv t) | nand t u ↦ λ h. covers-unroll l load n (nand t u) ]
 
 chosen-same : (of of′ : Pin → Input → ℕ → Option Cover) (cell : Cell) (load t : ℕ) (is : List Input) → ((i : Input) → List·Memᴰ i is → (p : Pin) → of p i ≡ of′ p i) → chosenInputs of cell load t is ≡ chosenInputs of′ cell load t is
 unfolding chosenInputs
 chosen-same of of′ cell load t [] h = refl
 chosen-same of of′ cell load t (i ∷ is) h = ap₂ (λ f d. bothChosen (Option·map (delayed (inputDelay cell load i)) (f (t - inputDelay cell load i))) d) (h i (List·Memᴰ·head refl) (feeds cell i)) (chosen-same of of′ cell load t is (λ j m. h j (List·Memᴰ·tail m)))
 
+gate-local : (l : Library) (at at′ : ℕ → ℕ → Shape → ℕ → Option Cover) (load n : ℕ) (s : Shape) → ((load′ n′ : ℕ) (t : Shape) → size t < size s → at load′ n′ t ≡ at′ load′ n′ t) →
+    (o : Option Point) → gateChoice l at load n s o ≡ gateChoice l at′ load n s o
+unfolding gateChoice firstReaching withInputs under
+gate-local l at at′ load n s h none = refl
+gate-local l at at′ load n s h (some p) =
+    first-cases (λ m. reaches p (matchCovers (allBelow l) load n m)) (λ o. withInputs (under l at) load n (p .arrival) o ≡ withInputs (under l at′) load n (p .arrival) o) (matches l load n s) (λ a. refl)
+    (λ m k r. ap (Option·map (topped n m)) (chosen-same (under l at) (under l at′) (m .pattern .cell) load (p .arrival) (m .inputs) (λ i j q. h _ _ _ (input-smaller (matches-are l load n s k) j))))
+
 choice-local : (l : Library) → Local (λ time. none) (choiceStep l)
 unfolding choiceStep
-choice-local l at at′ load n s h = fun-ext (λ time. go s h time)
-  where
-    gate : (s : Shape) → ((load′ n′ : ℕ) (t : Shape) → size t < size s → at load′ n′ t ≡ at′ load′ n′ t) → (o : Option Point) → gateChoice l at load n s o ≡ gateChoice l at′ load n s o
-    gate s h none = unfold gateChoice in refl
-    gate s h (some p) = unfold gateChoice firstReaching in with-same (first-of (λ m. reaches p (matchCovers (allBelow l) load n m)) (matches l load n s))
-      where
-        with-same : {o : Option Match} → FirstOf (λ m. reaches p (matchCovers (allBelow l) load n m)) (matches l load n s) o → withInputs (under l at) load n (p .arrival) o ≡ withInputs (under l at′) load n (p .arrival) o
-        with-same (nowhere a) = unfold withInputs in refl
-        with-same (somewhere {x = m} k r) = unfold withInputs under in ap (Option·map (topped n m)) (chosen-same (under l at) (under l at′) (m .pattern .cell) load (p .arrival) (m .inputs) (λ i j q. h _ _ _ (input-smaller (matches-are l load n s k) j)))
-
-    go : (s : Shape) → ((load′ n′ : ℕ) (t : Shape) → size t < size s → at load′ n′ t ≡ at′ load′ n′ t) → (time : ℕ) → choiceStep l at load n s time ≡ choiceStep l at′ load n s time
-    go (leaf x) h time = refl
-    go (inv s) h time = gate (inv s) h (least (suc time) (covers l load n (inv s)))
-    go (nand s t) h time = gate (nand s t) h (least (suc time) (covers l load n (nand s t)))
+choice-local l at at′ load n (leaf x) h = refl
+choice-local l at at′ load n (inv s) h = fun-ext (λ time. gate-local l at at′ load n (inv s) h (least (suc time) (covers l load n (inv s))))
+choice-local l at at′ load n (nand s t) h = fun-ext (λ time. gate-local l at at′ load n (nand s t) h (least (suc time) (covers l load n (nand s t))))
 
 -- The chosen cover of a node comes from the chosen covers of the inputs of its match.
 pub choice-unroll : (l : Library) (load n : ℕ) (s : Shape) → choice l load n s ≡ choiceStep l (choice l) load n s
@@ -87,9 +82,7 @@ choice-unroll l = unroll (λ time. none) (choiceStep l) (choice-local l)
 
 pub gate-choice : (l : Library) (load n : ℕ) (s : Shape) (time : ℕ) → 0 < gates s → choice l load n s time ≡ gateChoice l (choice l) load n s (least (suc time) (covers l load n s))
 unfolding gates choiceStep
-gate-choice l load n (leaf x) time h = absurd (omega arith)
-gate-choice l load n (inv s) time h = ap (λ f. f time) (choice-unroll l load n (inv s))
-gate-choice l load n (nand s t) time h = ap (λ f. f time) (choice-unroll l load n (nand s t))
+gate-choice l load n s time = elim s [ leaf x ↦ λ h. absurd (omega arith) | inv t ↦ λ h. rw (choice-unroll l load n (inv t)) | nand t u ↦ λ h. rw (choice-unroll l load n (nand t u)) ]
 
 -- What holds of a shape if it holds of all smaller ones holds of every shape.
 pub by-size : (P : Shape → Type 0) → ((s : Shape) → ((t : Shape) → size t < size s → P t) → P s) → (s : Shape) → P s
@@ -98,3 +91,8 @@ by-size P step s = go (size s) s (le-refl (size s))
     go : (k : ℕ) (t : Shape) → size t ≤ k → P t
     go zero t h = absurd (omega (arith, size-pos t))
     go (suc k) t h = step t (λ u b. go k u (omega arith))
+
+-- The same, with leaves apart from inverters and NANDs.
+pub by-gate : (P : Shape → Type 0) → ((x : Leaf) → P (leaf x)) → ((s : Shape) → 0 < gates s → ((t : Shape) → size t < size s → P t) → P s) → (s : Shape) → P s
+unfolding gates
+by-gate P bare gate = by-size P (λ s. elim s [ leaf x ↦ λ below. bare x | inv t ↦ gate (inv t) (omega arith) | nand t u ↦ gate (nand t u) (omega arith) ])

@@ -1,16 +1,16 @@
 -- What is demanded of everything that map and list answer to a sound library and a sound tree. All of it is said of all legal covers.
-use Prim.Native.Nat.{ℕ, _≤_}
+use Prim.Native.Nat.{ℕ}
 use mathlib.Core.Path.{_≡_}
 use mathlib.Core.Logic.{_↔_}
 use mathlib.Core.List.{List, List·Memᴰ}
 use Rattle.fields.specs.Answer.{Answer, refused, success}
 use Rattle.sheets_rules.specs.Model.{Library, Tree}
 use Rattle.sheets_rules.specs.Report.{librarySaid, treeSaid}
-use Rattle.covers.specs.Capacity.{capacity, workWords, allowed}
 use Rattle.covers.specs.Cover.{Cover}
 use Rattle.covers.specs.Tradeoff.{Node, nodes, TooMany}
 use Rattle.covers.specs.CoverSheet.{coverSheet, listSheet, CoverReads, ListReads}
 use Rattle.covers.specs.Answer.{overfullNumber, noCoverNumber}
+use Rattle.covers.specs.Lending.{lent}
 use Rattle.covers.specs.Promise.{RootCover, InTime, BestCover, RootTradeoffs, HighestTooMany, NoneTooMany}
 
 -- Covers of a wanted kind are asked for, and what is right is put on a sheet. A node may have `most` trade-offs under a load.
@@ -36,4 +36,4 @@ ListDemands most l t = Demands (RootCover l t) (RootTradeoffs l t) listSheet Lis
 
 -- An outcome meets the demands of the library and the tree on the two sheets, if enough is lent and both sheets are sound.
 abbrev pub WhereSound : (ℕ → Library → Tree → Answer (List ℕ) → Type 0) → ℕ → List ℕ → List ℕ → ℕ → ℕ → Answer (List ℕ) → Type 0
-WhereSound Demanded least ls ts output work o = (l : Library) (t : Tree) → least ≤ output → workWords capacity ≤ work → librarySaid ls ≡ success l → treeSaid ts ≡ success t → Demanded (allowed work) l t o
+WhereSound Demanded least ls ts output work o = (most : ℕ) (l : Library) (t : Tree) → lent least output work ≡ success most → librarySaid ls ≡ success l → treeSaid ts ≡ success t → Demanded most l t o

@@ -1,28 +1,25 @@
 -- What is stored at a node changes nothing that is read at later nodes; a curve grows point by point.
 use mathlib.Core.Path.{_≡_, refl, sym, ap, ap₂, subst, _∙_}
 use mathlib.Core.List.{List, [], _∷_, _++_, map, map-append, append-assoc, append-nil, List·Memᴰ, List·Memᴰ·head, List·Memᴰ·tail, List·Memᴰ·not-nil, List·Memᴰ·cases-cons}
-use mathlib.Core.Bool.{cond}
-use mathlib.Core.Option.{Option, none, some, Option·map}
-use mathlib.Core.Logic.{_⊎_, inl, inr, ⊎-elim}
+use mathlib.Core.Option.{Option, none, some}
+use mathlib.Core.Logic.{⊎-elim}
 use borrow.Author.Tests.{eq-eqb, ne-eqb}
 use Prim.Native.Nat.{ℕ, zero, suc, _+_, _-_, _*_, _%_, _≤_, _<_}
 use native.Mathlib.Decide.{ℕ-discrete}
-use native.Mathlib.Nat.{add-zero, eq-or-lt-of-le}
+use native.Mathlib.Nat.{add-zero}
 use native.Mathlib.Omega.{arith}
 use lib.ListN.{length, getD, take, drop, set, length-append, length-map}
-use lib.Dec.{leb}
 use lib.Seq.{sets, sets-eq, getD-set-other, getD-set-same, take-all, take-at, take-append-add, take-set-le, drop-at, drop-set-lt, drop-set-add, length-take-le}
 use Rattle.fields.proofs.Lists.{sets-append}
-use Rattle.covers.specs.Cover.{Point, late, raised, leafPoint}
-use Rattle.covers.specs.Choice.{before, lesser}
-use Rattle.covers.proofs.Basics.{lt-or-le}
-use Rattle.covers.specs.Inside.Curve.{base, both, byDeadline, chained, lookup, pointOf, wordOf}
+use Rattle.covers.specs.Cover.{Point}
+use Rattle.covers.specs.Choice.{lesser}
+use Rattle.covers.proofs.Basics.{option-cases, lt-or-le}
+use Rattle.covers.specs.Inside.Curve.{base, byDeadline, chained, pointOf, wordOf}
 use Rattle.curves.specs.Inside.Words.{absent, pointLimit, matchLimit, stored, slot, curveAt, Small, AgreeFrom}
-use Rattle.cells.specs.Inside.Cell.{rowLegal, delayOf}
-use Rattle.curves.specs.Inside.Best.{hitAt, patternOf, rowArea, hitCount, inputNode, inputFigures, inputBest, inputLate, inputsBest, hitBest, legalBest, hitsBest, Above}
+use Rattle.cells.specs.Inside.Cell.{delayOf}
+use Rattle.curves.specs.Inside.Best.{hitAt, patternOf, hitCount, inputNode, inputFigures, inputBest, inputLate, inputsBest, hitBest, legalBest, hitsBest, Above}
 use Rattle.curves.specs.Inside.Promises.{Worth, matchBefore, AllRising, bestBefore, nodePoints, PointsFit, Kept, Least, CurveStored, Fit}
 use Rattle.curves.proofs.Laws.{word-point, point-word, apart, part-word}
-use Rattle.leaves.specs.Inside.Leaf.{leafOf}
 
 -- ---- the other curves
 
@@ -35,24 +32,19 @@ part-sets : (l : List ℕ) (a w i : ℕ) (xs : List ℕ) → a + w ≤ i → tak
 part-sets l a w i [] h = refl
 part-sets l a w i (x ∷ xs) h =
     let e : i ≡ a + (i - a) = omega arith in
-    part-sets (set l i x) a w (suc i) xs (omega arith)
-    ∙ ap (λ (n : ℕ). take w (drop a (set l n x))) e
-    ∙ ap (take w) (drop-set-add a l (i - a) x)
-    ∙ take-set-le w (drop a l) (i - a) x (omega arith)
+    part-sets (set l i x) a w (suc i) xs (omega arith) ∙ ap (λ (n : ℕ). take w (drop a (set l n x))) e ∙ rw drop-set-add (take-set-le w (drop a l) (i - a) x (omega arith))
 
 -- What is written into one curve leaves the others as they are.
 pub curve-other : (most : ℕ) (work : List ℕ) (i j : ℕ) (xs : List ℕ) → (j ≡ i → ⊥) → length xs ≤ most + 1 → curveAt most (sets work (slot most i) xs) j ≡ curveAt most work j
-curve-other most work i j xs n h = go (lt-or-le i j)
-  where
-    go : (i < j) ⊎ (j ≤ i) → curveAt most (sets work (slot most i) xs) j ≡ curveAt most work j
-    go (inl l) = ap (take (most + 1)) (drop-sets work (slot most i) (slot most j) xs (omega (arith, apart (most + 1) l)))
-    go (inr l) = let less : j < i = ⊎-elim (λ e. absurd (n e)) (λ m. m) (eq-or-lt-of-le l) in part-sets work (slot most j) (most + 1) (slot most i) xs (apart (most + 1) less)
+curve-other most work i j xs n h = ⊎-elim
+    (λ l. ap (take (most + 1)) (drop-sets work (slot most i) (slot most j) xs (omega (arith, apart (most + 1) l))))
+    (λ l. part-sets work (slot most j) (most + 1) (slot most i) xs (apart (most + 1) (omega arith)))
+    (lt-or-le i j)
 
 module _ (most : ℕ) (symbols work work′ : List ℕ) (m : ℕ) (a : AgreeFrom most m work work′) where
   input-same : (node bin load end : ℕ) → m ≤ 4 * node → inputBest most symbols work node bin load end ≡ inputBest most symbols work′ node bin load end
   unfolding inputBest
-  input-same node bin load end h =
-      ap (λ (ws : List ℕ). cond (leb 2 (getD symbols node 0)) (before end (leafPoint (leafOf (getD symbols node 0)) load)) (lookup end (stored ws))) (a (4 * node + bin) (omega arith))
+  input-same node bin load end h = rw (a (4 * node + bin) (omega arith))
 
   inputs-same : (pattern hit : List ℕ) (load end n k : ℕ) → ((i : ℕ) → i < k + n → m ≤ 4 * inputNode pattern hit i) →
       inputsBest most symbols work pattern hit load end k n ≡ inputsBest most symbols work′ pattern hit load end k n
@@ -60,10 +52,7 @@ module _ (most : ℕ) (symbols work work′ : List ℕ) (m : ℕ) (a : AgreeFrom
   inputs-same pattern hit load end zero k h = refl
   inputs-same pattern hit load end (suc n) k h =
       let pin = inputFigures pattern hit k in
-      let d = delayOf pin load in
-      ap₂ (λ (o o′ : Option Point). both (Option·map (late d) o) o′)
-      (input-same (inputNode pattern hit k) (pin .bin) (pin .load) (end - d) (h k (omega arith)))
-      (inputs-same pattern hit load end n (suc k) (λ i l. h i (omega arith)))
+      rw (input-same (inputNode pattern hit k) (pin .bin) (pin .load) (end - delayOf pin load) (h k (omega arith)), inputs-same pattern hit load end n (suc k) (λ i l. h i (omega arith)))
 
 -- What is read of later nodes' curves alone is the same where those are.
 module _ (most : ℕ) (symbols work work′ : List ℕ) (at : ℕ) (a : AgreeFrom most (at + 1) work work′) (rows found : List ℕ) (load n : ℕ) (above : Above at found n) where
@@ -71,9 +60,7 @@ module _ (most : ℕ) (symbols work work′ : List ℕ) (at : ℕ) (a : AgreeFro
   unfolding legalBest hitBest
   match-same j l end =
       let hit = hitAt found j in
-      let pattern = patternOf rows hit in
-      ap (λ (o : Option Point). cond (rowLegal pattern load) (Option·map (raised (rowArea pattern)) o) none)
-      (inputs-same most symbols work work′ (at + 1) a pattern hit load end (hitCount hit) 0 (λ i h. omega (arith, above j l i (omega arith))))
+      rw (inputs-same most symbols work work′ (at + 1) a (patternOf rows hit) hit load end (hitCount hit) 0 (λ i h. omega (arith, above j l i (omega arith))))
 
   hits-upto : (end k : ℕ) → k ≤ n → hitsBest most symbols work rows found load end k ≡ hitsBest most symbols work′ rows found load end k
   unfolding hitsBest
@@ -100,11 +87,7 @@ module _ (most : ℕ) (symbols work work′ : List ℕ) (at : ℕ) (a : AgreeFro
 
 -- One word more, of a list whose words all have a property.
 pub set-each : (P : ℕ → ℕ → Type 0) (l : List ℕ) (i w : ℕ) → i < length l → P i w → (k : ℕ) → ((k ≡ i → ⊥) → P k (getD l k 0)) → P k (getD (set l i w) k 0)
-set-each P l i w h here k other = go (ℕ-discrete k i)
-  where
-    go : Dec (k ≡ i) → P k (getD (set l i w) k 0)
-    go (no n) = rw (getD-set-other l i k w 0 n) (other n)
-    go (yes e) = rw (e, getD-set-same l i w 0 h) here
+set-each P l i w h here k other = elim (ℕ-discrete k i) [ yes e ↦ rw (e, getD-set-same l i w 0 h) here | no n ↦ rw (getD-set-other l i k w 0 n) (other n) ]
 
 pub small-set : (work : List ℕ) (i w : ℕ) → i < length work → Small work → w < pointLimit → Small (set work i w)
 small-set work i w l s h k = set-each (λ j x. x < pointLimit) work i w l h k (λ n. s k)
@@ -178,11 +161,7 @@ module _ {most : ℕ} {symbols work rows found : List ℕ} {load count at k end 
           many = simp length-append (omega (arith, g .many));
           few = omega (arith, g .few);
           so-far = (rw left at (step (some (pointOf w)) (o .least .point n))) ∙ sym (append-assoc (g .points) (pointOf w ∷ []) _);
-          laid =
-              ap₂ (λ (l : List ℕ) (v : ℕ). set l (slot most at + k) v) (g .laid) (sym (word-point w))
-              ∙ ap (λ (i : ℕ). set (sets work (slot most at) (map wordOf (g .points))) (slot most at + i) (wordOf (pointOf w))) (sym (length-map (g .points) wordOf ∙ g .many))
-              ∙ sym (sets-append work (slot most at) (map wordOf (g .points)) (wordOf (pointOf w) ∷ []))
-              ∙ ap (sets work (slot most at)) (sym (map-append wordOf (g .points) (pointOf w ∷ [])));
+          laid = rw (map-append wordOf (g .points), sets-append, length-map, g .many, word-point w, ← g .laid);
           small = small-set work′ (slot most at + k) w l (g .small) (omega (arith, fit .fit end (pointOf w) now .area));
           bounded = omega (arith, g .bounded);
           lasting = let k = kept-same most symbols work′ work at agrees rows found load count above (o .lasting) in record { lasts = λ j h e le. k .lasts j h e (omega arith); bounds = λ j h e le. k .bounds j h e (omega arith) };
@@ -190,17 +169,13 @@ module _ {most : ℕ} {symbols work rows found : List ℕ} {load count at k end 
 
 -- ---- a curve that was stored
 
-fit-word : (p : Point) → Fit p → wordOf p ≡ 0 → ⊥
-unfolding wordOf
-fit-word p f e = omega (arith, f .some-area)
-
 stored-words : (ps : List Point) (zs : List ℕ) → ((p : Point) → List·Memᴰ p ps → Fit p) → getD zs 0 0 ≡ 0 → stored (map wordOf ps ++ zs) ≡ ps
-unfolding stored
+unfolding stored wordOf
 stored-words [] [] f z = refl
 stored-words [] (x ∷ zs) f z = rw (eq-eqb x 0 z)
 stored-words (p ∷ ps) zs f z =
     let fit = f p (List·Memᴰ·head refl) in
-    rw (ne-eqb (wordOf p) 0 (fit-word p fit)) (ap₂ (λ (x : Point) (xs : List Point). x ∷ xs) (point-word p (fit .arrival)) (stored-words ps zs (λ q m. f q (List·Memᴰ·tail m)) z))
+    rw (ne-eqb (wordOf p) 0 (λ e. omega (arith, fit .some-area))) (ap₂ _∷_ (point-word p (fit .arrival)) (stored-words ps zs (λ q m. f q (List·Memᴰ·tail m)) z))
 
 -- Points stored in a curve of zeros, with a word to spare.
 pub curve-laid : (most : ℕ) (work : List ℕ) (i : ℕ) (ps : List Point) → ((k : ℕ) → getD (curveAt most work i) k 0 ≡ 0) → length ps ≤ most → slot most i + (most + 1) ≤ length work →
@@ -220,19 +195,13 @@ curve-laid most work i ps z h g f =
 
 -- Every point found by deadline is the best before some instant.
 pub deadline-all : (k : ℕ) (f : ℕ → Option Point) (end : ℕ) {P : Point → Type 0} → ((e : ℕ) (p : Point) → f e ≡ some p → P p) → (p : Point) → List·Memᴰ p (byDeadline k f end) → P p
-unfolding byDeadline
+unfolding byDeadline chained
 deadline-all zero f end h p m = absurd (List·Memᴰ·not-nil m)
-deadline-all (suc k) f end {P} h p m = go (f end) refl (λ q. deadline-all k f (q .arrival) h p) m
-  where
-    go : (o : Option Point) → f end ≡ o → ((q : Point) → List·Memᴰ p (byDeadline k f (q .arrival)) → P p) → List·Memᴰ p (chained o (λ q. byDeadline k f (q .arrival))) → P p
-    go none e rec m = unfold chained in absurd (List·Memᴰ·not-nil m)
-    go (some q) e rec m = unfold chained in ⊎-elim (λ s. subst P (sym s) (h end q e)) (rec q) (List·Memᴰ·cases-cons m)
+deadline-all (suc k) f end {P} h p m = option-cases (f end)
+    (λ e. absurd (List·Memᴰ·not-nil (rw e at m)))
+    (λ q e. ⊎-elim (λ s. rw s (h end q e)) (deadline-all k f (q .arrival) h p) (List·Memᴰ·cases-cons (rw e at m)))
 
 pub deadline-few : (k : ℕ) (f : ℕ → Option Point) (end : ℕ) → length (byDeadline k f end) ≤ k
-unfolding byDeadline
+unfolding byDeadline chained
 deadline-few zero f end = omega arith
-deadline-few (suc k) f end = go (f end) (λ p. deadline-few k f (p .arrival))
-  where
-    go : (o : Option Point) → ((p : Point) → length (byDeadline k f (p .arrival)) ≤ k) → length (chained o (λ p. byDeadline k f (p .arrival))) ≤ suc k
-    go none rec = unfold chained in omega arith
-    go (some p) rec = unfold chained in omega (arith, rec p)
+deadline-few (suc k) f end = option-cases (f end) (λ e. rw e (omega arith)) (λ p e. rw e (omega (arith, deadline-few k f (p .arrival))))

@@ -1,19 +1,19 @@
 -- A point that is still in time stays.
-use mathlib.Core.Path.{_≡_, refl, sym, ap, ap₂, subst, _∙_}
+use mathlib.Core.Path.{_≡_, refl, sym, ap, ap₂, _∙_}
 use mathlib.Core.List.{List, [], _∷_}
 use mathlib.Core.Bool.{Bool, true, false, cond}
 use mathlib.Core.Option.{Option, none, some, Option·map, Option·none-ne-some, Option·some-injective}
-use mathlib.Core.Logic.{_⊎_, inl, inr}
-use borrow.Author.Tests.{lt-ltb, le-ltb}
+use borrow.Author.Tests.{ltb-false, lt-ltb, le-ltb}
+use borrow.Table.Steps.{cases}
 use Prim.Native.Nat.{ℕ, zero, suc, _-_, _%_, _≤_, _<_, min}
 use native.Mathlib.Decide.{ℕ-discrete}
 use native.Mathlib.Omega.{arith}
-use lib.Dec.{leb}
+use lib.Dec.{leb, ltb}
 use lib.ListN.{length, getD, set}
 use Rattle.covers.specs.Cover.{Point, late, raised, beside, leafPoint}
 use Rattle.covers.specs.Choice.{before}
 use Rattle.covers.specs.Inside.Curve.{base, both, lookup, pointOf, wordOf}
-use Rattle.covers.proofs.Basics.{lt-or-le}
+use Rattle.covers.proofs.Basics.{option-cases}
 use Rattle.covers.proofs.Points.{both-carries}
 use Rattle.curves.specs.Inside.Words.{absent, matchLimit, tableOf}
 use Rattle.cells.specs.Inside.Cell.{rowLegal, delayOf}
@@ -31,11 +31,9 @@ data Stays (end : ℕ) : Option Point → Option Point → Type 0 where
 lookup-stays : {end end′ : ℕ} → end′ ≤ end → (ps : List Point) → Stays end′ (lookup end ps) (lookup end′ ps)
 unfolding lookup
 lookup-stays h [] = gone refl
-lookup-stays {end} {end′} h (p ∷ ps) = go (lt-or-le (p .arrival) end) (lookup-stays h ps)
-  where
-    go : (p .arrival < end) ⊎ (end ≤ p .arrival) → Stays end′ (lookup end ps) (lookup end′ ps) → Stays end′ (lookup end (p ∷ ps)) (lookup end′ (p ∷ ps))
-    go (inl l) r = unfold lookup in rw (lt-ltb (p .arrival) end l) (point {p = p} {o = lookup end′ (p ∷ ps)} (λ t. rw (lt-ltb (p .arrival) end′ t)))
-    go (inr l) r = unfold lookup in rw (le-ltb (p .arrival) end l, le-ltb (p .arrival) end′ (omega arith)) r
+lookup-stays {end} {end′} h (p ∷ ps) = cases (ltb (p .arrival) end)
+    (λ e. rw e (point {p = p} {o = lookup end′ (p ∷ ps)} (λ t. rw (lt-ltb (p .arrival) end′ t))))
+    (λ e. rw (e, le-ltb (p .arrival) end′ (omega (arith, ltb-false))) (lookup-stays h ps))
 
 module _ {end : ℕ} where
   cond-stays : (b : Bool) {o o′ u u′ : Option Point} → Stays end o o′ → Stays end u u′ → Stays end (cond b o u) (cond b o′ u′)
@@ -81,8 +79,8 @@ some-stays (point k) = k
 worth-stays : {limit end end′ w : ℕ} {o o′ : Option Point} → Worth limit end w o → Stays end′ o o′ → w % base < end′ → Worth limit end′ w o′
 unfolding pointOf
 worth-stays {end′ = end′} {o′ = o′} g s t = record {
-  missing = λ z. none-stays (subst (λ (q : Option Point). Stays end′ q o′) (g .missing z) s);
-  point = λ n. some-stays (subst (λ (q : Option Point). Stays end′ q o′) (g .point n) s) t;
+  missing = λ z. none-stays (rw (g .missing z) at s);
+  point = λ n. some-stays (rw (g .point n) at s) t;
   small = g .small;
   intime = λ n. t;
 }
@@ -93,32 +91,21 @@ module _ {most : ℕ} {symbols work rows found : List ℕ} {load j : ℕ} (r : R
 
   -- And it is no greater than any of an earlier instant.
   worth-bounds : {w : ℕ} → Worth matchLimit end w now → (e : ℕ) → e ≤ end → (p : Point) → matchBefore most symbols work rows found load j e ≡ some p → w ≤ wordOf p
-  worth-bounds {w} g e h p q = go (ℕ-discrete w absent) (r .rises e end h p q)
-    where
-      go : Dec (w ≡ absent) → (u : Point) × (now ≡ some u) × (wordOf u ≤ wordOf p) → w ≤ wordOf p
-      go (yes a) z = absurd (Option·none-ne-some (z .0) (sym (g .missing a) ∙ z .1))
-      go (no n) z = omega (arith, word-point w, ap wordOf (Option·some-injective (pointOf w) (z .0) (sym (g .point n) ∙ z .1)), z .2)
+  worth-bounds {w} g e h p q = let z = r .rises e end h p q in elim (ℕ-discrete w absent) [
+    | yes a ↦ absurd (Option·none-ne-some (z .0) (sym (g .missing a) ∙ z .1))
+    | no n ↦ omega (arith, word-point w, ap wordOf (Option·some-injective (pointOf w) (z .0) (sym (g .point n) ∙ z .1)), z .2)
+  ]
 
   -- A match whose points are not below a word does not change the least one.
   pub passed-over : (v x : ℕ) → end ≤ base → v ≤ absent → v ≤ x → ((p : Point) → now ≡ some p → x ≤ wordOf p) → (w : ℕ) × Worth matchLimit end w now × (min v w ≡ v)
-  passed-over v x below top less h = go now refl
-    where
-      go : (o : Option Point) → now ≡ o → (w : ℕ) × Worth matchLimit end w now × (min v w ≡ v)
-      go none e = (absent, worth-none matchLimit end now e, omega arith)
-      go (some p) e =
-          let t = r .intime end p e in
-          let low : p .arrival < base = omega arith in (
-            wordOf p,
-            worth-point matchLimit end (wordOf p) now (r .small end p e) (omega (arith, r .small end p e)) (omega (arith, word-arrival p low)) (e ∙ ap {B = Option Point} some (sym (point-word p low))),
-            omega (arith, h p e),
-          )
+  passed-over v x below top less h = option-cases now (λ e. (absent, worth-none matchLimit end now e, omega arith)) (λ p e.
+      let t = r .intime end p e in
+      let low : p .arrival < base = omega arith in
+      let worth = worth-point matchLimit end (wordOf p) now (r .small end p e) (omega (arith, r .small end p e)) (omega (arith, word-arrival p low)) (rw (point-word p low) e) in
+      (wordOf p, worth, omega (arith, h p e)))
 
 pub worth-top : {limit end w : ℕ} {o : Option Point} → limit ≤ absent → Worth limit end w o → w ≤ absent
-worth-top {w = w} h g = go (ℕ-discrete w absent)
-  where
-    go : Dec (w ≡ absent) → w ≤ absent
-    go (yes e) = omega arith
-    go (no n) = omega (arith, g .small n)
+worth-top {w = w} h g = elim (ℕ-discrete w absent) [ yes e ↦ omega arith | no n ↦ omega (arith, g .small n) ]
 
 -- The word of one match more, or one anew; and a word that is still in time.
 pub kept-set : {most : ℕ} {symbols work rows found : List ℕ} {load n m end : ℕ} {kept : List ℕ} → Kept most symbols work rows found load n end kept → (j w : ℕ) → Rising most symbols work rows found load j → j < length kept →

@@ -1,12 +1,12 @@
 -- Laws about words and stored curves.
-use mathlib.Core.Path.{_≡_, refl, sym, ap, ap₂, subst, _∙_}
+use mathlib.Core.Path.{_≡_, refl, sym, ap, subst, _∙_}
 use mathlib.Core.List.{List, [], _∷_}
-use mathlib.Core.Logic.{_⊎_, inl, inr}
+use mathlib.Core.Logic.{⊎-elim}
 use mathlib.Core.Bool.{Bool, true, false}
 use native.Mathlib.Decide.{ℕ-discrete}
 use mathlib.Core.Option.{Option, none, some, Option·map}
 use Prim.Native.Nat.{ℕ, zero, suc, _+_, _-_, _*_, _/_, _%_, _≤_, _<_, min, max}
-use native.Mathlib.Nat.{div-add-mod', mul-suc, mul-le-mul-left, mod-eq-of-lt, div-eq-of-lt}
+use native.Mathlib.Nat.{div-add-mod', mul-suc, mul-le-mul-left}
 use native.Mathlib.Numerals.{add-one}
 use native.Mathlib.Omega.{arith}
 use lib.ListN.{length, getD, take, drop, length-drop, length-take, drop-of-length-le, List·getD-eq-default}
@@ -69,11 +69,8 @@ pub part-word : (w a : ℕ) (l : List ℕ) (k : ℕ) → k < w → getD (take w 
 part-word w a l k h = getD-take w (drop a l) k 0 h ∙ getD-drop a l k 0
 
 pub part-words : (P : ℕ → Type 0) → P 0 → (w a : ℕ) (l : List ℕ) → ((k : ℕ) → P (getD l k 0)) → (k : ℕ) → P (getD (take w (drop a l)) k 0)
-part-words P z w a l all k = go (lt-or-le k w)
-  where
-    go : (k < w) ⊎ (w ≤ k) → P (getD (take w (drop a l)) k 0)
-    go (inl h) = rw (part-word w a l k h) (all (a + k))
-    go (inr h) = rw (List·getD-eq-default (take w (drop a l)) 0 {n = k} (omega (arith, length-take w (drop a l)))) z
+part-words P z w a l all k =
+    ⊎-elim (λ h. rw (part-word w a l k h) (all (a + k))) (λ h. rw (List·getD-eq-default (take w (drop a l)) 0 {n = k} (omega (arith, length-take w (drop a l)))) z) (lt-or-le k w)
 
 pub part-small : (w a : ℕ) (l : List ℕ) → Small l → Small (take w (drop a l))
 part-small = part-words (λ x. x < pointLimit) (omega arith)
@@ -85,18 +82,11 @@ zero-curves most work z i j h = part-words (λ x. x ≡ 0) refl (most + 1) (slot
 module _ (curve : List ℕ) (k : ℕ) where
   pub stored-end : getD curve k 0 ≡ 0 → stored (drop k curve) ≡ []
   unfolding stored
-  stored-end e = go (lt-or-le k (length curve))
-    where
-      go : (k < length curve) ⊎ (length curve ≤ k) → stored (drop k curve) ≡ []
-      go (inl h) = unfold stored in rw (drop-cons curve k 0 h, eq-eqb (getD curve k 0) 0 e)
-      go (inr h) = unfold stored in rw (drop-of-length-le curve h)
+  stored-end e = ⊎-elim (λ h. rw (drop-cons curve k 0 h, eq-eqb (getD curve k 0) 0 e)) (λ h. rw (drop-of-length-le curve h)) (lt-or-le k (length curve))
 
   pub stored-more : (getD curve k 0 ≡ 0 → ⊥) → stored (drop k curve) ≡ pointOf (getD curve k 0) ∷ stored (drop (k + 1) curve)
-  stored-more n = go (lt-or-le k (length curve))
-    where
-      go : (k < length curve) ⊎ (length curve ≤ k) → stored (drop k curve) ≡ pointOf (getD curve k 0) ∷ stored (drop (k + 1) curve)
-      go (inl h) = unfold stored in rw (drop-cons curve k 0 h, add-one, ne-eqb (getD curve k 0) 0 n)
-      go (inr h) = absurd (n (List·getD-eq-default curve 0 {n = k} h))
+  unfolding stored
+  stored-more n = ⊎-elim (λ h. rw (drop-cons curve k 0 h, add-one, ne-eqb (getD curve k 0) 0 n)) (λ h. absurd (n (List·getD-eq-default curve 0 {n = k} h))) (lt-or-le k (length curve))
 
 -- No point is before the instant 0.
 pub found-never : (ps : List Point) (end : ℕ) → end ≡ 0 → lookup end ps ≡ none
@@ -115,11 +105,11 @@ module _ (curve : List ℕ) (end k : ℕ) where
   found-here n t = ap (lookup end) (stored-more curve k n) ∙ rw (lt-ltb (getD curve k 0 % base) end t)
 
   pub found-later : end ≤ getD curve k 0 % base → lookup end (stored (drop k curve)) ≡ lookup end (stored (drop (k + 1) curve))
-  found-later t = go (lt-or-le 0 end)
-    where
-      go : (0 < end) ⊎ (end ≤ 0) → lookup end (stored (drop k curve)) ≡ lookup end (stored (drop (k + 1) curve))
-      go (inl z) = ap (lookup end) (stored-more curve k (λ e. absurd (omega arith))) ∙ unfold lookup pointOf in rw (le-ltb (getD curve k 0 % base) end t)
-      go (inr z) = found-never (stored (drop k curve)) end (omega arith) ∙ sym (found-never (stored (drop (k + 1) curve)) end (omega arith))
+  unfolding lookup pointOf
+  found-later t = ⊎-elim
+      (λ z. ap (lookup end) (stored-more curve k (λ e. absurd (omega arith))) ∙ rw (le-ltb (getD curve k 0 % base) end t))
+      (λ z. found-never (stored (drop k curve)) end (omega arith) ∙ sym (found-never (stored (drop (k + 1) curve)) end (omega arith)))
+      (lt-or-le 0 end)
 
 pub one-less : (n k : ℕ) → k < n → n - k ≡ suc (n - (k + 1))
 one-less n k h = omega arith
@@ -131,10 +121,8 @@ module _ (most : ℕ) (symbols work : List ℕ) (node bin load end : ℕ) where
       Worth pointLimit end x (inputBest most symbols work node bin load end)
   unfolding inputBest before pointOf leafPoint
   leaf-timely x h e l t =
-      let low : x % base ≡ x = mod-eq-of-lt l in
-      let high : x / base ≡ 0 = div-eq-of-lt l in
       worth-point pointLimit end x _ (omega arith) (omega arith) (omega arith)
-      (rw (le-leb 2 (getD symbols node 0) h, ← e, lt-ltb x end t) (ap {B = Option Point} some (sym (point-path high low))))
+      (rw (le-leb 2 (getD symbols node 0) h, ← e, lt-ltb x end t) (ap {B = Option Point} some (point-path (omega arith) (omega arith))))
 
   pub leaf-late : (x : ℕ) → 2 ≤ getD symbols node 0 → x ≡ leafArrival (leafOf (getD symbols node 0)) load → end ≤ x → inputBest most symbols work node bin load end ≡ none
   unfolding inputBest before leafPoint
@@ -151,10 +139,7 @@ unfolding late pointOf
 worth-late end d w o h g n =
     let t = g .intime n in
     let l = g .small n in
-    let high : (w + d) / base ≡ w / base = omega arith in
-    let low : (w + d) % base ≡ w % base + d = omega arith in
-    worth-point pointLimit end (w + d) _ (omega arith) (omega arith) (omega arith)
-    (ap (Option·map (late d)) (g .point n) ∙ ap {B = Option Point} some (sym (point-path high low)))
+    worth-point pointLimit end (w + d) _ (omega arith) (omega arith) (omega arith) (rw (g .point n) (ap {B = Option Point} some (point-path (omega arith) (omega arith))))
 
 module _ {most : ℕ} {pattern hit symbols work : List ℕ} (t : Tables most pattern hit symbols work) (load end : ℕ) where
   abbrev one : ℕ → Option Point
@@ -208,11 +193,9 @@ module _ {most : ℕ} {pattern hit symbols work : List ℕ} (t : Tables most pat
         let a = rowArea pattern in
         let w = (a + p .area) * base + p .arrival in
         let small : a ≤ 65535 = t .safe .area in
-        let high : w / base ≡ a + p .area = omega arith in
-        let low : w % base ≡ p .arrival = omega arith in
         let done : many - k ≡ 0 = omega arith in
         let whole : rest 0 many ≡ some p = i ∙ rw (done, lt-ltb 0 end (omega arith)) (ap {B = Option Point} some (point-path (omega arith) (omega arith))) in
-        worth-point matchLimit end w all (omega arith) (omega arith) (omega arith) (rw whole (ap {B = Option Point} some (sym (point-path high low))))
+        worth-point matchLimit end w all (omega arith) (omega arith) (omega arith) (rw whole (ap {B = Option Point} some (point-path (omega arith) (omega arith))))
 
   nothing : (n k : ℕ) → end ≡ 0 → rest k n ≡ none
   unfolding inputsBest before
@@ -241,11 +224,7 @@ module _ {most : ℕ} {pattern hit symbols work : List ℕ} (t : Tables most pat
 
 word-order : (v w : ℕ) → v ≤ w → Leq (pointOf v) (pointOf w)
 unfolding pointOf
-word-order v w h = go (lt-or-le (v / base) (w / base))
-  where
-    go : (v / base < w / base) ⊎ (w / base ≤ v / base) → Leq (record { area = v / base; arrival = v % base }) (record { area = w / base; arrival = w % base })
-    go (inl l) = smaller l
-    go (inr l) = earlier (omega arith) (omega arith)
+word-order v w h = ⊎-elim (λ l. smaller l) (λ l. earlier (omega arith) (omega arith)) (lt-or-le (v / base) (w / base))
 
 pub point-order : {p q : Point} → Leq p q → p .arrival < base → wordOf p ≤ wordOf q
 unfolding wordOf
@@ -256,32 +235,24 @@ module _ (limit end v w : ℕ) (o o′ : Option Point) (fits : limit ≤ absent)
   -- The later one is the lesser word.
   lesser-new : w < v → Worth limit end w (lesser o o′)
   unfolding lesser
-  lesser-new h = go (ℕ-discrete v absent) (ℕ-discrete w absent)
-    where
-      go : Dec (v ≡ absent) → Dec (w ≡ absent) → Worth limit end w (lesser o o′)
-      go (yes e) n = subst (λ (p : Option Point). Worth limit end w (lesser p o′)) (sym (a .missing e)) b
-      go (no e) (yes f) = absurd (omega (arith, a .small e))
-      go (no e) (no f) =
-          worth-point limit end w _ (b .small f) (omega (arith, b .small f)) (b .intime f)
-          (ap₂ lesser (a .point e) (b .point f) ∙ ap {B = Option Point} some (pick-right (word-order w v (omega arith))))
+  lesser-new h = elim (ℕ-discrete v absent) [
+    | yes e ↦ rw (a .missing e) b
+    | no e ↦
+        let f : w ≡ absent → ⊥ = λ z. omega (arith, a .small e) in
+        worth-point limit end w _ (b .small f) (omega (arith, b .small f)) (b .intime f) (rw (a .point e, b .point f) (ap {B = Option Point} some (pick-right (word-order w v (omega arith)))))
+  ]
 
   lesser-old : v ≤ w → Worth limit end v (lesser o o′)
   unfolding lesser
-  lesser-old h = go (ℕ-discrete v absent) (ℕ-discrete w absent)
-    where
-      go : Dec (v ≡ absent) → Dec (w ≡ absent) → Worth limit end v (lesser o o′)
-      go n (yes f) = subst (λ (p : Option Point). Worth limit end v (lesser o p)) (sym (b .missing f)) (subst (Worth limit end v) (sym (lesser-none o)) a)
-      go (yes e) (no f) = absurd (omega (arith, b .small f))
-      go (no e) (no f) =
-          worth-point limit end v _ (a .small e) (omega (arith, a .small e)) (a .intime e)
-          (ap₂ lesser (a .point e) (b .point f) ∙ ap {B = Option Point} some (pick-left (word-order v w h)))
+  lesser-old h = elim (ℕ-discrete w absent) [
+    | yes f ↦ rw (b .missing f, lesser-none o) a
+    | no f ↦
+        let e : v ≡ absent → ⊥ = λ z. omega (arith, b .small f) in
+        worth-point limit end v _ (a .small e) (omega (arith, a .small e)) (a .intime e) (rw (a .point e, b .point f) (ap {B = Option Point} some (pick-left (word-order v w h))))
+  ]
 
   pub lesser-word : Worth limit end (min v w) (lesser o o′)
-  lesser-word = go (lt-or-le w v)
-    where
-      go : (w < v) ⊎ (v ≤ w) → Worth limit end (min v w) (lesser o o′)
-      go (inl h) = let e : min v w ≡ w = omega arith in rw e (lesser-new h)
-      go (inr h) = let e : min v w ≡ v = omega arith in rw e (lesser-old h)
+  lesser-word = ⊎-elim (λ h. let e : min v w ≡ w = omega arith in rw e (lesser-new h)) (λ h. let e : min v w ≡ v = omega arith in rw e (lesser-old h)) (lt-or-le w v)
 
 -- ---- the hits of a node
 

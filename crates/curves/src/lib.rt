@@ -4,6 +4,7 @@ use matching::Hit;
 use shapes_rules::Packed;
 use sheets_rules::Limits;
 use sheets_rules::PatternRow;
+use sheets_rules::Slots;
 ghost use mathlib.Core.Path.{_≡_};
 ghost use Prim.Native.Nat.{_+_, _-_, _*_, _<_, _≤_, min, max};
 ghost use lib.ListN.{length, drop};
@@ -20,7 +21,7 @@ pub struct Words {}
 impl Words {
     pub const ABSENT: u64 = 9223372036854775808;
 
-    pub const BINS: usize = 4;
+    pub const BINS: usize = Slots::BINS;
 
     pub const LINE: usize = 32;
 }

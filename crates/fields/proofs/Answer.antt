@@ -1,19 +1,23 @@
 -- Answers one after another, what a finding says of one, and that a word says its answer.
-use Prim.Native.Nat.{ℕ, _+_, _*_, _/_, _%_, _^_, _≤_, _<_}
+use Prim.Native.Nat.{ℕ, _+_, _*_, _/_, _%_, _≤_, _<_}
 use mathlib.Core.Path.{_≡_, refl, sym, ap, subst, _∙_}
-use mathlib.Core.Bool.{Bool, true, false, cond}
 use native.Mathlib.Omega.{arith}
 use lib.Dec.{ltb}
+use borrow.Table.Steps.{cases}
 use borrow.Author.Tests.{lt-ltb, le-ltb, ltb-true}
 use Rattle.fields.specs.declared.Fault.{Fault}
 use Rattle.fields.specs.declared.Finding.{Finding}
 use Rattle.fields.specs.declared.Finding.the-variants as Finding
-use Rattle.fields.specs.declared.Refusal.{Refusal}
 use Rattle.fields.specs.declared.Scan.{Scan}
 use Rattle.fields.specs.declared.Scan.the-variants.{At, Refused}
 use Rattle.fields.specs.Reading.{place, Live}
 use Rattle.fields.specs.Inside.Promises.{findingOf, Says}
-use Rattle.fields.specs.Answer.{Answer, refused, refusedIn, refusal, success, said, _>>=_, places, numbers, items, word, ofWord, Bounded, Numbered, BoundedExactly}
+use Rattle.fields.specs.Answer.{Answer, refusedIn, refusal, success, said, _>>=_, places, numbers, word, ofWord, Bounded, BoundedExactly}
+
+-- An answer refuses or succeeds, with the equation that says which.
+pub answer-cases {χ} : {A : Type 0} {X : Type χ} (o : Answer A) → ((item number place : ℕ) → o ≡ refusedIn item number place → X) → ((a : A) → o ≡ success a → X) → X
+answer-cases (refusedIn item number place) f g = f item number place refl
+answer-cases (success a) f g = g a refl
 
 -- A success and a refusal differ.
 pub answer-apart : {A : Type 0} {a : A} {item number place : ℕ} → success a ≡ refusedIn item number place → ⊥
@@ -82,25 +86,19 @@ word-reads (refusedIn item number place) h =
     rw (le-ltb w places (omega arith)) (cc)
 word-reads (success n) h = rw (lt-ltb n places h) refl
 
-module _ (item number place : ℕ) where
-  abbrev inWord : ℕ
-  inWord = (item * numbers + number) * places + place
-
-  reads-only : (b : Bool) → cond b (success inWord) (refusedIn (inWord / places / numbers) (inWord / places % numbers) (inWord % places)) ≡ refusedIn item number place → 1 ≤ number → inWord < 2 ^ 64 → (item < items) × (1 ≤ number) × (number < numbers) × (place < places)
-  reads-only true e some short = absurd (answer-apart e)
-  reads-only false e some short =
-      let said : inWord / places % numbers ≡ number = cc in
-      let at : inWord % places ≡ place = cc in
-      (omega arith, some, omega arith, omega arith)
-
 pub bounded-exactly : (a : Answer ℕ) → BoundedExactly a
 unfolding word ofWord Bounded
 bounded-exactly (refusedIn item number place) = record {
   says = λ h. (omega arith, word-reads (refusedIn item number place) h);
-  only = λ some short e. reads-only item number place (ltb ((item * numbers + number) * places + place) places) e some short;
+  only = λ some short e.
+      let w = (item * numbers + number) * places + place in
+      cases (ltb w places) (λ t. absurd (answer-apart (rw t at e))) (λ t.
+      let g = rw t at e in
+      let said : w / places % numbers ≡ number = cc in
+      let at : w % places ≡ place = cc in
+      (omega arith, some, omega arith, omega arith));
 }
-bounded-exactly (success n) = record { says = λ h. (omega arith, word-reads (success n) h); only = λ some short e. go (ltb n places) refl e }
-  where
-    go : (b : Bool) → ltb n places ≡ b → cond b (success n) (refusedIn (n / places / numbers) (n / places % numbers) (n % places)) ≡ success n → n < places
-    go true f e = ltb-true n places f
-    go false f e = absurd (answer-apart (sym e))
+bounded-exactly (success n) = record {
+  says = λ h. (omega arith, word-reads (success n) h);
+  only = λ some short e. cases (ltb n places) (ltb-true n places) (λ t. absurd (answer-apart (sym (rw t at e))));
+}

@@ -2,7 +2,7 @@
 use mathlib.Core.Path.{_≡_, refl, sym, ap, subst, _∙_}
 use mathlib.Core.Logic.{⊎-elim}
 use mathlib.Core.List.{List, _∷_, [], _++_, List·Memᴰ, List·Memᴰ·append-cases, List·Memᴰ·eq-of-singleton, List·Memᴰ·not-nil}
-use mathlib.Core.Bool.{Bool, true, false, cond, _&&_}
+use mathlib.Core.Bool.{Bool, true, cond, and-false}
 use Prim.Native.Nat.{ℕ, zero, suc, _+_, _-_, _*_, _≤_, _<_, _^_}
 use native.Mathlib.Omega.{arith}
 use lib.Pow.{pow-pos}
@@ -10,15 +10,16 @@ use lib.ListN.{length, length-append}
 use native.Mathlib.Numerals.{add-one}
 use lib.Dec.{leb}
 use borrow.Author.Tests.{leb-true}
+use borrow.Table.Steps.{cases}
 use Rattle.bits.specs.Bits.{placeOf, fieldAt, valueAt, cursorAt}
-use Rattle.bits.proofs.Laws.{value-small, place-at}
+use Rattle.bits.proofs.Laws.{value-lt, place-at}
 use Rattle.bits.specs.declared.Cursor.{Cursor}
 use Rattle.bits.specs.declared.FieldRead as FieldRead
 use Rattle.fields.specs.declared.Got.{Got}
 use Rattle.fields.specs.declared.Scan.{Scan}
 use Rattle.fields.specs.declared.Scan.the-variants.{At, Refused}
 use Rattle.fields.specs.declared.Fault.{Fault}
-use Rattle.fields.specs.declared.Fault.the-variants.{Tail, Range}
+use Rattle.fields.specs.declared.Fault.the-variants.{Truncated, Tail}
 use Rattle.fields.specs.declared.Verdict.{Verdict}
 use Rattle.fields.specs.declared.Verdict.the-variants.{Sound, Faulty}
 use Rattle.fields.specs.Reading.{Reader, times, start, place, free, within, field, scanned, settled, tailed, Live}
@@ -29,113 +30,54 @@ start-place = place-at 0
 
 -- ---- a field of any value
 
--- What `fieldAt` finds: the value it is and where the cursor stands.
-pub data Read (s : List ℕ) (i w : ℕ) : FieldRead.FieldRead → Type 0 where
-  ends : Read s i w FieldRead.the-variants.Truncated
-  reads : valueAt s i w < 2 ^ w → Read s i w (FieldRead.the-variants.Value (valueAt s i w) (cursorAt (i + w)))
-
-pub read : (s : List ℕ) (i w : ℕ) → Read s i w (fieldAt s i w)
+-- What was found is the value there, which has w bits, and the cursor after it.
+pub found-is : (s : List ℕ) (i w x : ℕ) (n : Cursor) (f : FieldRead.FieldRead) → f ≡ fieldAt s i w → f ≡ FieldRead.the-variants.Value x n →
+    (x ≡ valueAt s i w) × (n ≡ cursorAt (i + w))
 unfolding fieldAt
-read s i w = go (leb (i + w) (8 * length s))
-  where
-    go : (b : Bool) → Read s i w (cond b (FieldRead.the-variants.Value (valueAt s i w) (cursorAt (i + w))) FieldRead.the-variants.Truncated)
-    go true = reads (value-small s i w w (omega arith))
-    go false = ends
+found-is s i w x n f e q = cases (leb (i + w) (8 * length s)) (λ t. let g = rw t at e in ((cc), (cc))) (λ t. let g = rw t at e in ((cc), (cc)))
 
--- The value that was found, and the cursor.
-abbrev foundValue : FieldRead.FieldRead → ℕ
-foundValue FieldRead.the-variants.Truncated = 0
-foundValue (FieldRead.the-variants.Value x n) = x
-
-abbrev pub cursorIn : FieldRead.FieldRead → Cursor
-cursorIn FieldRead.the-variants.Truncated = cursorAt 0
-cursorIn (FieldRead.the-variants.Value x n) = n
-
--- What was found has w bits.
 pub found-fits : (s : List ℕ) (i w x : ℕ) (n : Cursor) (f : FieldRead.FieldRead) → f ≡ fieldAt s i w → f ≡ FieldRead.the-variants.Value x n → x < 2 ^ w
-found-fits s i w x n f e q = subst (λ (v : ℕ). v < 2 ^ w) (ap foundValue (sym e ∙ q)) (go (fieldAt s i w) (read s i w))
-  where
-    go : (f : FieldRead.FieldRead) → Read s i w f → foundValue f < 2 ^ w
-    go f ends = pow-pos w
-    go f (reads l) = l
+found-fits s i w x n f e q = omega (arith, found-is s i w x n f e q .0, value-lt s i w)
 
 -- The greatest value that a verdict lets pass.
 abbrev pub Passes : (ℕ → Verdict) → ℕ → ℕ → Type 0
 Passes verdict w most = (x : ℕ) → x < 2 ^ w → verdict x ≡ Sound → x ≤ most
 
-settled-small : (p w most x : ℕ) (v : Verdict) (c : Scan) → (v ≡ Sound → x ≤ most) → settled p v x c .0 ≤ most
-settled-small p w most x Sound c h = h refl
-settled-small p w most x (Faulty f) c h = omega arith
-
-settled-near : (p q x : ℕ) (v : Verdict) (c : Scan) → p ≤ q → place c ≤ q → place (settled p v x c .1) ≤ q
-settled-near p q x Sound c h g = g
-settled-near p q x (Faulty f) c h g = h
-
 module _ (s : List ℕ) (w : ℕ) (verdict : ℕ → Verdict) where
-  field-small : (scan : Scan) (most : ℕ) → Passes verdict w most → field s w verdict scan .0 ≤ most
-  field-small (Refused f p) most h = omega arith
-  field-small (At c) most h = go (fieldAt s (placeOf c) w) (read s (placeOf c) w)
+  -- What comes of a field: it is refused at its first bit, or its value is sound and the scan goes on after it.
+  pub field-ways : (P : ℕ × Scan → Type 0) (scan : Scan) → ((f : Fault) → P (0, Refused f (place scan))) →
+      (let x = valueAt s (place scan) w in Live scan → x < 2 ^ w → verdict x ≡ Sound → P (x, At (cursorAt (place scan + w)))) → P (field s w verdict scan)
+  unfolding fieldAt
+  field-ways P (Refused f p) stop go = stop f
+  field-ways P (At c) stop go = cases (leb (placeOf c + w) (8 * length s)) (λ t. rw t (judged (verdict (valueAt s (placeOf c) w)) refl)) (λ t. rw t (stop Truncated))
     where
-      go : (f : FieldRead.FieldRead) → Read s (placeOf c) w f → scanned (placeOf c) verdict f .0 ≤ most
-      go f ends = omega arith
-      go f (reads l) = settled-small (placeOf c) w most (valueAt s (placeOf c) w) (verdict (valueAt s (placeOf c) w)) (At (cursorAt (placeOf c + w))) (h (valueAt s (placeOf c) w) l)
+      judged : (v : Verdict) → verdict (valueAt s (placeOf c) w) ≡ v → P (settled (placeOf c) v (valueAt s (placeOf c) w) (At (cursorAt (placeOf c + w))))
+      judged Sound e = go tt (value-lt s (placeOf c) w) e
+      judged (Faulty f) e = stop f
+
+  field-small : (scan : Scan) (most : ℕ) → Passes verdict w most → field s w verdict scan .0 ≤ most
+  field-small scan most h = field-ways (λ x. x .0 ≤ most) scan (λ f. omega arith) (λ l. h (valueAt s (place scan) w))
 
   pub field-near : (scan : Scan) → place (field s w verdict scan .1) ≤ place scan + w
-  field-near (Refused f p) = omega arith
-  field-near (At c) = go (fieldAt s (placeOf c) w) (read s (placeOf c) w)
-    where
-      go : (f : FieldRead.FieldRead) → Read s (placeOf c) w f → place (scanned (placeOf c) verdict f .1) ≤ placeOf c + w
-      go f ends = omega arith
-      go f (reads l) = settled-near (placeOf c) (placeOf c + w) (valueAt s (placeOf c) w) (verdict (valueAt s (placeOf c) w)) (At (cursorAt (placeOf c + w))) (omega arith) (omega (arith, place-at (placeOf c + w)))
+  field-near scan = field-ways (λ x. place (x .1) ≤ place scan + w) scan (λ f. omega arith) (λ l g e. omega (arith, place-at (place scan + w)))
 
   -- What has a field's value and scan reads it.
   pub reads-field : (scan : Scan) (r : Got) (most : ℕ) → (r .value, r .scan) ≡ field s w verdict scan → Passes verdict w most →
       Reads r (field s w verdict scan) (place scan + w) most
-  reads-field scan r most e h = record {
-    value = ap (λ (x : ℕ × Scan). x .0) e;
-    scan = ap (λ (x : ℕ × Scan). x .1) e;
-    near = subst (λ (x : ℕ × Scan). place (x .1) ≤ place scan + w) (sym e) (field-near scan);
-    small = subst (λ (x : ℕ × Scan). x .0 ≤ most) (sym e) (field-small scan most h);
-  }
+  reads-field scan r most e h =
+      search (arith, ap (λ (x : ℕ × Scan). x .0) e, ap (λ (x : ℕ × Scan). x .1) e, ap (λ (x : ℕ × Scan). place (x .1)) e, field-near scan, field-small scan most h)
 
   -- After a field that was not refused the verdict on its value is sound, and the scan was not refused before.
   pub live-sound : (scan : Scan) → Live (field s w verdict scan .1) → (verdict (field s w verdict scan .0) ≡ Sound) × Live scan
-  live-sound (Refused f p) h = absurd h
-  live-sound (At c) h = go (fieldAt s (placeOf c) w) h
-    where
-      judged : (v : Verdict) (x : ℕ) (n : Cursor) → v ≡ verdict x → Live (settled (placeOf c) v x (At n) .1) → verdict (settled (placeOf c) v x (At n) .0) ≡ Sound
-      judged Sound x n e h = sym e
-      judged (Faulty f) x n e h = absurd h
-
-      go : (f : FieldRead.FieldRead) → Live (scanned (placeOf c) verdict f .1) → (verdict (scanned (placeOf c) verdict f .0) ≡ Sound) × Unit {0}
-      go FieldRead.the-variants.Truncated h = absurd h
-      go (FieldRead.the-variants.Value x n) h = (judged (verdict x) x n refl h, tt)
+  live-sound scan = field-ways (λ x. Live (x .1) → (verdict (x .0) ≡ Sound) × Live scan) scan (λ f h. absurd h) (λ l g e h. (e, l))
 
   -- A value that is not 0 was not refused.
   pub positive-live : (scan : Scan) → 0 < field s w verdict scan .0 → Live (field s w verdict scan .1)
-  positive-live (Refused f p) h = omega arith
-  positive-live (At c) h = go (fieldAt s (placeOf c) w) h
-    where
-      judged : (v : Verdict) (x : ℕ) (n : Cursor) → 0 < settled (placeOf c) v x (At n) .0 → Live (settled (placeOf c) v x (At n) .1)
-      judged Sound x n h = tt
-      judged (Faulty f) x n h = omega arith
-
-      go : (f : FieldRead.FieldRead) → 0 < scanned (placeOf c) verdict f .0 → Live (scanned (placeOf c) verdict f .1)
-      go FieldRead.the-variants.Truncated h = omega arith
-      go (FieldRead.the-variants.Value x n) h = judged (verdict x) x n h
+  positive-live scan = field-ways (λ x. 0 < x .0 → Live (x .1)) scan (λ f h. omega arith) (λ l g e h. tt)
 
   -- A refused field leaves the scan where it was.
   pub dead-stays : (scan : Scan) → (Live (field s w verdict scan .1) → ⊥) → place (field s w verdict scan .1) ≤ place scan
-  dead-stays (Refused f p) h = omega arith
-  dead-stays (At c) h = go (fieldAt s (placeOf c) w) h
-    where
-      judged : (v : Verdict) (x : ℕ) (n : Cursor) → (Live (settled (placeOf c) v x (At n) .1) → ⊥) → place (settled (placeOf c) v x (At n) .1) ≤ placeOf c
-      judged Sound x n h = absurd (h tt)
-      judged (Faulty f) x n h = omega arith
-
-      go : (f : FieldRead.FieldRead) → (Live (scanned (placeOf c) verdict f .1) → ⊥) → place (scanned (placeOf c) verdict f .1) ≤ placeOf c
-      go FieldRead.the-variants.Truncated h = omega arith
-      go (FieldRead.the-variants.Value x n) h = judged (verdict x) x n h
+  dead-stays scan = field-ways (λ x. (Live (x .1) → ⊥) → place (x .1) ≤ place scan) scan (λ f h. omega arith) (λ l g e h. absurd (h tt))
 
   -- The value and the scan x, read at `scan`, after a verdict.
   abbrev after : Scan → ℕ × Scan → ℕ × Scan
@@ -143,17 +85,14 @@ module _ (s : List ℕ) (w : ℕ) (verdict : ℕ → Verdict) where
 
   after-field : (scan : Scan) → after scan (field s w free scan) ≡ field s w verdict scan
   after-field (Refused f p) = refl
-  after-field (At c) = go (fieldAt s (placeOf c) w)
-    where
-      judged : (v : Verdict) (x : ℕ) (n : Cursor) →
-          (settlingAt (At c) (record { value = x; scan = At n }) (At n) v .value, settlingAt (At c) (record { value = x; scan = At n }) (At n) v .scan)
-          ≡ settled (placeOf c) v x (At n)
-      judged Sound x n = refl
-      judged (Faulty f) x n = refl
-
-      go : (f : FieldRead.FieldRead) → after (At c) (scanned (placeOf c) free f) ≡ scanned (placeOf c) verdict f
-      go FieldRead.the-variants.Truncated = refl
-      go (FieldRead.the-variants.Value x n) = judged (verdict x) x n
+  after-field (At c) = elim (fieldAt s (placeOf c) w) as (λ f. after (At c) (scanned (placeOf c) free f) ≡ scanned (placeOf c) verdict f) [
+    | FieldRead.the-variants.Truncated ↦ refl
+    | FieldRead.the-variants.Value x n ↦
+        elim (verdict x) as (λ v. let r = settlingAt (At c) (record { value = x; scan = At n }) (At n) v in (r .value, r .scan) ≡ settled (placeOf c) v x (At n)) [
+          | Sound ↦ refl
+          | Faulty f ↦ refl
+        ]
+  ]
 
   -- A verdict on what was read as a field of any value makes the field with that verdict.
   pub settled-field : (scan : Scan) (got r : Got) (v : Verdict) (most : ℕ) → (got .value, got .scan) ≡ field s w free scan →
@@ -187,20 +126,13 @@ reads-scanned s w scan c f r e ef er =
     reads-field s w free scan r (2 ^ w - 1) (er ∙ ap (scanned (placeOf c) free) ef ∙ sym (ap (field s w free) e)) (free-passes w)
 
 -- What a range lets pass.
-in-range : (least most x : ℕ) → within least most x ≡ Sound → (least ≤ x) × (x ≤ most)
-unfolding within
-in-range least most x e = go (leb least x) (leb x most) refl refl e
-  where
-    go : (a b : Bool) → leb least x ≡ a → leb x most ≡ b → cond (a && b) Sound (Faulty Range) ≡ Sound → (least ≤ x) × (x ≤ most)
-    go true true l m e = (leb-true least x l, leb-true x most m)
-    go true false l m e = let z : _≡_ {A = ℕ} 0 1 = cc in absurd (omega arith)
-    go false b l m e = let z : _≡_ {A = ℕ} 0 1 = cc in absurd (omega arith)
-
 pub range-least : (least most x : ℕ) → within least most x ≡ Sound → least ≤ x
-range-least least most x e = in-range least most x e .0
+unfolding within
+range-least least most x e = cases (leb least x) (leb-true least x) (λ l. let g = rw l at e in let z : _≡_ {A = ℕ} 0 1 = cc in omega arith)
 
 pub range-passes : (least most x : ℕ) → within least most x ≡ Sound → x ≤ most
-range-passes least most x e = in-range least most x e .1
+unfolding within
+range-passes least most x e = cases (leb x most) (leb-true x most) (λ l. let g = rw (l, and-false) at e in let z : _≡_ {A = ℕ} 0 1 = cc in omega arith)
 
 pub within-passes : (least most w : ℕ) → Passes (within least most) w most
 within-passes least most w x l e = range-passes least most x e
@@ -219,19 +151,11 @@ module _ (wanted : ℕ → Bool) where
   tailed-live (Refused f p) h = h
 
   pub tailed-place : (c : Scan) → place (tailed wanted c) ≡ place c
-  tailed-place (At c) = go (wanted (placeOf c))
-    where
-      go : (b : Bool) → place (cond b (At c) (Refused Tail (placeOf c))) ≡ placeOf c
-      go true = refl
-      go false = refl
+  tailed-place (At c) = cases (wanted (placeOf c)) (λ t. rw t) (λ t. rw t)
   tailed-place (Refused f p) = refl
 
   pub tailed-wanted : (scan : Scan) (c : Cursor) → tailed wanted scan ≡ At c → wanted (placeOf c) ≡ true
-  tailed-wanted (At d) c e = go (wanted (placeOf d)) refl e
-    where
-      go : (b : Bool) → wanted (placeOf d) ≡ b → cond b (At d) (Refused Tail (placeOf d)) ≡ At c → wanted (placeOf c) ≡ true
-      go true p q = ap wanted (sym (ap place q)) ∙ p
-      go false p q = absurd (subst Live (sym q) tt)
+  tailed-wanted (At d) c e = cases (wanted (placeOf d)) (λ t. ap wanted (sym (ap place (rw t at e))) ∙ t) (λ t. absurd (subst Live (sym (rw t at e)) tt))
   tailed-wanted (Refused f p) c e = absurd (subst Live (sym e) tt)
 
   pub tailed-at : (scan : Scan) (c : Cursor) (b : Bool) → scan ≡ At c → b ≡ wanted (placeOf c) → cond b (At c) (Refused Tail (placeOf c)) ≡ tailed wanted scan

@@ -13,15 +13,12 @@ module _ {A : Type 0} where
   -- One run after another is one run.
   pub sets-append : (l : List A) (i : ℕ) (xs ys : List A) → sets l i (xs ++ ys) ≡ sets (sets l i xs) (i + length xs) ys
   sets-append l i [] ys = ap (λ (k : ℕ). sets l k ys) (sym (add-zero i))
-  sets-append l i (x ∷ xs) ys =
-      sets-append (set l i x) (suc i) xs ys ∙ ap (λ (k : ℕ). sets (sets (set l i x) (suc i) xs) k ys) (suc-add i (length xs) ∙ sym (add-suc i (length xs)))
+  sets-append l i (x ∷ xs) ys = rw (add-suc i (length xs), ← (suc-add i (length xs))) (sets-append (set l i x) (suc i) xs ys)
 
   -- What stands before a run may be written after it.
   pub set-sets : (l : List A) (i j : ℕ) (v : A) (xs : List A) → j < i → set (sets l i xs) j v ≡ sets (set l j v) i xs
   set-sets l i j v [] h = refl
-  set-sets l i j v (x ∷ xs) h =
-      set-sets (set l i x) (suc i) j v xs (omega arith)
-      ∙ ap (λ (k : List A). sets k (suc i) xs) (set-comm l i j x v (λ e. absurd (omega arith)))
+  set-sets l i j v (x ∷ xs) h = rw (← (set-comm l i j x v (λ e. omega arith))) (set-sets (set l i x) (suc i) j v xs (omega arith))
 
   -- The first elements after a run are those before it and the run.
   pub take-sets : (l : List A) (i : ℕ) (xs : List A) → i + length xs ≤ length l → take (i + length xs) (sets l i xs) ≡ take i l ++ xs
@@ -36,10 +33,8 @@ module _ {A : Type 0} where
       let part : length (take k d) ≡ k = length-take-le k d (omega (arith, length-drop a l)) in
       let rest : drop (length xs) (take k d) ++ drop k d ≡ drop (a + length xs) l =
       sym (drop-append-le (length xs) (take k d) (drop k d) (omega arith)) ∙ ap (drop (length xs)) (take-append-drop k d) ∙ drop-drop (length xs) a l in
-      ap (λ (ys : List A). take a l ++ (ys ++ drop k d)) (sets-eq xs (take k d) 0 (omega arith) ∙ ap (λ (n : ℕ). xs ++ drop n (take k d)) (zero-add (length xs)))
-      ∙ ap (λ (ys : List A). take a l ++ ys) (append-assoc xs (drop (length xs) (take k d)) (drop k d) ∙ ap (λ (ys : List A). xs ++ ys) rest)
-      ∙ sym (append-assoc (take a l) xs (drop (a + length xs) l))
-      ∙ sym (sets-eq xs l a (omega arith))
+      rw (sets-eq xs (take k d) 0 (omega arith), sets-eq xs l a (omega arith), zero-add, ← rest)
+      (simp append-assoc (ap (λ (ys : List A). take a l ++ ys) (append-assoc xs (drop (length xs) (take k d)) (drop k d))))
 
   pub at-mem : (l : List A) (k : ℕ) (d : A) → k < length l → List·Memᴰ (getD l k d) l
   at-mem [] k d h = absurd (omega arith)
@@ -53,13 +48,8 @@ module _ {A : Type 0} where
 
   pub in-sets : (l : List A) (i : ℕ) (xs : List A) (c : ℕ) (d : A) → i + length xs ≤ length l → c < length xs → getD (sets l i xs) (i + c) d ≡ getD xs c d
   in-sets l i [] c d h g = absurd (omega arith)
-  in-sets l i (x ∷ xs) zero d h g =
-      ap (λ (k : ℕ). getD (sets (set l i x) (suc i) xs) k d) (add-zero i)
-      ∙ before-sets (set l i x) (suc i) xs i d (omega arith)
-      ∙ getD-set-same l i x d (omega arith)
-  in-sets l i (x ∷ xs) (suc c) d h g =
-      ap (λ (k : ℕ). getD (sets (set l i x) (suc i) xs) k d) (add-suc i c ∙ sym (suc-add i c))
-      ∙ in-sets (set l i x) (suc i) xs c d (omega (arith, length-set l i x)) (omega arith)
+  in-sets l i (x ∷ xs) zero d h g = rw (add-zero, before-sets (set l i x) (suc i) xs i d (omega arith), getD-set-same l i x d (omega arith))
+  in-sets l i (x ∷ xs) (suc c) d h g = rw (add-suc i c, ← (suc-add i c)) (in-sets (set l i x) (suc i) xs c d (omega (arith, length-set l i x)) (omega arith))
 
   pub front-sets : (l xs : List A) (c : ℕ) (d : A) → length xs ≤ length l → c < length xs → getD (sets l 0 xs) c d ≡ getD xs c d
   front-sets l xs c d h g = ap (λ (k : ℕ). getD (sets l 0 xs) k d) (sym (zero-add c)) ∙ in-sets l 0 xs c d (omega arith) g
@@ -83,5 +73,4 @@ pub stored-left : (l : List ℕ) (i : ℕ) (xs ys : List ℕ) → Stored l i (xs
 stored-left l i xs ys h k g = h k (omega (arith, length-append xs ys)) ∙ List·getD-append xs ys 0 k g
 
 pub stored-right : (l : List ℕ) (i : ℕ) (xs ys : List ℕ) → Stored l i (xs ++ ys) → Stored l (i + length xs) ys
-stored-right l i xs ys h k g =
-    ap (λ (j : ℕ). getD l j 0) (add-assoc i (length xs) k) ∙ h (length xs + k) (omega (arith, length-append xs ys)) ∙ getD-append-add xs ys k 0
+stored-right l i xs ys h k g = rw add-assoc (h (length xs + k) (omega (arith, length-append xs ys)) ∙ getD-append-add xs ys k 0)

@@ -1,27 +1,24 @@
 -- Bytes in which fields stand one after another to the end are those fields packed, and no others.
 -- And a reader made of fields, then, n times and the end finds its fields so, unless it is refused.
-use Prim.Native.Nat.{ℕ, zero, suc, _+_, _-_, _*_, _/_, _^_, _≤_, _<_}
-use mathlib.Core.Path.{_≡_, refl, sym, ap, subst, _∙_}
-use mathlib.Core.Bool.{Bool, true, false, cond}
+use Prim.Native.Nat.{ℕ, zero, suc, _+_, _-_, _*_, _/_, _≤_, _<_}
+use mathlib.Core.Path.{_≡_, refl, sym, ap, _∙_}
+use mathlib.Core.Bool.{true}
 use mathlib.Core.List.{List, [], _∷_, _++_, append-assoc, append-nil}
 use native.Mathlib.Decide.{decLt}
 use native.Mathlib.Nat.{add-zero, add-assoc, mod-eq-of-lt}
 use native.Mathlib.Omega.{arith}
 use lib.ListN.{replicate}
-use Rattle.bits.specs.Bits.{placeOf, cursorAt, bytesTo, restOf, bitAt, valueAt, fieldAt, endsAt, withField}
-use Rattle.bits.specs.declared.Cursor.{Cursor}
-use Rattle.bits.specs.declared.FieldRead as FieldRead
+use borrow.Table.Steps.{cases}
+use Rattle.bits.specs.Bits.{cursorAt, bytesTo, restOf, bitAt, valueAt, endsAt, withField}
 use Rattle.bits.proofs.Laws.{value-lt, place-at}
 use Rattle.bits.proofs.Whole.{Bytes, bits-whole, value-bits, ends-says, bytes-field}
 use Rattle.fields.specs.declared.Scan.{Scan}
-use Rattle.fields.specs.declared.Scan.the-variants.{At, Refused}
-use Rattle.fields.specs.declared.Fault.the-variants.{Tail}
+use Rattle.fields.specs.declared.Scan.the-variants.{At}
 use Rattle.fields.specs.declared.Verdict.{Verdict}
-use Rattle.fields.specs.declared.Verdict.the-variants.{Sound, Faulty}
-use Rattle.fields.specs.Reading.{Reader, times, start, place, field, scanned, settled, ended, Live}
+use Rattle.fields.specs.Reading.{Reader, times, start, place, field, ended, Live}
 use Rattle.fields.specs.Written.{Field, widths, written, packed}
 use Rattle.bits.proofs.Words.{zeros-at}
-use Rattle.fields.proofs.Laws.{Read, ends, reads, read}
+use Rattle.fields.proofs.Laws.{field-ways}
 use Rattle.fields.proofs.Written.{packed-reads, packed-ends, widths-append}
 
 bytes-written : (fs : List Field) (i : ℕ) (s : List ℕ) → Bytes s → Bytes (written fs i s)
@@ -46,7 +43,7 @@ unfolding widths
 laid-bits s before [] i e h j a b = absurd (omega arith)
 laid-bits s before (f ∷ fs) i e h j a b =
     let value : valueAt (packed (before ++ f ∷ fs)) i (f .width) ≡ f .value =
-    rw e (packed-reads before f fs ∙ mod-eq-of-lt (subst (λ (v : ℕ). v < 2 ^ f .width) (h .0) (value-lt s i (f .width)))) in
+    rw e (packed-reads before f fs ∙ mod-eq-of-lt (omega (arith, value-lt s i (f .width)))) in
     elim (decLt j (i + f .width)) [
       | yes l ↦ value-bits s (packed (before ++ f ∷ fs)) i (f .width) (h .0 ∙ sym value) j a l
       | no l ↦
@@ -89,48 +86,26 @@ found-live h = h .live
 
 pub found-none : (s : List ℕ) (c : Scan) → Live c → Found s [] c c
 unfolding widths
-found-none s (Refused f p) h = absurd h
-found-none s (At c) h = record { live = tt; stand = tt; after = sym (add-zero (placeOf c)); kept = λ e. e }
+found-none s c h = record { live = h; stand = tt; after = sym (add-zero (place c)); kept = λ e. e }
 
 -- A field that was not refused stands there with the value that was read.
 pub found-field : (s : List ℕ) (w : ℕ) (verdict : ℕ → Verdict) (c : Scan) → Live (field s w verdict c .1) →
     Found s (record { value = field s w verdict c .0; width = w } ∷ []) c (field s w verdict c .1)
 unfolding widths
-found-field s w verdict (Refused f p) h = absurd h
-found-field s w verdict (At c) h = go (fieldAt s (placeOf c) w) (read s (placeOf c) w) h
-  where
-    Out : ℕ × Scan → Type 0
-    Out x = Live (x .1) → Found s (record { value = x .0; width = w } ∷ []) (At c) (x .1)
-
-    judged : (v : Verdict) → Out (settled (placeOf c) v (valueAt s (placeOf c) w) (At (cursorAt (placeOf c + w))))
-    judged Sound h =
-        let there = place-at (placeOf c + w) in
-        record { live = tt; stand = (refl, tt); after = there ∙ ap (λ (j : ℕ). placeOf c + j) (sym (add-zero w)); kept = λ e. ap (λ (j : ℕ). At (cursorAt j)) (sym there) }
-    judged (Faulty f) h = absurd h
-
-    go : (f : FieldRead.FieldRead) → Read s (placeOf c) w f → Out (scanned (placeOf c) verdict f)
-    go f ends h = absurd h
-    go f (reads l) h = judged (verdict (valueAt s (placeOf c) w)) h
+found-field s w verdict c = field-ways s w verdict (λ x. Live (x .1) → Found s (record { value = x .0; width = w } ∷ []) c (x .1)) c (λ f h. absurd h) (λ l g e h.
+    let there = place-at (place c + w) in record { live = l; stand = (refl, tt); after = omega arith; kept = λ q. ap (λ (j : ℕ). At (cursorAt j)) (sym there) })
 
 -- One run of fields, and then another.
 pub found-then : {s : List ℕ} {fs gs : List Field} {a b c : Scan} → Found s fs a b → Found s gs b c → Found s (fs ++ gs) a c
-found-then {s} {fs} {gs} {a} h g = record {
-  live = h .live;
-  stand = laid-append s (place a) fs gs (h .stand) (subst (λ (i : ℕ). Laid s i gs) (h .after) (g .stand));
-  after = omega (arith, g .after, h .after, widths-append fs gs);
-  kept = λ e. g .kept (h .kept e);
-}
+found-then {s} {fs} {gs} {a} h g =
+    search (arith, laid-append s (place a) fs gs (h .stand) (rw (h .after) at (g .stand)), widths-append fs gs, h .kept, g .kept)
 
 -- The entries that were read, as often as there are.
 module _ {A : Type 0} (s : List ℕ) (entry : A → List Field) (laid : List A → List Field) (none : laid [] ≡ []) (one : (x : A) (xs : List A) → laid (x ∷ xs) ≡ entry x ++ laid xs)
     (r : List A → Reader A) where
   laid-more : (xs : List A) (x : A) → laid (xs ++ (x ∷ [])) ≡ laid xs ++ entry x
-  laid-more [] x = one x [] ∙ ap (λ (fs : List Field). entry x ++ fs) none ∙ append-nil (entry x) ∙ ap (λ (fs : List Field). fs ++ entry x) (sym none)
-  laid-more (y ∷ xs) x =
-      one y (xs ++ (x ∷ []))
-      ∙ ap (λ (fs : List Field). entry y ++ fs) (laid-more xs x)
-      ∙ sym (append-assoc (entry y) (laid xs) (entry x))
-      ∙ ap (λ (fs : List Field). fs ++ entry x) (sym (one y xs))
+  laid-more [] x = rw (one x [], none, append-nil)
+  laid-more (y ∷ xs) x = rw (one y (xs ++ (x ∷ [])), laid-more xs x, one y xs, append-assoc)
 
   pub found-times : ((xs : List A) (c : Scan) → Live (r xs c .1) → Found s (entry (r xs c .0)) c (r xs c .1)) → (n : ℕ) (c : Scan) → Live (times n r c .1) →
       Found s (laid (times n r c .0)) c (times n r c .1)
@@ -141,19 +116,10 @@ module _ {A : Type 0} (s : List ℕ) (entry : A → List Field) (laid : List A �
       let last = turn (xs .0) (xs .1) h in
       rw (laid-more (xs .0) (r (xs .0) (xs .1) .0)) (found-then (found-times turn n c (found-live last)) last)
 
--- The end was looked for at a scan that was not refused.
-ended-there : (s : List ℕ) (c : Cursor) → Live (ended s (At c)) → (endsAt s (placeOf c) ≡ true) × (ended s (At c) ≡ At c)
-ended-there s c h = go (endsAt s (placeOf c)) refl h
-  where
-    go : (b : Bool) → endsAt s (placeOf c) ≡ b → Live (cond b (At c) (Refused Tail (placeOf c))) → (endsAt s (placeOf c) ≡ true) × (cond b (At c) (Refused Tail (placeOf c)) ≡ At c)
-    go true e h = (e, refl)
-    go false e h = absurd h
-
 -- The whole sheet, from its first bit on: its fields stand in it, it ends after them, and there the scan stands.
 pub found-all : {s : List ℕ} {fs : List Field} {c : Scan} → Found s fs start c → Live (ended s c) →
     Laid s 0 fs × (endsAt s (widths fs) ≡ true) × (ended s c ≡ At (cursorAt (widths fs)))
 found-all {s} {fs} {c} h l =
     let first : place start ≡ 0 = place-at 0 in
     let stop : c ≡ At (cursorAt (widths fs)) = h .kept (ap (λ (i : ℕ). At (cursorAt i)) (sym first)) ∙ ap (λ (i : ℕ). At (cursorAt i)) (omega (arith, first, h .after)) in
-    let end = ended-there s (cursorAt (widths fs)) (subst (λ (q : Scan). Live (ended s q)) stop l) in
-    (subst (λ (i : ℕ). Laid s i fs) first (h .stand), rw place-at at (end .0), ap (ended s) stop ∙ end .1)
+    cases (endsAt s (widths fs)) (λ t. (rw first at (h .stand), t, rw (stop, place-at, t))) (λ t. absurd (rw (stop, place-at, t) at l))

@@ -3,7 +3,7 @@
 use Prim.Native.Nat.{ℕ, zero, suc, _+_, _*_, _/_, _%_, _^_, _≤_, _<_}
 use mathlib.Core.Path.{_≡_, refl, sym, ap, _∙_}
 use mathlib.Core.Logic.{inl, inr}
-use mathlib.Core.Bool.{Bool, true, cond}
+use mathlib.Core.Bool.{true}
 use borrow.Author.Tests.{eq-eqb, le-leb}
 use mathlib.Core.List.{List, [], _∷_, _++_, List·Memᴰ, List·Memᴰ·head, List·Memᴰ·tail, append-assoc, append-nil}
 use native.Mathlib.Nat.{le-refl, zero-add, add-zero, add-assoc, mod-eq-of-lt, div-eq-of-lt}
@@ -12,13 +12,11 @@ use lib.ListN.{length, replicate, length-replicate, length-append}
 use lib.Pow.{pow-pos}
 use Rattle.bits.specs.Bits.{after, bytesTo, restOf, bitAt, valueAt, cursorAt, fieldAt, endsAt, withField}
 use Rattle.bits.proofs.Laws.{length-field, value-field, value-beside, place-at}
-use Rattle.bits.specs.declared.FieldRead.the-variants.{Value}
 use Rattle.fields.specs.declared.Scan.{Scan}
-use Rattle.fields.specs.declared.Scan.the-variants.{At, Refused}
-use Rattle.fields.specs.declared.Fault.the-variants.{Tail}
+use Rattle.fields.specs.declared.Scan.the-variants.{At}
 use Rattle.fields.specs.declared.Verdict.{Verdict}
 use Rattle.fields.specs.declared.Verdict.the-variants.{Sound}
-use Rattle.fields.specs.Reading.{Reader, done, _>>=_, times, start, free, settled, scanned, field, ended}
+use Rattle.fields.specs.Reading.{Reader, done, _>>=_, times, start, free, field, ended}
 use Rattle.fields.specs.Written.{Field, widths, written, packed}
 use Rattle.bits.proofs.Words.{zeros-at}
 use Rattle.fields.proofs.Laws.{times-more}
@@ -92,11 +90,7 @@ pub record Stands (all : List Field) (i : ℕ) (gs : List Field) : Type 0 where
   pub place-is : i ≡ widths before
 
 stands-next : {all : List Field} {i : ℕ} (fs : List Field) {gs : List Field} → Stands all i (fs ++ gs) → Stands all (i + widths fs) gs
-stands-next fs {gs} h = record {
-  before = h .before ++ fs;
-  whole = h .whole ∙ sym (append-assoc (h .before) fs gs);
-  place-is = omega (arith, h .place-is, widths-append (h .before) fs);
-}
+stands-next fs {gs} h = record { before = h .before ++ fs; whole = cc (append-assoc (h .before) fs gs); place-is = omega (arith, widths-append (h .before) fs) }
 
 -- Where fs stand in that sheet, and `rest` after them to its end, the reader r reads a out of fs.
 pub record Says (all : List Field) {A : Type 0} (r : Reader A) (fs rest : List Field) (a : A) : Type 0 where
@@ -112,9 +106,7 @@ says-sound {all} {rest} {v} w verdict fits sound = record {
       let long : widths all ≡ widths (h .before) + (w + widths rest) = ap widths (h .whole) ∙ widths-append (h .before) (f ∷ rest) in
       let room : i + w ≤ 8 * length (packed all) = omega (arith, length-packed all, h .place-is) in
       let value : valueAt (packed all) i w ≡ v = rw (h .whole, h .place-is) (packed-reads (h .before) f rest ∙ mod-eq-of-lt fits) in
-      let found : fieldAt (packed all) i w ≡ Value v (cursorAt (i + w)) = rw (le-leb (i + w) (8 * length (packed all)) room) (ap (λ (x : ℕ). Value x (cursorAt (i + w))) value) in
-      ap (λ (p : ℕ). scanned p verdict (fieldAt (packed all) p w)) (place-at i) ∙ ap (scanned i verdict) found ∙ ap (λ (d : Verdict). settled i d v (At (cursorAt (i + w)))) sound
-      ∙ ap (λ (j : ℕ). (v, At (cursorAt (i + j)))) (sym (add-zero w));
+      rw (place-at i, le-leb (i + w) (8 * length (packed all)) room, value, sound, add-zero w);
 }
 
 pub says-field : {all rest : List Field} {v : ℕ} (w : ℕ) → v < 2 ^ w → Says all (field (packed all) w free) (record { value = v; width = w } ∷ []) rest v
@@ -129,11 +121,7 @@ says-done a = record { reads = λ i h. ap (λ (j : ℕ). (a, At (cursorAt j))) (
 pub says-then : {all rest : List Field} {A B : Type 0} {r : Reader A} (k : A → Reader B) {fs gs : List Field} {a : A} {b : B} →
     Says all r fs (gs ++ rest) a → Says all (k a) gs rest b → Says all (r >>= k) (fs ++ gs) rest b
 says-then {all} {rest} {A} {B} k {fs} {gs} {a} {b} h g = record {
-  reads = λ i z.
-      let z′ = rw (append-assoc fs gs rest) at z in
-      ap (λ (x : A × Scan). k (x .0) (x .1)) (h .reads i z′)
-      ∙ g .reads (i + widths fs) (stands-next fs z′)
-      ∙ ap (λ (j : ℕ). (b, At (cursorAt j))) (add-assoc i (widths fs) (widths gs) ∙ ap (λ (j : ℕ). i + j) (sym (widths-append fs gs)));
+  reads = λ i z. let z′ = rw (append-assoc fs gs rest) at z in rw (h .reads i z′, g .reads (i + widths fs) (stands-next fs z′), widths-append fs gs, add-assoc i);
 }
 
 -- The entries of a list, packed one after another, are read as often as there are entries.
@@ -161,9 +149,7 @@ unfolding widths
 says-end {all} a = record {
   reads = λ i h.
       let end : endsAt (packed all) i ≡ true = packed-ends all (h .place-is ∙ sym (ap widths (h .whole ∙ append-nil (h .before)))) in
-      ap (λ (p : ℕ). (a, cond (endsAt (packed all) p) (At (cursorAt i)) (Refused Tail p))) (place-at i)
-      ∙ ap (λ (b : Bool). (a, cond b (At (cursorAt i)) (Refused Tail i))) end
-      ∙ ap (λ (j : ℕ). (a, At (cursorAt j))) (sym (add-zero i));
+      rw (place-at i, end, add-zero i);
 }
 
 -- The whole sheet, from its first bit on.

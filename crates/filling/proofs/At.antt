@@ -1,7 +1,7 @@
 -- A node's turn: from what is lent to what is done.
-use mathlib.Core.Path.{_≡_, refl, sym, ap, subst, _∙_}
+use mathlib.Core.Path.{_≡_, refl, ap, _∙_}
 use mathlib.Core.List.{List}
-use Prim.Native.Nat.{ℕ, _+_, _≤_, _<_}
+use Prim.Native.Nat.{ℕ, _+_, _<_}
 use native.Mathlib.Omega.{arith}
 use lib.ListN.{length, take, replicate}
 use lib.Seq.{take-all}
@@ -40,14 +40,13 @@ module _ {l : Library} {t : Tree} {rows ss zs : List ℕ} {turn : Turn} {found�
     points-are b h = curve-is-found (g .ready) f (turn .most) work (g .filled) gate (loadAt turn b) (g .light b h)
 
     pub gate-done : {work′ : List ℕ} {r : Counts} → NodeFilled ss work rows found count turn work′ r → NodeDone l s turn work work′ r
-    gate-done h =
-        record {
-          counted = λ q b k. h .counted b k ∙ ap length (points-are b k);
-          stored = λ q b k few.
-              let whole = points-are b k ∙ take-all (turn .most + 1) (curveUnder l s turn b) (omega arith) in
-              h .stored b k (subst (λ (m : ℕ). m ≤ turn .most) (sym (ap length whole)) few) ∙ whole;
-          none = λ e. absurd (omega arith);
-          zero = h .zero;
-          agree = h .agree;
-          small = h .small;
-        }
+    gate-done h = record {
+      counted = λ q b k. h .counted b k ∙ ap length (points-are b k);
+      stored = λ q b k few.
+          let whole = points-are b k ∙ take-all (turn .most + 1) (curveUnder l s turn b) (omega arith) in
+          h .stored b k (omega (arith, ap length whole)) ∙ whole;
+      none = λ e. absurd (omega arith);
+      zero = h .zero;
+      agree = h .agree;
+      small = h .small;
+    }

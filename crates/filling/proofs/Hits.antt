@@ -1,28 +1,27 @@
 -- A hit says what its match says: the least point read from the tables is the least point of the match, and of all legal matches of the node.
 use mathlib.Core.Path.{_≡_, refl, sym, ap, ap₂, _∙_}
 use mathlib.Core.List.{List, [], _∷_, _++_, List·Memᴰ, List·Memᴰ·head, List·Memᴰ·tail}
-use mathlib.Core.Bool.{Bool, true, false, cond}
-use mathlib.Core.Option.{Option, none, Option·map}
+use mathlib.Core.Bool.{Bool, cond}
+use mathlib.Core.Option.{Option, none}
 use Prim.Native.Nat.{ℕ, zero, suc, _+_, _-_, _≤_, _<_}
-use native.Mathlib.Nat.{zero-add}
+use native.Mathlib.Nat.{add-zero, zero-add}
 use native.Mathlib.Omega.{arith}
 use lib.ListN.{length, getD, take}
-use lib.Dec.{leb}
+use borrow.Table.Steps.{cases}
 use lib.Seq.{take-suc, take-all}
 use borrow.Author.Tests.{le-leb, lt-leb}
-use Rattle.sheets_rules.specs.Model.{Leaf, Shape, leaf, inv, nand, Pin, Cell, Library}
+use Rattle.sheets_rules.specs.Model.{Shape, leaf, inv, nand, Pin, Cell, Library}
 use Rattle.covers.proofs.Basics.{select-append}
 use Rattle.covers.specs.Lists.{keepIf, select}
 use Rattle.covers.specs.Match.{Input, Match, legal, pinLoad}
-use Rattle.covers.specs.Cover.{Point, late, raised, feeds, inputDelay, leafPoint}
-use Rattle.covers.specs.Choice.{before, lesser}
-use Rattle.covers.specs.Inside.Curve.{both, lookup}
+use Rattle.covers.specs.Cover.{Point, feeds, inputDelay}
+use Rattle.covers.specs.Choice.{lesser}
+use Rattle.covers.specs.Inside.Curve.{both}
 use Rattle.covers.proofs.Points.{lesser-assoc, lesser-none}
 use Rattle.covers.proofs.Deadline.{bestInputs, bestMatch, bestOf}
 use Rattle.covers.proofs.Filling.{fromCurve, fromTable}
-use Rattle.leaves.specs.Inside.Leaf.{leafOf, Heads}
-use Rattle.cells.specs.declared.PinFigures.{PinFigures}
-use Rattle.cells.specs.Inside.Cell.{delayOf, figuresOf, CellStored}
+use Rattle.leaves.specs.Inside.Leaf.{Heads}
+use Rattle.cells.specs.Inside.Cell.{figuresOf, CellStored}
 use Rattle.cells.proofs.Laws.{legal-is, figures-are, delay-is}
 use Rattle.overlay.proofs.Patterns.{noInput}
 use Rattle.matching.specs.Inside.Found.{inputPlace, hitOf}
@@ -41,24 +40,10 @@ Holds hit m = (k : ℕ) → k < length (hitOf m) → getD hit k 0 ≡ getD (hitO
 
 -- From input k on a hit lists these inputs.
 abbrev Listed : List ℕ → ℕ → List Input → Type 0
-Listed hit k [] = Unit {0}
-Listed hit k (i ∷ is) = (getD hit (inputPlace k) 0 ≡ i .pin) × (getD hit (inputPlace k + 1) 0 ≡ i .node) × Listed hit (suc k) is
-
-lists : (hit : List ℕ) (k : ℕ) (is : List Input) → ((j : ℕ) → j < length is → (getD hit (inputPlace (k + j)) 0 ≡ getD is j noInput .pin) × (getD hit (inputPlace (k + j) + 1) 0 ≡ getD is j noInput .node)) → Listed hit k is
-lists hit k [] h = tt
-lists hit k (i ∷ is) h =
-    let e : k + 0 ≡ k = omega arith in
-    let first = h 0 (omega arith) in (
-      ap (λ j. getD hit (inputPlace j) 0) (sym e) ∙ first .0,
-      ap (λ j. getD hit (inputPlace j + 1) 0) (sym e) ∙ first .1,
-      lists hit (suc k) is (λ j g. let f : suc k + j ≡ k + suc j = omega arith in rw f (h (suc j) (omega arith))),
-    )
+Listed hit k is = (j : ℕ) → j < length is → (getD hit (inputPlace (k + j)) 0 ≡ getD is j noInput .pin) × (getD hit (inputPlace (k + j) + 1) 0 ≡ getD is j noInput .node)
 
 holds-lists : (hit : List ℕ) (m : Match) → Holds hit m → Listed hit 0 (m .inputs)
-holds-lists hit m w = lists hit 0 (m .inputs) (λ j g. rw (zero-add j) (
-  w (inputPlace j) (omega (arith, length-hit m)) ∙ hit-pin m j g,
-  w (inputPlace j + 1) (omega (arith, length-hit m)) ∙ hit-node m j g,
-))
+holds-lists hit m w j g = rw (zero-add j) (w (inputPlace j) (omega (arith, length-hit m)) ∙ hit-pin m j g, w (inputPlace j + 1) (omega (arith, length-hit m)) ∙ hit-node m j g)
 
 -- The inputs feed pins of the cell.
 abbrev pub Pinned : Cell → List Input → Type 0
@@ -68,46 +53,37 @@ module _ (most : ℕ) (l : Library) (symbols work : List ℕ) where
   abbrev table : ℕ → ℕ → List Point
   table = tableOf most work
 
-  abbrev from : Input → Pin → ℕ → Bool → Option Point
-  from i p end b = cond b (before end (leafPoint (leafOf (getD symbols (i .node) 0)) (pinLoad l p))) (lookup end (table (i .node) (p .bin)))
-
   input-is : (i : Input) (p : Pin) (end : ℕ) → Heads (getD symbols (i .node) 0) (i .shape) →
       inputBest most symbols work (i .node) (p .bin) (pinLoad l p) end ≡ fromTable l table p i end
-  unfolding inputBest fromTable
+  unfolding fromTable
   input-is i p end h = go (i .shape) h
     where
-      go : (s : Shape) → Heads (getD symbols (i .node) 0) s → from i p end (leb 2 (getD symbols (i .node) 0)) ≡ fromCurve s (pinLoad l p) (table (i .node) (p .bin)) end
-      go (leaf x) e =
-          unfold fromCurve in
-          ap (from i p end) (le-leb 2 (getD symbols (i .node) 0) (omega arith)) ∙ ap (λ (a : Leaf). before end (leafPoint a (pinLoad l p))) (leaf-told (getD symbols (i .node) 0) x e)
-      go (inv s) e = unfold fromCurve in ap (from i p end) (lt-leb 2 (getD symbols (i .node) 0) (omega arith))
-      go (nand s t) e = unfold fromCurve in ap (from i p end) (lt-leb 2 (getD symbols (i .node) 0) (omega arith))
+      go : (s : Shape) → Heads (getD symbols (i .node) 0) s → inputBest most symbols work (i .node) (p .bin) (pinLoad l p) end ≡ fromCurve s (pinLoad l p) (table (i .node) (p .bin)) end
+      go (leaf x) e = unfold inputBest fromCurve in rw (le-leb 2 (getD symbols (i .node) 0) (omega arith), leaf-told (getD symbols (i .node) 0) x e)
+      go (inv s) e = unfold inputBest fromCurve in rw (lt-leb 2 (getD symbols (i .node) 0) (omega arith))
+      go (nand s t) e = unfold inputBest fromCurve in rw (lt-leb 2 (getD symbols (i .node) 0) (omega arith))
 
   module _ (pattern hit : List ℕ) (c : Cell) (stored : CellStored l pattern c) (load end : ℕ) where
     inputs-are : (k : ℕ) (is : List Input) → Listed hit k is → Pinned c is → Headed symbols is → inputsBest most symbols work pattern hit load end k (length is) ≡ bestInputs (fromTable l table) c load end is
     unfolding inputsBest bestInputs inputLate figuresOf
     inputs-are k [] w q h = refl
     inputs-are k (i ∷ is) w q h =
-        let p = feeds c i in
-        ap₂ both
-        (ap₂ (λ (pin : PinFigures) (n : ℕ). Option·map (late (delayOf pin load)) (inputBest most symbols work n (pin .bin) (pin .load) (end - delayOf pin load))) (figures-are stored i (q i (List·Memᴰ·head refl)) (w .0)) (w .1)
-        ∙ ap (λ (d : ℕ). Option·map (late d) (inputBest most symbols work (i .node) (p .bin) (pinLoad l p) (end - d))) (delay-is l c load i)
-        ∙ ap (Option·map (late (inputDelay c load i))) (input-is i p (end - inputDelay c load i) (h i (List·Memᴰ·head refl))))
-        (inputs-are (suc k) is (w .2) (λ j m. q j (List·Memᴰ·tail m)) (λ j m. h j (List·Memᴰ·tail m)))
+        let first : (getD hit (inputPlace k) 0 ≡ i .pin) × (getD hit (inputPlace k + 1) 0 ≡ i .node) = rw add-zero at (w 0 (omega arith)) in
+        let rest : Listed hit (suc k) is = λ j g. let f : suc k + j ≡ k + suc j = omega arith in rw f (w (suc j) (omega arith)) in
+        rw (figures-are stored i (q i (List·Memᴰ·head refl)) (first .0), first .1, delay-is l c load i, input-is i (feeds c i) (end - inputDelay c load i) (h i (List·Memᴰ·head refl)))
+        (ap (both _) (inputs-are (suc k) is rest (λ j m. q j (List·Memᴰ·tail m)) (λ j m. h j (List·Memᴰ·tail m))))
 
   pub hit-is-match : (pattern hit : List ℕ) (m : Match) (load end : ℕ) → CellStored l pattern (m .pattern .cell) → Holds hit m → Pinned (m .pattern .cell) (m .inputs) → Headed symbols (m .inputs) →
       hitBest most symbols work pattern hit load end ≡ bestMatch (fromTable l table) load end m
   unfolding hitBest bestMatch hitOf
   hit-is-match pattern hit m load end stored w q h =
-      ap₂ (λ (a n : ℕ). Option·map (raised a) (inputsBest most symbols work pattern hit load end 0 n)) (stored .area-is) (w 2 (omega arith))
-      ∙ ap (Option·map (raised (m .pattern .cell .area))) (inputs-are pattern hit (m .pattern .cell) stored load end 0 (m .inputs) (holds-lists hit m w) q h)
+      rw (stored .area-is, w 2 (omega arith), inputs-are pattern hit (m .pattern .cell) stored load end 0 (m .inputs) (holds-lists hit m w) q h)
 
 -- The matches one after another.
 best-more : (best : Pin → Input → ℕ → Option Point) (load end : ℕ) (xs ys : List Match) → bestOf best load end (xs ++ ys) ≡ lesser (bestOf best load end xs) (bestOf best load end ys)
 unfolding bestOf lesser
 best-more best load end [] ys = refl
-best-more best load end (m ∷ xs) ys =
-    ap (lesser (bestMatch best load end m)) (best-more best load end xs ys) ∙ sym (lesser-assoc (bestMatch best load end m) (bestOf best load end xs) (bestOf best load end ys))
+best-more best load end (m ∷ xs) ys = rw (best-more best load end xs ys) (sym (lesser-assoc (bestMatch best load end m) (bestOf best load end xs) (bestOf best load end ys)))
 
 -- A hit holds a match, whose pattern's row holds its cell.
 pub record Found (l : Library) (rows symbols hit : List ℕ) (m : Match) : Type 0 where
@@ -134,20 +110,14 @@ module _ (most : ℕ) (l : Library) (symbols work rows found : List ℕ) (load e
 
   one-hit : (j : ℕ) → j < length ms → let m = getD ms j d in legalBest most symbols work (patternOf rows (hitAt found j)) (hitAt found j) load end ≡ best (select allowed (m ∷ []))
   unfolding bestOf lesser select keepIf
-  one-hit j h = legal-hit (founds j h) most work load end ∙ go (allowed (getD ms j d))
-    where
-      go : (b : Bool) → cond b (bestMatch (fromTable l (tableOf most work)) load end (getD ms j d)) none ≡ best (keepIf b (getD ms j d) [])
-      go true = unfold bestOf in sym (lesser-none (bestMatch (fromTable l (tableOf most work)) load end (getD ms j d)))
-      go false = unfold bestOf in refl
+  one-hit j h = legal-hit (founds j h) most work load end ∙ cases (allowed (getD ms j d)) (λ f. rw f (sym (lesser-none _))) (λ f. rw f)
 
   hits-so-far : (n : ℕ) → n ≤ length ms → hitsBest most symbols work rows found load end n ≡ best (select allowed (take n ms))
   unfolding hitsBest bestOf select
   hits-so-far zero h = refl
   hits-so-far (suc n) h =
-      let m = getD ms n d in
-      ap₂ lesser (hits-so-far n (omega arith)) (one-hit n h)
-      ∙ sym (best-more (fromTable l (tableOf most work)) load end (select allowed (take n ms)) (select allowed (m ∷ [])))
-      ∙ ap best (sym (ap (select allowed) (take-suc ms n d h) ∙ select-append allowed (take n ms) (m ∷ [])))
+      rw (take-suc ms n d h, select-append allowed (take n ms) (getD ms n d ∷ []), best-more (fromTable l (tableOf most work)) load end (select allowed (take n ms)))
+      (ap₂ lesser (hits-so-far n (omega arith)) (one-hit n h))
 
   pub hits-are-best : hitsBest most symbols work rows found load end (length ms) ≡ best (select allowed ms)
   hits-are-best = hits-so-far (length ms) (omega arith) ∙ ap (λ (q : List Match). best (select allowed q)) (take-all (length ms) ms (omega arith))

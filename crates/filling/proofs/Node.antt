@@ -1,12 +1,12 @@
 -- One node of the decoded tree: what its symbol says, its hits, which are safe to read, and the least points and the curve read from the tables, which are those of its covers.
 use mathlib.Core.Path.{_≡_, refl, sym, ap, subst, fun-ext, _∙_}
-use mathlib.Core.Logic.{_⊎_, inl, inr, ⊎-elim}
-use mathlib.Core.Bool.{Bool, true, false, cond}
+use mathlib.Core.Bool.{true, false}
 use mathlib.Core.List.{List, [], map, List·Memᴰ}
-use mathlib.Core.Option.{Option, none, some, Option·none-ne-some}
+use mathlib.Core.Option.{Option, some, Option·none-ne-some}
 use Prim.Native.Nat.{ℕ, suc, _+_, _*_, _≤_, _<_}
 use native.Mathlib.Omega.{arith}
-use lib.ListN.{length, getD, take, drop}
+use lib.ListN.{length, getD, take}
+use borrow.Table.Steps.{cases}
 use Rattle.sheets_rules.specs.Model.{plainLeaf, Shape, leaf, inv, nand, size, leaves, Library, Tree, patterns}
 use Rattle.sheets_rules.specs.Inside.Layout.{tableFrom, rowWords}
 use Rattle.sheets_rules.specs.Inside.Sound.{SoundLibrary}
@@ -23,15 +23,14 @@ use Rattle.covers.proofs.Nodes.{nodeOf, fits-in, nodes-within, leaves-within}
 use Rattle.covers.proofs.Bounds.{numbered-cell, area-bound, arrive-before}
 use Rattle.covers.proofs.Relation.{covers-are}
 use Rattle.covers.proofs.Curve.{curve-found}
-use Rattle.covers.proofs.Deadline.{bestMatch}
 use Rattle.covers.proofs.Unroll.{gate-covers}
-use Rattle.covers.proofs.Filling.{fromTable, best-from-table, match-from-table}
+use Rattle.covers.proofs.Filling.{best-from-table, match-from-table}
 use Rattle.covers.proofs.FromSheets.{limited, binned}
 use Rattle.fields.proofs.Lists.{at-mem}
 use Rattle.overlay.specs.Inside.Standing.{Stands, Subject}
-use Rattle.cells.specs.Inside.Cell.{PinSafe, CellStored}
+use Rattle.cells.specs.Inside.Cell.{CellStored}
 use Rattle.cells.proofs.Laws.{figures-are, pin-safe}
-use Rattle.overlay.proofs.Patterns.{noInput, noPattern, patternAt, rows-long, row-stored}
+use Rattle.overlay.proofs.Patterns.{noInput, noPattern, rows-long, row-stored}
 use Rattle.overlay.proofs.Standing.{heads-everywhere, subject-everywhere}
 use Rattle.matching.specs.Inside.Found.{matchMost, matchBytes, inputPlace, hitOf}
 use Rattle.matching.specs.Inside.Promises.{Ready}
@@ -39,7 +38,7 @@ use Rattle.matching.proofs.Written.{length-hit, hit-pin, hit-node}
 use Rattle.matching.proofs.Patterns.{SoundMatch, fitting-sound, fitting-few, hit-read}
 use Rattle.sheets_rules.proofs.Tables.{length-table}
 use Rattle.curves.specs.Inside.Words.{tableOf, WorkArea}
-use Rattle.curves.specs.Inside.Best.{hitAt, patternOf, hitCount, InputSafe, HitKnown, Sources, Matches, Above, hitsBest}
+use Rattle.curves.specs.Inside.Best.{hitAt, patternOf, hitCount, InputSafe, Sources, Matches, Above, hitsBest}
 use Rattle.curves.specs.Inside.Promises.{matchBefore, Rising, bestBefore, nodePoints, PointsFit, Fit}
 use Rattle.curves.proofs.Laws.{part-word, point-order}
 use Rattle.leaves.proofs.Symbols.{symbols-small}
@@ -54,9 +53,7 @@ noMatch = record { number = 0; crossing = 0; pattern = record { cellNumber = 0; 
 cover-area : {l : Library} {load n : ℕ} {s : Shape} {c : Cover} → SoundLibrary l → IsCover l load n s c → 0 < gates s → 1 ≤ c .point .area
 unfolding gates topped raised
 cover-area sound (bare e) g = absurd (omega arith)
-cover-area {l} sound (matching {d = r} m f k e) g =
-    let some-area = sound .cells (m .pattern .cell) (numbered-cell l (m .number) (f .numbered)) .some-area in
-    omega (arith, ap (λ (z : Cover). z .point .area) e)
+cover-area {l} sound (matching m f k e) g = omega (arith, sound .cells (m .pattern .cell) (numbered-cell l (m .number) (f .numbered)) .some-area, ap (λ (z : Cover). z .point .area) e)
 
 module _ {l : Library} {t : Tree} {rows ss zs : List ℕ} {n room : ℕ} {s : Shape} (g : Ready l t rows ss zs n room s) where
   pub here : Subject ss zs n s
@@ -70,20 +67,17 @@ module _ {l : Library} {t : Tree} {rows ss zs : List ℕ} {n room : ℕ} {s : Sh
   sources w = record { symbols-length = here .symbols-long; symbols-small = symbols-small ss (t .shape) (g .decoded .symbols-are) (g .decoded .tree .leaves); curves = w }
 
   -- What stands at the node.
-  leaf-or-gate : ((gates s ≡ 0) × (2 ≤ getD ss n 0)) ⊎ ((0 < gates s) × (getD ss n 0 < 2))
+  leaf-or-gate : (q : Shape) → Stands ss zs n q → (2 ≤ getD ss n 0 → gates q ≡ 0) × (getD ss n 0 < 2 → 0 < gates q)
   unfolding gates
-  leaf-or-gate = go s (here .stands)
-    where
-      go : (q : Shape) → Stands ss zs n q → ((gates q ≡ 0) × (2 ≤ getD ss n 0)) ⊎ ((0 < gates q) × (getD ss n 0 < 2))
-      go (leaf x) h = inl (refl, omega (arith, h .0))
-      go (inv a) h = inr (omega arith, omega (arith, h .0))
-      go (nand a b) h = inr (omega arith, omega (arith, h .0))
+  leaf-or-gate (leaf x) h = (λ k. refl, λ k. omega (arith, h .0))
+  leaf-or-gate (inv a) h = (λ k. omega (arith, h .0), λ k. omega arith)
+  leaf-or-gate (nand a b) h = (λ k. omega (arith, h .0), λ k. omega arith)
 
   pub leaf-here : 2 ≤ getD ss n 0 → gates s ≡ 0
-  leaf-here h = ⊎-elim (λ q. q .0) (λ q. absurd (omega (arith, q .1))) leaf-or-gate
+  leaf-here = leaf-or-gate s (here .stands) .0
 
   pub gate-here : getD ss n 0 < 2 → 0 < gates s
-  gate-here h = ⊎-elim (λ q. absurd (omega (arith, q .1))) (λ q. q .0) leaf-or-gate
+  gate-here = leaf-or-gate s (here .stands) .1
 
   sound-match : {m : Match} → List·Memᴰ m (fitting l n s) → SoundMatch l n s m
   sound-match = fitting-sound l n s (g .decoded .library)
@@ -117,9 +111,8 @@ module _ {l : Library} {t : Tree} {rows ss zs : List ℕ} {n : ℕ} {found₀ : 
 
   pub hit-holds : (j : ℕ) → j < count → Holds (hitAt found j) (matchAt j)
   hit-holds j h c k =
-      let few = sound-match g (match-in j h) .hit-few in
-      part-word matchBytes (matchBytes * j) found c (omega arith) ∙ ap (λ (q : List ℕ). getD q (matchBytes * j + c) 0) (f .table)
-      ∙ hit-read l n s sound found₀ (g .room-is) noMatch j c (omega (arith, f .many)) k
+      part-word matchBytes (matchBytes * j) found c (omega (arith, sound-match g (match-in j h) .hit-few))
+      ∙ rw (f .table) (hit-read l n s sound found₀ (g .room-is) noMatch j c (omega (arith, f .many)) k)
 
   -- The hit's pattern, and that pattern's row.
   number-is : (j : ℕ) → j < count → getD (hitAt found j) 0 0 ≡ matchAt j .number
@@ -131,11 +124,8 @@ module _ {l : Library} {t : Tree} {rows ss zs : List ℕ} {n : ℕ} {found₀ : 
 
   pub pattern-stored : (j : ℕ) → j < count → CellStored l (patternOf rows (hitAt found j)) (matchAt j .pattern .cell)
   pattern-stored j h =
-      let m = matchAt j in
-      let same : patternAt l (m .number) ≡ m .pattern = at-value (patterns l) (m .number) noPattern (sound-match g (match-in j h) .fitting-is .numbered) in
-      let stored = row-stored (g .decoded) (m .number) (number-small j h) rowWords refl .cell in
-      subst (λ p. CellStored l (patternOf rows (hitAt found j)) (p .cell)) same
-      (subst (λ k. CellStored l (take rowWords (drop (rowWords * k) rows)) (patternAt l (m .number) .cell)) (sym (number-is j h)) stored)
+      rw (number-is j h, ← at-value (patterns l) (matchAt j .number) noPattern (sound-match g (match-in j h) .fitting-is .numbered))
+      (row-stored (g .decoded) (matchAt j .number) (number-small j h) rowWords refl .cell)
 
   pub found-at : (j : ℕ) → j < count → Found l rows ss (hitAt found j) (matchAt j)
   found-at j h = record { holds = hit-holds j h; stored = pattern-stored j h; pinned = sound-match g (match-in j h) .pinned; headed = headed g (match-in j h) }
@@ -159,26 +149,18 @@ module _ {l : Library} {t : Tree} {rows ss zs : List ℕ} {n : ℕ} {found₀ : 
     input-node = hit-holds j h (inputPlace k + 1) (omega (arith, length-hit (matchAt j))) ∙ hit-node (matchAt j) k hk
 
     input-safe : InputSafe (patternOf rows (hitAt found j)) (hitAt found j) k
-    input-safe =
-        let sm = sound-match g (match-in j h) in
-        record {
-          pin = omega (arith, input-pin, sm .pinned inputAt input-in, sm .cell .few-pins);
-          node = rw input-node (place-of g (match-in j h) inputAt input-in .1);
-          figures = subst PinSafe (sym (figures-are (pattern-stored j h) inputAt (sm .pinned inputAt input-in) input-pin)) (pin-safe sound (sm .cell) inputAt);
-        }
-
-  hit-known : (j : ℕ) → j < count → HitKnown rows (hitAt found j)
-  hit-known j h =
-      let sm = sound-match g (match-in j h) in
-      let many = hit-many j h in
-      record {
-        known = omega (arith, number-is j h, number-small j h, rows-long (g .decoded));
-        safe = record { area = omega (arith, pattern-stored j h .area-is, sm .cell .area); few = omega (arith, many, sm .few); inputs = λ k below. input-safe j h k (omega arith) };
-      }
+    input-safe = let sm = sound-match g (match-in j h) in record {
+      pin = omega (arith, input-pin, sm .pinned inputAt input-in, sm .cell .few-pins);
+      node = rw input-node (place-of g (match-in j h) inputAt input-in .1);
+      figures = rw (figures-are (pattern-stored j h) inputAt (sm .pinned inputAt input-in) input-pin) (pin-safe sound (sm .cell) inputAt);
+    }
 
   pub hits-ready : {most : ℕ} {work : List ℕ} → WorkArea most work → Matches most rows found count ss work
   hits-ready w = record {
-    hits-known = hit-known;
+    hits-known = λ j h. let sm = sound-match g (match-in j h) in let many = hit-many j h in record {
+      known = omega (arith, number-is j h, number-small j h, rows-long (g .decoded));
+      safe = record { area = omega (arith, pattern-stored j h .area-is, sm .cell .area); few = omega (arith, many, sm .few); inputs = λ k below. input-safe j h k (omega arith) };
+    };
     room = omega (arith, f .many, fitting-few l n s, sound .few-patterns, ap length (f .table), length-table matchBytes found₀ 0 (map hitOf (fitting l n s)), g .room-is);
     sources = sources g w;
   }
@@ -188,9 +170,8 @@ module _ {l : Library} {t : Tree} {rows ss zs : List ℕ} {n : ℕ} {found₀ : 
 
   pub hits-above : Above (4 * n + 3) found count
   hits-above j h k below =
-      let m = matchAt j in
-      let inside : k < length (m .inputs) = omega (arith, hit-many j h) in
-      omega (arith, input-node j h k inside, place-of g (match-in j h) (getD (m .inputs) k noInput) (at-mem (m .inputs) k noInput inside) .0)
+      let inside : k < length (matchAt j .inputs) = omega (arith, hit-many j h) in
+      omega (arith, input-node j h k inside, place-of g (match-in j h) (inputAt j h k inside) (input-in j h k inside) .0)
 
   -- With the curves of all later nodes in the work area.
   module _ (most : ℕ) (work : List ℕ) (filled : Filled l (t .shape) (tableOf most work) (suc n)) (gate : 0 < gates s) (load : ℕ) (light : load ≤ 255) where
@@ -221,13 +202,11 @@ module _ {l : Library} {t : Tree} {rows ss zs : List ℕ} {n : ℕ} {found₀ : 
         match-legal = in-select (λ m. legal (m .pattern .cell) load) (fitting l n s) (match-in j h) allowed
 
         before-is : (end : ℕ) → matchBefore most ss work rows found load j end ≡ least end matchOnly
-        before-is end =
-            legal-hit (found-at j h) most work load end ∙ ap (λ (b : Bool). cond b (bestMatch (fromTable l (tableOf most work)) load end (matchAt j)) none) allowed
-            ∙ match-from-table l (binned sound) (t .shape) (tableOf most work) n s filled (g .here) load end match-legal
+        before-is end = legal-hit (found-at j h) most work load end ∙ rw allowed (match-from-table l (binned sound) (t .shape) (tableOf most work) n s filled (g .here) load end match-legal)
 
         among : (c : Cover) → In matchOnly c → In (covers l load n s) c
         unfolding gateCovers
-        among c k = subst (λ cs. In cs c) (sym (gate-covers l load n s gate)) (in-flatMap (matchCovers (allBelow l) load n) match-legal k)
+        among c k = rw (gate-covers l load n s gate) (in-flatMap (matchCovers (allBelow l) load n) match-legal k)
 
         least-fits : {end : ℕ} {p : Point} → IsLeast end (In matchOnly) p → Fit p
         least-fits f = subst Fit (f .point) (cover-fits (f .cover) (among (f .cover) (f .among)))
@@ -243,14 +222,10 @@ module _ {l : Library} {t : Tree} {rows ss zs : List ℕ} {n : ℕ} {found₀ : 
         }
 
       match-rises : Rising most ss work rows found load j
-      match-rises = go (legal (matchAt j .pattern .cell) load) refl
-        where
-          go : (b : Bool) → legal (matchAt j .pattern .cell) load ≡ b → Rising most ss work rows found load j
-          go true e = legal-rises e
-          go false e =
-              let never : (end : ℕ) (p : Point) → matchBefore most ss work rows found load j end ≡ some p → ⊥ =
-              λ end p q. Option·none-ne-some p (sym (legal-hit (found-at j h) most work load end ∙ ap (λ (b : Bool). cond b (bestMatch (fromTable l (tableOf most work)) load end (matchAt j)) none) e) ∙ q) in
-              record { intime = λ end p q. absurd (never end p q); small = λ end p q. absurd (never end p q); rises = λ end end′ less p q. absurd (never end p q) }
+      match-rises = cases (legal (matchAt j .pattern .cell) load) legal-rises (λ e.
+          let never : (end : ℕ) (p : Point) → matchBefore most ss work rows found load j end ≡ some p → ⊥ =
+          λ end p q. Option·none-ne-some p (rw (legal-hit (found-at j h) most work load end, e) at q) in
+          record { intime = λ end p q. absurd (never end p q); small = λ end p q. absurd (never end p q); rises = λ end end′ less p q. absurd (never end p q) })
 
     pub points-fit : PointsFit most ss work rows found load count
     points-fit = record {

@@ -1,6 +1,6 @@
 -- Every node in turn: what is filled so far, and what the counts of a node say of it.
 use mathlib.Core.Path.{_≡_, refl, sym, ap, subst, _∙_}
-use mathlib.Core.Logic.{_⊎_, inl, inr, ⊎-elim}
+use mathlib.Core.Logic.{_⊎_, ⊎-elim}
 use mathlib.Core.Bool.{Bool, true, false, false≢true}
 use mathlib.Core.List.{List, [], _∷_, List·Memᴰ, List·Memᴰ·head, List·Memᴰ·tail, List·Memᴰ·not-nil, List·Memᴰ·eq-of-singleton}
 use mathlib.Core.Option.{Option, none, some}
@@ -12,7 +12,7 @@ use lib.ListN.{length, getD, length-take, length-reverse}
 use borrow.Author.Tests.{lt-ltb, le-ltb}
 use Rattle.sheets_rules.specs.declared.Bins.{Bins}
 use Rattle.sheets_rules.specs.declared.TreeRecord.{TreeRecord}
-use Rattle.sheets_rules.specs.Model.{Leaf, Shape, leaf, inv, nand, size, Library, Tree}
+use Rattle.sheets_rules.specs.Model.{Shape, leaf, inv, nand, size, Library, Tree}
 use Rattle.sheets_rules.specs.Inside.Layout.{libraryLaid, treeLaid}
 use Rattle.covers.specs.Enumeration.{covers}
 use Rattle.covers.specs.Tradeoff.{Node, nodes, tradeoffs, tradeoffsOf, points, considered, overfull, overfullNode}
@@ -42,8 +42,11 @@ index-of (y ∷ l) (List·Memᴰ·head e) = (0, omega arith, sym e)
 index-of (y ∷ l) (List·Memᴰ·tail m) = let r = index-of l m in (suc (r .0), omega (arith, r .1), r .2)
 
 -- A leaf has one trade-off.
-leaf-few : (l : Library) (load n : ℕ) (x : Leaf) → length (tradeoffs l load n (leaf x)) ≤ 1
-leaf-few l load n x = omega (arith, ap length (leaf-tradeoffs l load n x))
+leaf-few : (l : Library) (load n : ℕ) (q : Shape) → gates q ≡ 0 → length (tradeoffs l load n q) ≤ 1
+unfolding gates
+leaf-few l load n (leaf x) h = omega (arith, ap length (leaf-tradeoffs l load n x))
+leaf-few l load n (inv a) h = omega arith
+leaf-few l load n (nand a b) h = omega arith
 
 -- ---- what a node's counts say
 
@@ -66,10 +69,9 @@ module _ {l : Library} {t : Tree} {s : Shape} {turn : Turn} {work work′ : List
 
   is-overfull : Exceeds turn true r → overfull (turn .most) l t node ≡ true
   unfolding overfull
-  is-overfull (b, h, more) = ⊎-elim gate (λ z. absurd (omega (arith, d .none (omega arith) b))) (lt-or-le 0 (gates s))
-    where
-      gate : 0 < gates s → overfull (turn .most) l t node ≡ true
-      gate g = true-any test (considered l t (turn .node) s) (are .some g b h) (lt-ltb (turn .most) (length (tradeoffs l (loadAt turn b) (turn .node) s)) (omega (arith, counted-is g b h)))
+  is-overfull (b, h, more) = ⊎-elim
+      (λ g. true-any test (considered l t (turn .node) s) (are .some g b h) (lt-ltb (turn .most) (length (tradeoffs l (loadAt turn b) (turn .node) s)) (omega (arith, counted-is g b h))))
+      (λ z. absurd (omega (arith, d .none (omega arith) b))) (lt-or-le 0 (gates s))
 
   curve-few : Exceeds turn false r → 0 < gates s → (b : ℕ) → b < turn .bins .count → length (curveUnder l s turn b) ≤ turn .most
   unfolding tradeoffs curve
@@ -77,12 +79,9 @@ module _ {l : Library} {t : Tree} {s : Shape} {turn : Turn} {work work′ : List
 
   not-overfull : Exceeds turn false r → overfull (turn .most) l t node ≡ false
   unfolding overfull
-  not-overfull few = false-any test (considered l t (turn .node) s) (λ x m. le-ltb (turn .most) (length (tradeoffs l x (turn .node) s)) (fewer x m))
-    where
-      fewer : (x : ℕ) → List·Memᴰ x (considered l t (turn .node) s) → length (tradeoffs l x (turn .node) s) ≤ turn .most
-      fewer x m =
-          ⊎-elim (λ g. let q = are .all g x m in subst (λ (y : ℕ). length (tradeoffs l y (turn .node) s) ≤ turn .most) (q .2) (omega (arith, counted-is g (q .0) (q .1), few (q .0) (q .1))))
-          (λ z. are .leaf (omega arith) x m) (lt-or-le 0 (gates s))
+  not-overfull few = false-any test (considered l t (turn .node) s) (λ x m. le-ltb (turn .most) (length (tradeoffs l x (turn .node) s)) (⊎-elim
+      (λ g. let q = are .all g x m in rw (← q .2) (omega (arith, counted-is g (q .0) (q .1), few (q .0) (q .1))))
+      (λ z. are .leaf (omega arith) x m) (lt-or-le 0 (gates s))))
 
 -- ---- what is filled so far
 
@@ -100,11 +99,10 @@ module _ {l : Library} {t : Tree} {s : Shape} {turn : Turn} {work work′ : List
   named more = highest-unique (overfull-named (turn .most) l t) (record { node = record { number = turn .node; shape = s }; among = here; number = refl; passes = is-overfull are d more; above = λ y m h. p .fewer y m (omega arith) })
 
   fewer-from : Exceeds turn false r → (x : Node) → List·Memᴰ x (nodes 0 (t .shape)) → turn .node ≤ x .number → overfull (turn .most) l t x ≡ false
-  fewer-from few x m k = go (lt-or-le (turn .node) (x .number))
-    where
-      go : (turn .node < x .number) ⊎ (x .number ≤ turn .node) → overfull (turn .most) l t x ≡ false
-      go (inl h) = p .fewer x m (omega arith)
-      go (inr h) = let e : x ≡ record { number = turn .node; shape = s } = ascending-unique (nodes-ascend 0 (t .shape)) m here (omega arith) in rw e (not-overfull are d few)
+  fewer-from few x m k = ⊎-elim
+      (λ h. p .fewer x m (omega arith))
+      (λ h. let e : x ≡ record { number = turn .node; shape = s } = ascending-unique (nodes-ascend 0 (t .shape)) m here (omega arith) in rw e (not-overfull are d few))
+      (lt-or-le (turn .node) (x .number))
 
   kept : (k b : ℕ) → turn .node < k → tableOf (turn .most) work′ k b ≡ tableOf (turn .most) work k b
   kept k b h = ap stored (d .agree (4 * k + b) (omega arith))
@@ -172,13 +170,8 @@ module _ {l : Library} {t : Tree} {rows : List ℕ} {bins : Bins} {tree : TreeRe
   root-loads s = record {
     some = λ h b k. let e : b ≡ 0 = omega arith in rw (e, load-is) (List·Memᴰ·head refl);
     all = λ h x m. (0, omega arith, load-is ∙ sym (List·Memᴰ·eq-of-singleton m));
-    leaf = λ h x m. only s h x;
+    leaf = λ h x m. omega (arith, leaf-few l x 0 s h, g .some-most);
   }
-    where
-      only : (q : Shape) → gates q ≡ 0 → (x : ℕ) → length (tradeoffs l x 0 q) ≤ most
-      only (leaf z) h x = omega (arith, leaf-few l x 0 z, g .some-most)
-      only (inv a) h x = absurd (omega arith)
-      only (nand a b) h x = absurd (omega arith)
 
   -- What is lent at each node.
   module _ {found work : List ℕ} (ef : length found ≡ length found₀) (ew : length work ≡ length work₀) where
@@ -192,7 +185,7 @@ module _ {l : Library} {t : Tree} {rows : List ℕ} {bins : Bins} {tree : TreeRe
             few-bins = few;
             light = light;
             curves = record { bounded = g .bounded; room = omega (arith, ew, g .work-length); small = p .small };
-            filled = subst (Filled l (t .shape) (tableOf most work)) (add-one n) (p .filled);
+            filled = rw add-one at (p .filled);
             zero = p .zero;
           },
         )
@@ -210,14 +203,13 @@ module _ {l : Library} {t : Tree} {rows : List ℕ} {bins : Bins} {tree : TreeRe
           (Exceeds (below bins most n) true r → overfullNode most l t ≡ some n) × (Exceeds (below bins most n) false r → Progress most l t n work′)
       turn-below (suc n) k h p done =
           let x = ready-below (suc n) h p in
-          let s = x .0 in
           let here = x .1 .ready .here in
-          let d = done s (x .1) in
-          let are = below-loads n s in (
+          let d = done (x .0) (x .1) in
+          let are = below-loads n (x .0) in (
             named are here p d,
             λ none. record {
-              filled = filled-next l (t .shape) (tableOf most work) (tableOf most work′) (suc n) s (x .1 .filled) here (kept are here p d)
-                  (λ q b m. let i : b < bins .count = omega (arith, bins-is) in d .stored q b i (curve-few are d none q b i) ∙ ap (λ (y : ℕ). curve (covers l y (suc n) s)) (bins-at b i));
+              filled = filled-next l (t .shape) (tableOf most work) (tableOf most work′) (suc n) (x .0) (x .1 .filled) here (kept are here p d)
+                  (λ q b m. let i : b < bins .count = omega (arith, bins-is) in d .stored q b i (curve-few are d none q b i) ∙ rw (bins-at b i));
               zero = d .zero;
               small = d .small;
               fewer = fewer-from are here p d none;
@@ -229,18 +221,16 @@ module _ {l : Library} {t : Tree} {rows : List ℕ} {bins : Bins} {tree : TreeRe
           (Exceeds (atRoot tree most) true r → overfullNode most l t ≡ some 0) × (Exceeds (atRoot tree most) false r → (overfullNode most l t ≡ none) × CurvesStored most l t work′)
       turn-root p done =
           let x = ready-root p in
-          let s = x .0 in
           let here = x .1 .ready .here in
-          let d = done s (x .1) in
-          let are = root-loads s in
-          let e : s ≡ t .shape = ap {A = Node} (λ y. y .shape) (ascending-unique (nodes-ascend 0 (t .shape)) here (root-in 0 (t .shape)) refl) in (
+          let d = done (x .0) (x .1) in
+          let are = root-loads (x .0) in
+          let e : x .0 ≡ t .shape = ap {A = Node} (λ y. y .shape) (ascending-unique (nodes-ascend 0 (t .shape)) here (root-in 0 (t .shape)) refl) in (
             named are here p d,
             λ few. (
               none-named (overfull-named most l t) (λ y m. fewer-from are here p d few y m (omega arith)),
               record {
                 below = λ y m k q b i. kept are here p d (y .number) b k ∙ p .filled y m k q b i;
-                root = λ q. let q′ = subst (λ (y : Shape). 0 < gates y) (sym e) q in
-                    d .stored q′ 0 (omega arith) (curve-few are d few q′ 0 (omega arith)) ∙ ap (λ (y : Shape). curve (covers l (tree .load) 0 y)) e ∙ ap (λ (y : ℕ). curve (covers l y 0 (t .shape))) load-is;
+                root = λ q. let q′ = rw (← e) at q in d .stored q′ 0 (omega arith) (curve-few are d few q′ 0 (omega arith)) ∙ rw (e, load-is);
                 small = d .small;
               },
             ),

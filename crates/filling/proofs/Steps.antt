@@ -1,20 +1,20 @@
 -- One curve more of a node, from the last load down.
-use mathlib.Core.Path.{_≡_, refl, sym, ap, subst, fun-ext, _∙_}
+use mathlib.Core.Path.{_≡_, refl, sym, ap, fun-ext, _∙_}
 use mathlib.Core.List.{List, map}
 use mathlib.Core.Option.{Option}
-use mathlib.Core.Logic.{_⊎_, inl, inr}
+use mathlib.Core.Logic.{⊎-elim}
 use Prim.Native.Nat.{ℕ, _+_, _-_, _*_, _≤_, _<_}
 use native.Mathlib.Nat.{eq-or-lt-of-le}
 use native.Mathlib.Omega.{arith}
 use lib.ListN.{length, getD, take, set, length-map, length-take, length-set}
-use lib.Seq.{sets, getD-set-same, getD-set-other, take-all}
+use lib.Seq.{sets, take-all}
 use Rattle.covers.specs.Cover.{Point}
 use Rattle.covers.specs.Inside.Curve.{base, byDeadline, wordOf}
 use Rattle.curves.specs.Inside.Words.{curveAt, tableOf, stored, AgreeFrom, ZeroBelow, WorkArea}
 use Rattle.curves.specs.Inside.Best.{hitsBest, Matches}
 use Rattle.curves.specs.Inside.Promises.{bestBefore, nodePoints, PointsFit, CurveStored}
 use Rattle.curves.proofs.Laws.{slot-within, matches-in}
-use Rattle.curves.proofs.Frames.{curve-other, curve-laid, hits-same, rising-same, deadline-all, deadline-few}
+use Rattle.curves.proofs.Frames.{set-each, curve-other, curve-laid, hits-same, rising-same, deadline-all, deadline-few}
 use Rattle.filling.specs.declared.Turn.{Turn}
 use Rattle.filling.specs.Inside.Promises.{loadAt, firstCurve, nextCurve, pointsUnder, NodeReady, NodeFilled}
 
@@ -88,26 +88,15 @@ module _ {symbols work₀ rows found : List ℕ} {count : ℕ} {turn : Turn} (re
         zero = λ j l k. ap (λ (q : List ℕ). getD q k 0) (others j (λ e. absurd (omega arith))) ∙ d .zero j (omega arith) k;
         agree = λ j l. others j (λ e. absurd (omega (arith, ready .few-bins))) ∙ d .agree j l;
         many = length-set points b r ∙ d .many;
-        counted = λ i l m. counts i (eq-or-lt-of-le l) m (c .counted ∙ ap length (same-points d b));
-        stored-are = λ i l m. curve-is i (eq-or-lt-of-le l) m laid others;
+        counted = λ i l m. set-each (λ j x. x ≡ length (wanted j)) points b r (omega (arith, d .many, ready .few-bins)) (c .counted ∙ ap length (same-points d b)) i (λ n. d .counted i (omega arith) m);
+        stored-are = λ i l m few. ⊎-elim
+            (λ e.
+            rw (← e, laid, take-all most (wanted b) (rw (← e) at few))
+            (curve-laid most work at (wanted b) (d .zero at (omega arith)) (rw (← e) at few) (slot-within (d .curves) at (omega (arith, ready .node, ready .few-bins)) .1)
+            (deadline-all (most + 1) (bestBefore most symbols work₀ rows found (loadAt turn b) count) base (ready .fit b hb .fit))))
+            (λ n. ap stored (others (firstCurve turn + i) (λ e. absurd (omega arith))) ∙ d .stored-are i (omega arith) m few)
+            (eq-or-lt-of-le l);
       }
-    where
-      counts : (i : ℕ) → (b ≡ i) ⊎ (b < i) → i < turn .bins .count → r ≡ length (wanted b) → getD (set points b r) i 0 ≡ length (wanted i)
-      counts i (inl e) m q =
-          subst (λ (j : ℕ). getD (set points b r) j 0 ≡ length (wanted j)) e
-          (getD-set-same points b r 0 (omega (arith, d .many, ready .few-bins)) ∙ q)
-      counts i (inr l) m q = getD-set-other points b i r 0 (λ e. absurd (omega arith)) ∙ d .counted i (omega arith) m
-
-      curve-is : (i : ℕ) → (b ≡ i) ⊎ (b < i) → i < turn .bins .count → work′ ≡ sets work ((most + 1) * (firstCurve turn + b)) (map wordOf (take most (wanted b))) →
-          ((j : ℕ) → (j ≡ firstCurve turn + b → ⊥) → curveAt most work′ j ≡ curveAt most work j) → length (wanted i) ≤ most → tableOf most work′ (turn .node) i ≡ wanted i
-      curve-is i (inl e) m laid others =
-          subst (λ (j : ℕ). length (wanted j) ≤ most → tableOf most work′ (turn .node) j ≡ wanted j) e
-          (λ few.
-          let at = firstCurve turn + b in
-          ap (λ (q : List ℕ). tableOf most q (turn .node) b) (laid ∙ ap (λ (q : List Point). sets work ((most + 1) * at) (map wordOf q)) (take-all most (wanted b) few))
-          ∙ curve-laid most work at (wanted b) (d .zero at (omega arith)) few (slot-within (d .curves) at (omega (arith, ready .node, ready .few-bins)) .1)
-          (deadline-all (most + 1) (bestBefore most symbols work₀ rows found (loadAt turn b) count) base (ready .fit b hb .fit)))
-      curve-is i (inr l) m laid others = λ few. ap stored (others (firstCurve turn + i) (λ e. absurd (omega arith))) ∙ d .stored-are i (omega arith) m few
 
   pub done-all : {work points : List ℕ} → DoneTo 0 work points → NodeFilled symbols work₀ rows found count turn work (record { points = points })
   done-all d = record {

@@ -7,6 +7,7 @@ use sheets_rules::LibraryJudged;
 use sheets_rules::LibraryRecord;
 use sheets_rules::Limits;
 use sheets_rules::PatternRow;
+use sheets_rules::Slots;
 ghost use mathlib.Core.Path.{_≡_};
 ghost use Prim.Native.Nat.{_≤_, _<_};
 ghost use lib.ListN.{length, take};
@@ -36,7 +37,7 @@ impl Lanes {
 }
 
 // Each pin in the 64 settings of six pins.
-const COLUMNS: [u64; 6] = [
+const COLUMNS: [u64; Slots::PINS] = [
     0x5555_5555_5555_5555,
     0x3333_3333_3333_3333,
     0x0f0f_0f0f_0f0f_0f0f,

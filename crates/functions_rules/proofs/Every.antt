@@ -5,6 +5,7 @@ use mathlib.Core.Logic.{⊎-elim}
 use mathlib.Core.Bool.{Bool, true, false, _&&_, false≢true}
 use native.Mathlib.Nat.{eq-or-lt-of-le}
 use native.Mathlib.Omega.{arith}
+use borrow.Table.Steps.{cases}
 use Rattle.functions_rules.specs.Function.{every}
 
 -- What passes passes at each, and the other way round.
@@ -28,8 +29,4 @@ each-every (suc n) t h = rw (each-every n t (λ k g. h k (omega arith))) (h n (o
 pub every-some : (n : ℕ) (t : ℕ → Bool) → every n t ≡ false → (k : ℕ) × (k < n) × (t k ≡ false)
 unfolding every
 every-some zero t e = absurd (false≢true (sym e))
-every-some (suc n) t e = go (every n t) refl (every-some n t)
-  where
-    go : (b : Bool) → every n t ≡ b → (every n t ≡ false → (k : ℕ) × (k < n) × (t k ≡ false)) → (k : ℕ) × (k < suc n) × (t k ≡ false)
-    go true h below = (n, omega arith, sym (ap (λ (b : Bool). b && t n) h) ∙ e)
-    go false h below = let r = below h in (r .0, omega (arith, r .1), r .2)
+every-some (suc n) t e = cases (every n t) (λ h. (n, omega arith, rw h at e)) (λ h. let r = every-some n t h in (r .0, omega (arith, r .1), r .2))

@@ -2,12 +2,13 @@
 use Prim.Native.Nat.{ℕ, zero, suc, _+_, _*_, _≤_, _<_}
 use mathlib.Core.Path.{_≡_, refl, sym, ap, subst, _∙_}
 use mathlib.Core.Logic.{⊎-elim}
-use mathlib.Core.Bool.{Bool, true, false, cond}
+use mathlib.Core.Bool.{true, false}
 use mathlib.Core.List.{List}
 use native.Mathlib.Nat.{eq-or-lt-of-le}
 use native.Mathlib.Omega.{arith}
 use lib.ListN.{length, getD}
 use lib.Dec.{leb}
+use borrow.Table.Steps.{cases}
 use borrow.Author.Tests.{leb-true, leb-false}
 use Rattle.bits.specs.Bits.{valueAt, cursorAt, fieldAt, bytesTo, endsAt}
 use Rattle.bits.specs.declared.Cursor.{Cursor}
@@ -47,14 +48,11 @@ module _ (fs pins : List ℕ) where
   stood-next : (n : ℕ) (q : Scan) → Stood n q → Stood (suc n) (field fs (settings (getD pins n 0)) free q .1)
   unfolding firstBit
   stood-next n q (torn m h a b) = torn m (omega arith) a b
-  stood-next n q (whole h) = go (leb (firstBit pins n + w) all) refl
-    where
-      w : ℕ
-      w = settings (getD pins n 0)
-
-      go : (b : Bool) → leb (firstBit pins n + w) all ≡ b → Stood (suc n) (field fs w free (At (cursorAt (firstBit pins n))) .1)
-      go true e = let g = leb-true (firstBit pins n + w) all e in subst (λ (x : ℕ × Scan). Stood (suc n) (x .1)) (sym (field-whole (firstBit pins n) w g)) (whole g)
-      go false e = let g = leb-false (firstBit pins n + w) all e in subst (λ (x : ℕ × Scan). Stood (suc n) (x .1)) (sym (field-torn (firstBit pins n) w g)) (torn n (omega arith) h g)
+  stood-next n q (whole h) =
+      let w = settings (getD pins n 0) in
+      cases (leb (firstBit pins n + w) all)
+      (λ e. let g = leb-true (firstBit pins n + w) all e in rw (field-whole (firstBit pins n) w g) (whole g))
+      (λ e. let g = leb-false (firstBit pins n + w) all e in rw (field-torn (firstBit pins n) w g) (torn n (omega arith) h g))
 
   stood : (n : ℕ) → Stood n (fieldsTo fs pins start n .1)
   unfolding times firstBit
@@ -64,11 +62,9 @@ module _ (fs pins : List ℕ) where
   -- The fields that are there are those of the bytes.
   pub values-are : (n k : ℕ) → k < n → firstBit pins (suc k) ≤ all → getD (fieldsTo fs pins start n .0) k 0 ≡ valueAt fs (firstBit pins k) (settings (getD pins k 0))
   unfolding firstBit
-  values-are = each-field fs pins start (λ k v. firstBit pins (suc k) ≤ all → v ≡ valueAt fs (firstBit pins k) (settings (getD pins k 0))) (λ n h. go n (fieldsTo fs pins start n .1) (stood n) h)
-    where
-      go : (n : ℕ) (q : Scan) → Stood n q → firstBit pins (suc n) ≤ all → field fs (settings (getD pins n 0)) free q .0 ≡ valueAt fs (firstBit pins n) (settings (getD pins n 0))
-      go n q (whole g) h = ap (λ (x : ℕ × Scan). x .0) (field-whole (firstBit pins n) (settings (getD pins n 0)) h)
-      go n q (torn m g a b) h = absurd (omega (arith, first-mono (suc m) (suc n) (omega arith)))
+  values-are = each-field fs pins start (λ k v. firstBit pins (suc k) ≤ all → v ≡ valueAt fs (firstBit pins k) (settings (getD pins k 0)))
+      (λ n. let w = settings (getD pins n 0) in elim (stood n) as (λ q x. firstBit pins (suc n) ≤ all → field fs w free q .0 ≡ valueAt fs (firstBit pins n) w)
+      [ whole g ↦ λ h. rw (field-whole (firstBit pins n) w h) | torn m g a b ↦ λ h. absurd (omega (arith, first-mono (suc m) (suc n) (omega arith))) ])
 
   -- How reading of the whole sheet ends.
   abbrev pub last : ℕ
@@ -81,15 +77,11 @@ module _ (fs pins : List ℕ) where
 
   pub ends : Ends (functionSheet fs pins start .1)
   unfolding functionSheet
-  ends = go (fieldsTo fs pins start (length pins) .1) (stood (length pins))
-    where
-      split : last ≤ all → (b : Bool) → endsAt fs last ≡ b → Ends (cond b (At (cursorAt last)) (Refused Tail last))
-      split h true e = sound-at (cursorAt last) e
-      split h false e = tail-at h e
-
-      go : (q : Scan) → Stood (length pins) q → Ends (ended fs q)
-      go q (torn m h a b) = torn-at m h a b
-      go q (whole h) = subst (λ (i : ℕ). Ends (cond (endsAt fs i) (At (cursorAt last)) (Refused Tail i))) (sym (place-at last)) (split h (endsAt fs last) refl)
+  ends = elim (stood (length pins)) as (λ q x. Ends (ended fs q)) [
+    | torn m h a b ↦ torn-at m h a b
+    | whole h ↦
+        rw (place-at last) (cases (endsAt fs last) (λ e. rw e (sound-at (cursorAt last) e)) (λ e. rw e (tail-at h e)))
+  ]
 
   -- Bytes that end after the last field have all fields.
   pub ends-whole : endsAt fs last ≡ true → last ≤ all

@@ -45,8 +45,7 @@ module _ (s pins : List ℕ) (c : Scan) where
       let xs = fieldsTo n .0 in
       let long = length-times n (function s pins) c in
       ⊎-elim
-      (λ e. subst (λ (v : ℕ). P k v) (sym (getD-at xs _ [] 0 k (long ∙ sym e)))
-      (subst (λ (j : ℕ). P j (function s pins xs (fieldsTo n .1) .0)) (sym e) (subst (λ (x : ℕ × Scan). P n (x .0)) (sym (function-next n)) (h n))))
+      (λ e. subst (λ (v : ℕ). P k v) (sym (getD-at xs _ [] 0 k (long ∙ sym e))) (rw (e, function-next n) (h n)))
       (λ less. subst (λ (v : ℕ). P k v) (sym (List·getD-append xs _ 0 k (omega arith))) (each-field P h n k less))
       (eq-or-lt-of-le (omega arith))
 

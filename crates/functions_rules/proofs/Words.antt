@@ -1,7 +1,7 @@
 -- Bits of fields: a field is known by its bits, and what the operations on words do to them.
 use Prim.Native.Nat.{ℕ, zero, suc, _+_, _-_, _/_, _%_, _^_, _≤_, _<_, min}
 use mathlib.Core.Path.{_≡_, sym, ap, _∙_}
-use mathlib.Core.Logic.{_⊎_, ⊎-elim}
+use mathlib.Core.Logic.{⊎-elim}
 use mathlib.Core.List.{List}
 use native.Mathlib.Nat.{pow-suc, eq-or-lt-of-le, zero-add, add-zero}
 use native.Mathlib.Omega.{arith}
@@ -19,10 +19,6 @@ bit-last n a = let e : suc n - (n + 1) ≡ 0 = omega arith in ap (λ (j : ℕ). 
 bit-half : (n a k : ℕ) → k < n → bitOf (suc n) a k ≡ bitOf n (a / 2) k
 unfolding bitOf
 bit-half n a k h = let e : suc n - (k + 1) ≡ 1 + (n - (k + 1)) = omega arith in ap (λ (j : ℕ). a / 2 ^ j % 2) e ∙ ap (λ (x : ℕ). x % 2) (sym (shr-shr a 1 (n - (k + 1))))
-
--- A position is the last or before it.
-last? : (k n : ℕ) → k < suc n → (k ≡ n) ⊎ (k < n)
-last? k n h = eq-or-lt-of-le (omega arith)
 
 -- Fields with the same bits are the same.
 pub bits-same : (n a b : ℕ) → a < 2 ^ n → b < 2 ^ n → ((k : ℕ) → k < n → bitOf n a k ≡ bitOf n b k) → a ≡ b
@@ -50,7 +46,7 @@ bit-not (suc n) a k ha h =
     ⊎-elim
     (λ e. omega (arith, ap (bitOf (suc n) x) e ∙ bit-last n x, ap (bitOf (suc n) a) e ∙ bit-last n a))
     (λ g. bit-half n x k g ∙ ap (λ (y : ℕ). bitOf n y k) half ∙ bit-not n (a / 2) k (omega arith) g ∙ ap (λ (b : ℕ). 1 - b) (sym (bit-half n a k g)))
-    (last? k n h)
+    (eq-or-lt-of-le (omega arith))
 
 -- The bits that are set in both.
 pub bit-and : (n a b k : ℕ) → bitOf n (bitAnd a b) k ≡ min (bitOf n a k) (bitOf n b k)

@@ -1,22 +1,20 @@
 -- The judge's answers meet the demands, from the bytes of the three sheets; and a word says its answer.
-use Prim.Native.Nat.{ℕ, suc, _+_, _*_, _/_, _%_, _^_, _≤_}
-use mathlib.Core.Path.{_≡_, refl, sym, ap, ap₂, subst, _∙_}
+use Prim.Native.Nat.{ℕ, _+_, _*_, _/_, _%_, _^_}
+use mathlib.Core.Path.{_≡_, refl, sym, ap, subst, _∙_}
 use mathlib.Core.Logic.{_⊎_}
-use mathlib.Core.Bool.{Bool, true, false, false≢true, _&&_, cond}
+use mathlib.Core.Bool.{false≢true}
 use mathlib.Core.List.{List, _∷_}
-use mathlib.Core.Option.{none}
 use native.Mathlib.Omega.{arith}
-use lib.Dec.{leb}
 use lib.ListN.{take, drop, take-append-drop, length-drop}
 use lib.Seq.{length-take-le}
-use borrow.Author.Tests.{lt-ltb, le-ltb, leb-true}
-use Rattle.bits.specs.declared.Cursor.{Cursor}
+use borrow.Table.Steps.{cases}
+use borrow.Author.Tests.{lt-ltb, le-ltb}
 use Rattle.fields.specs.declared.Fault.{Fault}
 use Rattle.fields.specs.declared.Scan.{Scan}
 use Rattle.fields.specs.declared.Scan.the-variants.{At, Refused}
 use Rattle.fields.specs.Reading.{Live, start}
 use Rattle.fields.specs.Answer.{Answer, refused, refusedIn, success, _>>=_, places, numbers}
-use Rattle.fields.proofs.Answer.{after-success}
+use Rattle.fields.proofs.Answer.{answer-cases, after-success}
 use Rattle.sheets_rules.specs.Model.{Library, Tree}
 use Rattle.sheets_rules.specs.Report.{librarySaid, treeSaid}
 use Rattle.sheets_rules.proofs.Sound.{library-sound, tree-sound}
@@ -64,26 +62,15 @@ judged : (cs : List ℕ) (l : Library) (t : Tree) → Judged cs l t (coverJudged
 unfolding coverJudged figures
 judged cs l t = read (coverRead cs start) refl
   where
-    figured : (c : Cover) → CoverReads c cs → (a : Answer Point) → walk l 0 (c .placed) (started t) ≡ a → Judged cs l t (figures (c .point) a)
-    figured c h (refusedIn i n k) e = unfold figures in let r = walk-refused l 0 (c .placed) (started t) e in rw (r .item-is, r .number-is) (unlisted c h none)
-      where
-        none : (d : Cover) → Listing l t (c .placed) d → ⊥
-        none d m = answer-none (sym e ∙ listing-walked l t d m)
-    figured c h (success p) e = unfold figures in go (same p (c .point)) refl
-      where
-        legal : RootCover l t (record { point = p; placed = c .placed })
-        legal = walk-legal l t (c .placed) p .0 e
-
-        go : (b : Bool) → same p (c .point) ≡ b → Judged cs l t (cond b (success p) (refused figuresNumber 0))
-        go true f = let e = same-true p (c .point) f in subst (λ (q : Point). Judged cs l t (success q)) (sym e) (true-figures c h (subst (λ (q : Point). RootCover l t (record { point = q; placed = c .placed })) e legal))
-        go false f = other c (record { point = p; placed = c .placed }) h (legal, refl) (λ e. false≢true (sym f ∙ ap (λ (q : Point). same q (c .point)) e ∙ same-refl (c .point)))
-
     read : (r : Cover × Scan) → coverRead cs start ≡ r → Judged cs l t (coverJudged r l t)
-    read (c, At q) e = unfold coverJudged in figured c (Sheet.reads-whole cs c q e) (walk l 0 (c .placed) (started t)) refl
-    read (c, Refused f k) e = unfold coverJudged in unread (λ d h. clash (sym e ∙ h .reads))
-      where
-        clash : {d : Cover} {q : Cursor} → _≡_ {A = Cover × Scan} (c, Refused f k) (d, At q) → ⊥
-        clash e = subst Live (sym (ap (λ (r : Cover × Scan). r .1) e)) tt
+    read (c, Refused f k) e = unfold coverJudged in unread (λ d h. subst Live (ap (λ (r : Cover × Scan). r .1) (sym (h .reads) ∙ e)) tt)
+    read (c, At q) e = unfold coverJudged figures in
+        let h = Sheet.reads-whole cs c q e in
+        answer-cases (walk l 0 (c .placed) (started t))
+        (λ i n k e. let r = walk-refused l 0 (c .placed) (started t) e in rw (e, r .item-is, r .number-is) (unlisted c h (λ d m. answer-none (sym e ∙ listing-walked l t d m))))
+        (λ p e. let legal = walk-legal l t (c .placed) p .0 e in cases (same p (c .point))
+        (λ f. let s = same-true p (c .point) f in rw (e, f, s) (true-figures c h (rw s at legal)))
+        (λ f. rw (e, f) (other c (record { point = p; placed = c .placed }) h (legal, refl) (λ s. false≢true (sym f ∙ ap (λ (q : Point). same q (c .point)) s ∙ same-refl (c .point))))))
 
 -- ---- the demands
 
@@ -135,16 +122,10 @@ module _ (ls ts cs : List ℕ) (l : Library) (t : Tree) (sheets : (ds : List ℕ
   read-judged {ds = ds} h = sheets ds ∙ ap (λ (r : Cover × Scan). coverJudged r l t) (h .reads)
 
   stopped : {c : Cover} {k : ℕ} → CoverReads c cs → judgement ls ts cs ≡ refused matchNumber k → walked l t (c .placed) ≡ refused matchNumber k
-  unfolding figures
-  stopped {c} {k} h e = go (walked l t (c .placed)) (sym (read-judged h) ∙ e)
-    where
-      go : (a : Answer Point) → figures (c .point) a ≡ refused matchNumber k → a ≡ refused matchNumber k
-      go (refusedIn j n i) e = unfold figures in e
-      go (success p) e = unfold figures in figured (same p (c .point)) e
-        where
-          figured : (b : Bool) → cond b (success p) (refused figuresNumber 0) ≡ refused matchNumber k → success p ≡ refused matchNumber k
-          figured true e = e
-          figured false e = unfold number in absurd (omega (arith, ap number e))
+  unfolding figures number
+  stopped {c} {k} h e =
+      let g : figures (c .point) (walked l t (c .placed)) ≡ refused matchNumber k = sym (read-judged h) ∙ e in
+      answer-cases (walked l t (c .placed)) (λ i n j f. f ∙ (rw f at g)) (λ p f. cases (same p (c .point)) (λ s. f ∙ (rw (f, s) at g)) (λ s. absurd (omega (arith, ap number (rw (f, s) at g)))))
 
   unread-said : {f : Fault} {p : ℕ} → coverRead cs start .1 ≡ Refused f p → judgement ls ts cs ≡ refused sheetNumber p
   unfolding coverJudged
@@ -155,14 +136,10 @@ module _ (ls ts cs : List ℕ) (l : Library) (t : Tree) (sheets : (ds : List ℕ
   stops-at {c} h e = read-judged h ∙ ap (figures (c .point)) e
 
   unread-at : {k : ℕ} → SaidExactly cs l t (judgement ls ts cs) → judgement ls ts cs ≡ refused sheetNumber k → Torn cs k ⊎ BadTail cs k
-  unread-at {k} said e = go (coverRead cs start .1) refl
-    where
-      go : (q : Scan) → coverRead cs start .1 ≡ q → Torn cs k ⊎ BadTail cs k
-      go (At q) g = absurd (said .sheet-exactly .0 (k, e) (coverRead cs start .0) (Sheet.reads-whole cs (coverRead cs start .0) q (ap (λ (r : Scan). (coverRead cs start .0, r)) g)))
-      go (Refused f p) g =
-          let there : refused sheetNumber p ≡ refused sheetNumber k = sym (unread-said g) ∙ e in
-          let same : p ≡ k = cc in
-          refused-place cs (g ∙ ap (Refused f) same)
+  unread-at {k} said e = (elim (coverRead cs start .1) as (λ q. coverRead cs start .1 ≡ q → Torn cs k ⊎ BadTail cs k) [
+    | At q ↦ λ g. absurd (said .sheet-exactly .0 (k, e) (coverRead cs start .0) (Sheet.reads-whole cs (coverRead cs start .0) q (ap (λ (r : Scan). (coverRead cs start .0, r)) g)))
+    | Refused f p ↦ λ g. let there : refused sheetNumber p ≡ refused sheetNumber k = sym (unread-said g) ∙ e in let same : p ≡ k = cc in refused-place cs (g ∙ ap (Refused f) same)
+  ]) refl
 
   said-where : SaidExactly cs l t (judgement ls ts cs) → SaidWhere ls ts cs l t (judgement ls ts cs)
   said-where said = record {
@@ -188,6 +165,6 @@ judge-demands ls ts cs l t e e′ =
       );
       from-map = λ output work h.
           let enough = map-lent ls ts output work h in
-          let best = map-demands ls ts output work l t (enough .0) (enough .1) e e′ .sheet-is cs h in
+          let best = map-demands ls ts output work (enough .0) l t (enough .1) e e′ .sheet-is cs h in
           (best .0, best .2, best .3, said .accepted-exactly (best .0 .point) .1 (best .0, best .2, best .3 .best .legal, refl));
     }

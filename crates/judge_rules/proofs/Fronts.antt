@@ -2,7 +2,6 @@
 use Prim.Native.Nat.{ℕ, suc, _+_, _≤_, _<_}
 use mathlib.Core.Path.{_≡_, refl, sym, ap, subst, _∙_}
 use mathlib.Core.List.{List, [], _∷_, _++_, append-nil}
-use mathlib.Core.Option.{Option, none, some}
 use native.Mathlib.Nat.{add-zero, zero-add}
 use native.Mathlib.Omega.{arith}
 use lib.ListN.{length, take, drop, take-append-drop}
@@ -11,9 +10,9 @@ use Rattle.fields.specs.Answer.{Answer, refused, refusedIn, success}
 use Rattle.sheets_rules.specs.Model.{Library, Tree}
 use Rattle.covers.specs.Cover.{Point, Placed, Cover}
 use Rattle.covers.specs.Promise.{RootCover}
-use Rattle.judge_rules.specs.Walk.{Uncovered, Walk, matchNumber, started, step, listEnded, onward, walk}
+use Rattle.judge_rules.specs.Walk.{Walk, matchNumber, started, step, listEnded, onward, walk}
 use Rattle.judge_rules.specs.Demands.{Listing}
-use Rattle.judge_rules.proofs.Order.{step-past}
+use Rattle.covers.proofs.Basics.{option-cases}
 use Rattle.judge_rules.proofs.Walking.{answer-none, walk-legal}
 
 -- A walk's refusal is 23, at a position of the list or at its end.
@@ -23,18 +22,16 @@ pub record WalkRefused (k : ℕ) (xs : List Placed) (item number place : ℕ) : 
   pub place-from : k ≤ place
   pub place-in : place ≤ k + length xs
 
+refused-here : {k : ℕ} {xs : List Placed} {item number place : ℕ} → _≡_ {A = Answer Point} (refused matchNumber k) (refusedIn item number place) → WalkRefused k xs item number place
+refused-here {k} {place = place} e = let same : place ≡ k = sym (cc) in record { item-is = sym (cc); number-is = sym (cc); place-from = omega arith; place-in = omega arith }
+
 pub walk-refused : (l : Library) (k : ℕ) (xs : List Placed) (w : Walk) {item number place : ℕ} → walk l k xs w ≡ refusedIn item number place → WalkRefused k xs item number place
-unfolding walk
-walk-refused l k [] w {item} {number} {place} e = go (w .left) e
-  where
-    go : (os : List Uncovered) → listEnded k os (w .point) ≡ refusedIn item number place → WalkRefused k [] item number place
-    go [] e = unfold listEnded in absurd (answer-none (sym e))
-    go (o ∷ os) e = unfold listEnded in let same : place ≡ k = sym (cc) in record { item-is = sym (cc); number-is = sym (cc); place-from = omega arith; place-in = omega arith }
-walk-refused l k (x ∷ xs) w {item} {number} {place} e = go (step l w x) e (λ v. walk-refused l (suc k) xs v)
-  where
-    go : (o : Option Walk) → onward k (walk l (suc k) xs) o ≡ refusedIn item number place → ((v : Walk) → walk l (suc k) xs v ≡ refusedIn item number place → WalkRefused (suc k) xs item number place) → WalkRefused k (x ∷ xs) item number place
-    go none e later = unfold onward in let same : place ≡ k = sym (cc) in record { item-is = sym (cc); number-is = sym (cc); place-from = omega arith; place-in = omega arith }
-    go (some v) e later = unfold onward in let r = later v e in record { item-is = r .item-is; number-is = r .number-is; place-from = omega (arith, r .place-from); place-in = omega (arith, r .place-in) }
+unfolding walk listEnded onward
+walk-refused l k [] w {item} {number} {place} e = (elim (w .left) as (λ os. listEnded k os (w .point) ≡ refusedIn item number place → WalkRefused k [] item number place)
+    [ [] ↦ λ e. absurd (answer-none (sym e)) | o ∷ os ↦ λ e. refused-here e ]) e
+walk-refused l k (x ∷ xs) w e = option-cases (step l w x) (λ f. refused-here (rw f at e)) (λ v f.
+    let r = walk-refused l (suc k) xs v (rw f at e) in
+    record { item-is = r .item-is; number-is = r .number-is; place-from = omega (arith, r .place-from); place-in = omega (arith, r .place-in) })
 
 -- How a walk goes over the front of a list: a match there is wrong, whatever follows, or what follows is walked from where the front has come.
 data Front (l : Library) (k : ℕ) (xs : List Placed) (w : Walk) : Type 0 where
@@ -44,36 +41,24 @@ data Front (l : Library) (k : ℕ) (xs : List Placed) (w : Walk) : Type 0 where
 front : (l : Library) (k : ℕ) (xs : List Placed) (w : Walk) → Front l k xs w
 unfolding walk onward
 front l k [] w = reaches w (λ ys. ap (λ (n : ℕ). walk l n ys w) (sym (add-zero k)))
-front l k (x ∷ xs) w = go (step l w x) refl (λ v. front l (suc k) xs v)
-  where
-    shift : (n : ℕ) → suc k + n ≡ k + suc n
-    shift n = omega arith
-
-    go : (o : Option Walk) → step l w x ≡ o → ((v : Walk) → Front l (suc k) xs v) → Front l k (x ∷ xs) w
-    go none e later = unfold walk onward in stops 0 (omega arith) (λ ys. ap (onward k (walk l (suc k) (xs ++ ys))) e ∙ ap (refused matchNumber) (sym (add-zero k)))
-    go (some v) e later = more (later v)
-      where
-        more : Front l (suc k) xs v → Front l k (x ∷ xs) w
-        more (stops i h f) = unfold walk onward in stops (suc i) (omega arith) (λ ys. ap (onward k (walk l (suc k) (xs ++ ys))) e ∙ f ys ∙ ap (refused matchNumber) (shift i))
-        more (reaches u f) = unfold walk onward in reaches u (λ ys. ap (onward k (walk l (suc k) (xs ++ ys))) e ∙ f ys ∙ ap (λ (n : ℕ). walk l n ys u) (shift (length xs)))
+front l k (x ∷ xs) w =
+    let shift : (n : ℕ) → suc k + n ≡ k + suc n = λ n. omega arith in
+    option-cases (step l w x) (λ e. stops 0 (omega arith) (λ ys. rw e (ap (refused matchNumber) (sym (add-zero k))))) (λ v e. elim (front l (suc k) xs v) [
+      | stops i h f ↦ stops (suc i) (omega arith) (λ ys. rw e (f ys ∙ ap (refused matchNumber) (shift i)))
+      | reaches u f ↦ reaches u (λ ys. rw e (f ys ∙ ap (λ (n : ℕ). walk l n ys u) (shift (length xs))))
+    ])
 
 -- Where a walk can end it cannot go on, and where it can go on it cannot end.
 end-late : (l : Library) (n : ℕ) (ys : List Placed) (v : Walk) {p : Point} → walk l n [] v ≡ success p → 0 < length ys → walk l n ys v ≡ refused matchNumber n
 unfolding walk listEnded onward
 end-late l n [] v e h = absurd (omega arith)
-end-late l n (y ∷ ys) v {p} e h = go (v .left) e
-  where
-    go : (os : List Uncovered) → listEnded n os (v .point) ≡ success p → onward n (walk l (suc n) ys) (step l (record { left = os; point = v .point }) y) ≡ refused matchNumber n
-    go [] e = unfold onward in ap (onward n (walk l (suc n) ys)) (step-past l (v .point) y)
-    go (o ∷ os) e = unfold listEnded in absurd (answer-none e)
+end-late l n (y ∷ ys) v {p} e h = (elim (v .left) as (λ os. listEnded n os (v .point) ≡ success p → onward n (walk l (suc n) ys) (step l (record { left = os; point = v .point }) y) ≡ refused matchNumber n)
+    [ [] ↦ λ e. refl | o ∷ os ↦ λ e. absurd (answer-none e) ]) e
 
 end-early : (l : Library) (n : ℕ) (ys : List Placed) (v : Walk) {p : Point} → walk l n ys v ≡ success p → 0 < length ys → walk l n [] v ≡ refused matchNumber n
 unfolding walk listEnded
-end-early l n ys v {p} e h = go (v .left) e
-  where
-    go : (os : List Uncovered) → walk l n ys (record { left = os; point = v .point }) ≡ success p → listEnded n os (v .point) ≡ refused matchNumber n
-    go [] e = absurd (answer-none (sym (end-late l n ys (record { left = []; point = v .point }) (unfold walk listEnded in refl) h) ∙ e))
-    go (o ∷ os) e = unfold listEnded in refl
+end-early l n ys v {p} e h = (elim (v .left) as (λ os. walk l n ys (record { left = os; point = v .point }) ≡ success p → listEnded n os (v .point) ≡ refused matchNumber n)
+    [ [] ↦ λ e. absurd (answer-none (sym (end-late l n ys (record { left = []; point = v .point }) refl h) ∙ e)) | o ∷ os ↦ λ e. refl ]) e
 
 module _ (l : Library) (t : Tree) where
   abbrev pub walked : List Placed → Answer Point
@@ -84,28 +69,22 @@ module _ (l : Library) (t : Tree) where
   listing-walked {xs} d m = walk-legal l t xs (d .point) .1 (subst (RootCover l t) (λ i. record { point = d .point; placed = m .1 i }) (m .0))
 
   pub walked-late : (xs ys : List Placed) {p : Point} → walked xs ≡ success p → 0 < length ys → walked (xs ++ ys) ≡ refused matchNumber (length xs)
-  walked-late xs ys {p} e h = go (front l 0 xs (started t))
-    where
-      ended : walked (xs ++ []) ≡ success p
-      ended = ap walked (append-nil xs) ∙ e
-
-      go : Front l 0 xs (started t) → walked (xs ++ ys) ≡ refused matchNumber (length xs)
-      go (stops i g f) = absurd (answer-none (sym (f []) ∙ ended))
-      go (reaches v f) = f ys ∙ end-late l (0 + length xs) ys v (sym (f []) ∙ ended) h ∙ ap (refused matchNumber) (zero-add (length xs))
+  walked-late xs ys {p} e h =
+      let ended : walked (xs ++ []) ≡ success p = ap walked (append-nil xs) ∙ e in
+      elim (front l 0 xs (started t)) [
+        | stops i g f ↦ absurd (answer-none (sym (f []) ∙ ended))
+        | reaches v f ↦ f ys ∙ end-late l (0 + length xs) ys v (sym (f []) ∙ ended) h ∙ ap (refused matchNumber) (zero-add (length xs))
+      ]
 
   pub walked-early : (xs ys : List Placed) {p : Point} → walked (xs ++ ys) ≡ success p → 0 < length ys → walked xs ≡ refused matchNumber (length xs)
-  walked-early xs ys {p} e h = go (front l 0 xs (started t))
-    where
-      go : Front l 0 xs (started t) → walked xs ≡ refused matchNumber (length xs)
-      go (stops i g f) = absurd (answer-none (sym (f ys) ∙ e))
-      go (reaches v f) = ap walked (sym (append-nil xs)) ∙ f [] ∙ end-early l (0 + length xs) ys v (sym (f ys) ∙ e) h ∙ ap (refused matchNumber) (zero-add (length xs))
+  walked-early xs ys e h = elim (front l 0 xs (started t)) [
+    | stops i g f ↦ absurd (answer-none (sym (f ys) ∙ e))
+    | reaches v f ↦ ap walked (sym (append-nil xs)) ∙ f [] ∙ end-early l (0 + length xs) ys v (sym (f ys) ∙ e) h ∙ ap (refused matchNumber) (zero-add (length xs))
+  ]
 
   walked-front : (xs ys zs : List Placed) {k : ℕ} → walked (xs ++ ys) ≡ refused matchNumber k → k < length xs → walked (xs ++ zs) ≡ refused matchNumber k
-  walked-front xs ys zs {k} e h = go (front l 0 xs (started t))
-    where
-      go : Front l 0 xs (started t) → walked (xs ++ zs) ≡ refused matchNumber k
-      go (stops i g f) = f zs ∙ sym (f ys) ∙ e
-      go (reaches v f) = absurd (omega (arith, walk-refused l (0 + length xs) ys v (sym (f ys) ∙ e) .place-from))
+  walked-front xs ys zs e h = elim (front l 0 xs (started t))
+      [ stops i g f ↦ f zs ∙ sym (f ys) ∙ e | reaches v f ↦ absurd (omega (arith, walk-refused l (0 + length xs) ys v (sym (f ys) ∙ e) .place-from)) ]
 
   -- Two lists that begin alike, up to position k.
   pub walked-alike : (xs zs : List Placed) (k : ℕ) → walked xs ≡ refused matchNumber k → k < length xs → take (suc k) xs ≡ take (suc k) zs → walked zs ≡ refused matchNumber k

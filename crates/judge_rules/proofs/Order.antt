@@ -1,26 +1,31 @@
 -- What is still to be covered stands in order: so the lowest is the first, and one step of a walk is known.
 use Prim.Native.Nat.{ℕ, _+_, _≤_, _<_}
-use mathlib.Core.Path.{_≡_, refl, sym, ap, subst, _∙_}
-use mathlib.Core.Logic.{_⊎_, ⊎-elim, _≢_}
-use mathlib.Core.Bool.{Bool, true, false, not, _&&_, cond, false≢true}
+use mathlib.Core.Path.{_≡_, refl, sym, ap}
+use mathlib.Core.Logic.{_≢_}
+use mathlib.Core.Bool.{Bool, true, false, not}
 use mathlib.Core.List.{List, [], _∷_, List·Memᴰ, List·Memᴰ·head, List·Memᴰ·tail}
-use mathlib.Core.Option.{Option, none, some, Option·map, Option·none-ne-some, Option·some-injective}
+use mathlib.Core.Option.{Option, none, some, Option·none-ne-some, map-eq-some-iff}
 use native.Mathlib.Nat.{le-refl}
 use native.Mathlib.Omega.{arith}
 use lib.ListN.{getElem?, length}
 use lib.Dec.{eqb, ltb}
-use borrow.Author.Tests.{eq-eqb, ne-eqb, eqb-true, eqb-false, le-ltb, lt-ltb}
-use Rattle.sheets_rules.specs.Model.{Shape, leaf, inv, nand, size, Cell, Library, Pattern, patterns}
+use borrow.Table.Steps.{cases}
+use borrow.Author.Tests.{ltb-false, eq-eqb, ne-eqb, eqb-true, eqb-false, le-ltb}
+use Rattle.sheets_rules.specs.Model.{Shape, leaf, inv, nand, size, Cell, Library, patterns}
 use Rattle.covers.specs.Lists.{any, keepIf, select, firstSuch}
 use Rattle.covers.specs.Crossing.{redrawn, isCrossing}
 use Rattle.covers.specs.Match.{Input, Match, matched, legal, pinLoad, IsMatch}
 use Rattle.covers.specs.Cover.{Point, Placed, raised, feeds, inputDelay}
 use Rattle.covers.specs.Inside.Curve.{gates}
-use Rattle.covers.proofs.Basics.{each, FirstOf, nowhere, somewhere, first-of, lt-or-le}
+use Rattle.covers.proofs.Basics.{option-cases, each, any-false, false-any}
 use Rattle.covers.proofs.Matching.{Spread, size-pos}
 use Rattle.covers.proofs.Matching as matching
 use Rattle.judge_rules.specs.Inside.Order.{Apart, last, next}
 use Rattle.judge_rules.specs.Walk.{Uncovered, Walk, visited, inputsVisited, lowestAt, others, matchAt, matchTaken, placedAt, step}
+
+-- ---- cases
+
+-- ---- what is still to be covered
 
 pub apart-from : {low low′ high : ℕ} {os : List Uncovered} → low′ ≤ low → Apart low high os → Apart low′ high os
 apart-from {low′} {high} h (last k) = last {low = low′} {high = high} (omega arith)
@@ -49,32 +54,22 @@ inputs-apart l c load delay (i ∷ is) w (matching.next a b s) r = visit-apart (
 
 module _ {A : Type 0} (test : A → Bool) where
   first-none : (xs : List A) → ((x : A) → List·Memᴰ x xs → test x ≡ false) → firstSuch test xs ≡ none
-  first-none xs h = go (first-of test xs)
-    where
-      go : {o : Option A} → FirstOf test xs o → o ≡ none
-      go (nowhere a) = refl
-      go (somewhere {x = x} m e) = absurd (false≢true (sym (h x m) ∙ e))
+  unfolding firstSuch
+  first-none [] h = refl
+  first-none (x ∷ xs) h = rw (h x (List·Memᴰ·head refl)) (first-none xs (λ y m. h y (List·Memᴰ·tail m)))
 
   select-all : (xs : List A) → ((x : A) → List·Memᴰ x xs → test x ≡ true) → select test xs ≡ xs
   unfolding select keepIf
   select-all [] h = refl
   select-all (x ∷ xs) h = rw (h x (List·Memᴰ·head refl)) (ap (λ r. x ∷ r) (select-all xs (λ y m. h y (List·Memᴰ·tail m))))
 
-  any-none : (xs : List A) → ((x : A) → List·Memᴰ x xs → test x ≡ false) → any test xs ≡ false
-  unfolding any
-  any-none [] h = refl
-  any-none (x ∷ xs) h = rw (h x (List·Memᴰ·head refl)) (any-none xs (λ y m. h y (List·Memᴰ·tail m)))
+-- All others are higher than the first.
+higher : {low high : ℕ} {o : Uncovered} {os : List Uncovered} → Apart low high (o ∷ os) → (q : Uncovered) → List·Memᴰ q os → o .node < q .node
+higher (next {o = o} a g s) q m = omega (arith, apart-above s m, size-pos (o .shape))
 
 module _ {low high : ℕ} {o : Uncovered} {os : List Uncovered} (r : Apart low high (o ∷ os)) where
-  -- All others are higher than the first.
-  higher : (q : Uncovered) → List·Memᴰ q os → o .node < q .node
-  higher q m = go r
-    where
-      go : Apart low high (o ∷ os) → o .node < q .node
-      go (next a g s) = omega (arith, apart-above s m, size-pos (o .shape))
-
   none-lower : any (λ q. ltb (q .node) (o .node)) (o ∷ os) ≡ false
-  none-lower = any-none (λ q. ltb (q .node) (o .node)) (o ∷ os) (each {P = λ q. ltb (q .node) (o .node) ≡ false} (le-ltb (o .node) (o .node) (le-refl (o .node))) (λ q m. le-ltb (q .node) (o .node) (let h = higher q m in omega arith)))
+  none-lower = false-any (λ q. ltb (q .node) (o .node)) (o ∷ os) (each {P = λ q. ltb (q .node) (o .node) ≡ false} (le-ltb (o .node) (o .node) (le-refl (o .node))) (λ q m. le-ltb (q .node) (o .node) (let h = higher r q m in omega arith)))
 
   pub lowest-first : lowestAt (o .node) (o ∷ os) ≡ some o
   unfolding lowestAt firstSuch
@@ -82,23 +77,13 @@ module _ {low high : ℕ} {o : Uncovered} {os : List Uncovered} (r : Apart low h
 
   pub others-first : others (o .node) (o ∷ os) ≡ os
   unfolding others select keepIf
-  others-first = rw (eq-eqb (o .node) (o .node) refl) (select-all (λ q. not (eqb (q .node) (o .node))) os (λ q m. ap not (ne-eqb (q .node) (o .node) (λ e. let h = higher q m in omega arith))))
+  others-first = rw (eq-eqb (o .node) (o .node) refl) (select-all (λ q. not (eqb (q .node) (o .node))) os (λ q m. ap not (ne-eqb (q .node) (o .node) (λ e. let h = higher r q m in omega arith))))
 
   pub lowest-other : {n : ℕ} → n ≢ o .node → lowestAt n (o ∷ os) ≡ none
   unfolding lowestAt
-  lowest-other {n} d = ⊎-elim low-one high-one (lt-or-le (o .node) n)
-    where
-      low-one : o .node < n → cond (any (λ q. ltb (q .node) n) (o ∷ os)) none (firstSuch (λ q. eqb (q .node) n) (o ∷ os)) ≡ none
-      low-one h = unfold any in rw (lt-ltb (o .node) n h)
-
-      always : (b : Bool) → _≡_ {A = Option Uncovered} (cond b none none) none
-      always true = refl
-      always false = refl
-
-      high-one : n ≤ o .node → cond (any (λ q. ltb (q .node) n) (o ∷ os)) none (firstSuch (λ q. eqb (q .node) n) (o ∷ os)) ≡ none
-      high-one h =
-          rw (first-none (λ q. eqb (q .node) n) (o ∷ os) (each {P = λ q. eqb (q .node) n ≡ false} (ne-eqb (o .node) n (λ e. d (sym e))) (λ q m. ne-eqb (q .node) n (λ e. let k = higher q m in omega arith))))
-          (always (any (λ q. ltb (q .node) n) (o ∷ os)))
+  lowest-other {n} d = cases (any (λ q. ltb (q .node) n) (o ∷ os)) (λ e. rw e) (λ e.
+      let low = ltb-false (o .node) n (any-false (λ q. ltb (q .node) n) (o ∷ os) e o (List·Memᴰ·head refl)) in
+      rw (e, first-none (λ q. eqb (q .node) n) (o ∷ os) (each {P = λ q. eqb (q .node) n ≡ false} (ne-eqb (o .node) n (λ e. d (sym e))) (λ q m. ne-eqb (q .node) n (λ e. let k = higher r q m in omega arith)))))
 
 -- ---- one match
 
@@ -110,21 +95,12 @@ pub record Named (l : Library) (k x : ℕ) (o : Uncovered) (m : Match) : Type 0 
 
 pub matched-is : (l : Library) (k x : ℕ) (o : Uncovered) {m : Match} → matchAt k x o (getElem? (patterns l) k) ≡ some m → Named l k x o m
 unfolding matchAt
-matched-is l k x o {m} e = go (getElem? (patterns l) k) refl e
-  where
-    made : Pattern → List Input → Match
-    made p is = record { number = k; crossing = x; pattern = p; inputs = is }
-
-    fit : (p : Pattern) → getElem? (patterns l) k ≡ some p → (b c : Bool) → legal (p .cell) (o .load) ≡ b → isCrossing (p .drawing) x ≡ c → (r : Option (List Input)) → matched (redrawn x (p .drawing)) (o .node) (o .shape) ≡ r → cond (b && c) (Option·map (made p) r) none ≡ some m → Named l k x o m
-    fit p f true true g j none h e = absurd (Option·none-ne-some m e)
-    fit p f true true g j (some is) h e =
-        subst (Named l k x o) (Option·some-injective (made p is) m e) record { legal-match = record { numbered = f; crossed = j; allowed = g; fits = h }; number-is = refl; crossing-is = refl }
-    fit p f true false g j r h e = absurd (Option·none-ne-some m e)
-    fit p f false c g j r h e = absurd (Option·none-ne-some m e)
-
-    go : (q : Option Pattern) → getElem? (patterns l) k ≡ q → matchAt k x o q ≡ some m → Named l k x o m
-    go none f e = unfold matchAt in absurd (Option·none-ne-some m e)
-    go (some p) f e = unfold matchAt in fit p f (legal (p .cell) (o .load)) (isCrossing (p .drawing) x) refl refl (matched (redrawn x (p .drawing)) (o .node) (o .shape)) refl e
+matched-is l k x o {m} e =
+    option-cases (getElem? (patterns l) k) (λ f. absurd (Option·none-ne-some m (rw f at e))) (λ p f. cases (legal (p .cell) (o .load)) (λ g. cases (isCrossing (p .drawing) x) (λ j.
+    let made : List Input → Match = λ is. record { number = k; crossing = x; pattern = p; inputs = is } in
+    let (is, h, same) = map-eq-some-iff made (matched (redrawn x (p .drawing)) (o .node) (o .shape)) .0 (rw (f, g, j) at e) in
+    rw (← same) record { legal-match = record { numbered = f; crossed = j; allowed = g; fits = h }; number-is = refl; crossing-is = refl })
+    (λ j. absurd (Option·none-ne-some m (rw (f, g, j) at e)))) (λ g. absurd (Option·none-ne-some m (rw (f, g) at e))))
 
 pub match-found : (l : Library) {k x : ℕ} (o : Uncovered) {m : Match} → Named l k x o m → matchAt k x o (getElem? (patterns l) k) ≡ some m
 unfolding matchAt
@@ -162,15 +138,10 @@ pub data StepIs (l : Library) (o : Uncovered) (os : List Uncovered) (p : Point) 
   right : (m : Match) → Named l (x .pattern) (x .crossing) o m → x .node ≡ o .node → StepIs l o os p x (some (after l o os p m))
 
 pub step-is : (l : Library) {low high : ℕ} {o : Uncovered} {os : List Uncovered} → Apart low high (o ∷ os) → (p : Point) (x : Placed) → StepIs l o os p x (step l (record { left = o ∷ os; point = p }) x)
-step-is l {o = o} {os} r p x = node (eqb (x .node) (o .node)) refl
-  where
-    pattern : (q : Option Match) → there l r p x ≡ q → x .node ≡ o .node → StepIs l o os p x (step l (record { left = o ∷ os; point = p }) x)
-    pattern none f e = subst (StepIs l o os p x) (sym (step-none l r p x e f)) wrong
-    pattern (some m) f e = subst (StepIs l o os p x) (sym (step-some l r p x e f)) (right m (matched-is l (x .pattern) (x .crossing) o f) e)
-
-    node : (b : Bool) → eqb (x .node) (o .node) ≡ b → StepIs l o os p x (step l (record { left = o ∷ os; point = p }) x)
-    node true e = pattern (there l r p x) refl (eqb-true (x .node) (o .node) e)
-    node false e = subst (StepIs l o os p x) (sym (step-elsewhere l r p x (eqb-false (x .node) (o .node) e))) wrong
+step-is l {o = o} {os} r p x = cases (eqb (x .node) (o .node))
+    (λ e. let n = eqb-true (x .node) (o .node) e in option-cases (there l r p x)
+    (λ f. rw (step-none l r p x n f) wrong) (λ m f. rw (step-some l r p x n f) (right m (matched-is l (x .pattern) (x .crossing) o f) n)))
+    (λ e. rw (step-elsewhere l r p x (eqb-false (x .node) (o .node) e)) wrong)
 
 -- With nothing left to cover every match stands wrongly.
 pub step-past : (l : Library) (p : Point) (x : Placed) → step l (record { left = []; point = p }) x ≡ none

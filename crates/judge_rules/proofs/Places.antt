@@ -2,12 +2,13 @@
 use Prim.Native.Nat.{ℕ, zero, suc, _+_, _*_, _≤_, _<_}
 use mathlib.Core.Path.{_≡_, refl, sym, ap, subst, _∙_}
 use mathlib.Core.Logic.{_⊎_, inl, inr, ⊎-elim}
-use mathlib.Core.Bool.{Bool, true, false, cond}
+use mathlib.Core.Bool.{Bool, cond}
 use mathlib.Core.List.{List, [], _∷_, _++_}
 use native.Mathlib.Nat.{add-zero, add-assoc}
 use native.Mathlib.Decide.{decLt}
 use native.Mathlib.Omega.{arith}
 use lib.ListN.{length}
+use borrow.Table.Steps.{cases}
 use Rattle.bits.specs.Bits.{valueAt, cursorAt, fieldAt, endsAt}
 use Rattle.bits.proofs.Laws.{place-at}
 use Rattle.bits.proofs.Words.{found, none}
@@ -79,18 +80,15 @@ module _ (cs : List ℕ) where
   -- The count is the number in its bits, or does not count.
   count-over : over (matchWidths (counted .0)) (counted .1) ≡ over (fieldWidths cs) start
   unfolding over firstAfter
-  count-over = ⊎-elim read unread (whole-or-torn 0 (areaWidth ∷ arrivalWidth ∷ matchCountWidth ∷ []) (omega arith))
-    where
-      read : 0 + firstAfter (areaWidth ∷ arrivalWidth ∷ matchCountWidth ∷ []) ≤ all → over (matchWidths (counted .0)) (counted .1) ≡ over (fieldWidths cs) start
-      read h =
-          let here = over-whole 0 (areaWidth ∷ arrivalWidth ∷ []) (omega arith) in
-          ap (λ (n : ℕ). over (matchWidths n) (counted .1)) (ap (λ (q : Scan). field cs matchCountWidth free q .0) here ∙ ap (λ (x : ℕ × Scan). x .0) (field-whole (areaWidth + arrivalWidth) matchCountWidth (omega arith)))
-
-      unread : (p : ℕ) × TornFrom cs 0 (areaWidth ∷ arrivalWidth ∷ matchCountWidth ∷ []) p → over (matchWidths (counted .0)) (counted .1) ≡ over (fieldWidths cs) start
-      unread (p, h) =
-          let here : counted .1 ≡ Refused Truncated p = over-torn h in
-          let stays : (n : ℕ) → over (matchWidths n) (counted .1) ≡ Refused Truncated p = λ n. ap (over (matchWidths n)) here ∙ over-refused (matchWidths n) Truncated p in
-          stays (counted .0) ∙ sym (stays (valueAt cs (areaWidth + arrivalWidth) matchCountWidth))
+  count-over =
+      ⊎-elim
+      (λ h.
+      let here = over-whole 0 (areaWidth ∷ arrivalWidth ∷ []) (omega arith) in
+      ap (λ (n : ℕ). over (matchWidths n) (counted .1)) (ap (λ (q : Scan). field cs matchCountWidth free q .0) here ∙ ap (λ (x : ℕ × Scan). x .0) (field-whole (areaWidth + arrivalWidth) matchCountWidth (omega arith))))
+      (λ r.
+      let stays : (n : ℕ) → over (matchWidths n) (counted .1) ≡ Refused Truncated (r .0) = λ n. ap (over (matchWidths n)) (over-torn (r .1)) ∙ over-refused (matchWidths n) Truncated (r .0) in
+      stays (counted .0) ∙ sym (stays (valueAt cs (areaWidth + arrivalWidth) matchCountWidth)))
+      (whole-or-torn 0 (areaWidth ∷ arrivalWidth ∷ matchCountWidth ∷ []) (omega arith))
 
   sheet-over : coverRead cs start .1 ≡ ended cs (over (fieldWidths cs) start)
   unfolding coverRead
@@ -111,11 +109,10 @@ module _ (cs : List ℕ) where
       (Tail, end-of (omega arith) ∙ ap (λ (b : Bool). cond b (At (cursorAt last)) (Refused Tail last)) (ap (endsAt cs) (sym same) ∙ h .bad) ∙ ap (Refused Tail) (sym same))
 
   pub refused-place : {f : Fault} {k : ℕ} → coverRead cs start .1 ≡ Refused f k → Torn cs k ⊎ BadTail cs k
-  refused-place {f} {k} e = ⊎-elim tail (λ r. inl (subst (Torn cs) (ap place (sym (sheet-over ∙ ap (ended cs) (over-torn (r .1))) ∙ e)) (r .1))) (whole-or-torn 0 (fieldWidths cs) (omega arith))
-    where
-      tail : last ≤ all → Torn cs k ⊎ BadTail cs k
-      tail h = go (endsAt cs last) refl (sym (end-of h) ∙ e)
-        where
-          go : (b : Bool) → endsAt cs last ≡ b → cond b (At (cursorAt last)) (Refused Tail last) ≡ Refused f k → Torn cs k ⊎ BadTail cs k
-          go true g e = absurd (subst Live e tt)
-          go false g e = let same : last ≡ k = ap place e in inr (record { first = omega arith; whole = omega arith; bad = rw (← same) g })
+  refused-place {f} {k} e =
+      ⊎-elim
+      (λ h.
+      let said : cond (endsAt cs last) (At (cursorAt last)) (Refused Tail last) ≡ Refused f k = sym (end-of h) ∙ e in
+      cases (endsAt cs last) (λ g. absurd (subst Live (rw g at said) tt)) (λ g.
+      let same : last ≡ k = ap place (rw g at said) in inr (record { first = omega arith; whole = omega arith; bad = rw (← same) g })))
+      (λ r. inl (subst (Torn cs) (ap place (sym (sheet-over ∙ ap (ended cs) (over-torn (r .1))) ∙ e)) (r .1))) (whole-or-torn 0 (fieldWidths cs) (omega arith))

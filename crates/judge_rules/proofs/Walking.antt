@@ -1,18 +1,18 @@
 -- What a walk ends with is a legal cover, and every legal cover is walked to its end.
 use Prim.Native.Nat.{ℕ, suc, _+_, _≤_, _<_}
-use mathlib.Core.Path.{_≡_, refl, sym, ap, ap₂, subst, _∙_}
-use mathlib.Core.Logic.{_≢_, _↔_}
-use mathlib.Core.List.{List, [], _∷_, _++_, append-nil, append-assoc, cons≢nil, head-eq-of-cons-eq, tail-eq-of-cons-eq}
+use mathlib.Core.Path.{_≡_, refl, sym, ap}
+use mathlib.Core.Logic.{_↔_}
+use mathlib.Core.List.{List, [], _∷_, _++_, append-nil, append-assoc, cons≢nil}
 use mathlib.Core.Option.{Option, none, some, Option·none-ne-some}
 use native.Mathlib.Nat.{le-refl}
 use native.Mathlib.Omega.{arith}
 use lib.ListN.{length, length-append}
 use Rattle.fields.specs.Answer.{Answer, refusedIn, success}
 use Rattle.fields.proofs.Answer.{answer-apart}
-use Rattle.sheets_rules.specs.Model.{Leaf, pinOf, Shape, leaf, inv, nand, size, Cell, Library, Tree}
+use Rattle.sheets_rules.specs.Model.{pinOf, Shape, leaf, inv, nand, size, Cell, Library, Tree}
 use Rattle.covers.specs.Crossing.{redrawn}
-use Rattle.covers.specs.Match.{Input, Match, IsMatch, joined, laid, matched, pinLoad}
-use Rattle.covers.specs.Cover.{Point, Placed, Cover, IsCover, bare, matching, AreCovers, done, more, beside, late, raised, leafPoint, leafCover, nothing, together, delayed, topped, feeds, inputDelay}
+use Rattle.covers.specs.Match.{Input, Match, IsMatch, joined, laid, matched}
+use Rattle.covers.specs.Cover.{Point, Placed, Cover, IsCover, bare, matching, AreCovers, done, more, beside, late, raised, leafPoint, leafCover, nothing, together, delayed, topped, inputDelay}
 use Rattle.covers.specs.Inside.Curve.{gates}
 use Rattle.covers.specs.Promise.{RootCover}
 use Rattle.covers.proofs.Points.{point-path}
@@ -25,19 +25,18 @@ use Rattle.judge_rules.proofs.Order.{visit-apart, inputs-apart, Named, 
 
 -- A match has an input.
 laid-some : (d : Shape) (n : ℕ) (s : Shape) → Whenever (λ is. 0 < length is) (laid d n s)
-unfolding laid
+unfolding laid joined
 laid-some (leaf x) n s = holds {is = record { pin = pinOf x; node = n; shape = s } ∷ []} (omega arith)
 laid-some (inv d) n (leaf x) = never
 laid-some (inv d) n (inv s) = laid-some d (suc n) s
 laid-some (inv d) n (nand s t) = never
 laid-some (nand d e) n (leaf x) = never
 laid-some (nand d e) n (inv s) = never
-laid-some (nand d e) n (nand s t) = go (laid-some d (suc n) s) (laid-some e (suc n + size s) t)
-  where
-    go : {a b : Option (List Input)} → Whenever (λ is. 0 < length is) a → Whenever (λ is. 0 < length is) b → Whenever (λ is. 0 < length is) (joined a b)
-    go never g = unfold joined in never
-    go (holds f) never = unfold joined in never
-    go (holds {is} f) (holds {is = js} g) = unfold joined in holds {is = is ++ js} (omega (arith, length-append is js, f))
+laid-some (nand d e) n (nand s t) = elim (laid-some d (suc n) s) as (λ a x. Whenever (λ is. 0 < length is) (joined a (laid e (suc n + size s) t))) [
+  | never ↦ never
+  | holds {is} f ↦
+      elim (laid e (suc n + size s) t) as (λ b. Whenever (λ is. 0 < length is) (joined (some is) b)) [ none ↦ never | some js ↦ holds {is = is ++ js} (omega (arith, length-append is js, f)) ]
+]
 
 matched-some : (d : Shape) (n : ℕ) (s : Shape) {is : List Input} → matched d n s ≡ some is → 0 < length is
 unfolding matched
@@ -63,68 +62,39 @@ visit-plus load delay n (leaf x) a w =
 visit-plus load delay n (inv s) a w = refl
 visit-plus load delay n (nand s t) a w = refl
 
-module _ (l : Library) where
-  leaf-cover : {load n : ℕ} {x : Leaf} {c : Cover} → IsCover l load n (leaf x) c → c ≡ leafCover x load
-  unfolding gates
-  leaf-cover (bare e) = e
-  leaf-cover (matching m f g e) = absurd (omega (arith, match-inside f .fewer))
+inputs-plus : (l : Library) (cell : Cell) (load delay : ℕ) (is : List Input) (a : Point) (w : Walk) → inputsVisited l cell load delay is (plus a w) ≡ plus a (inputsVisited l cell load delay is w)
+unfolding inputsVisited
+inputs-plus l cell load delay [] a w = refl
+inputs-plus l cell load delay (i ∷ is) a w = rw (inputs-plus l cell load delay is a w) (visit-plus _ _ _ (i .shape) a (inputsVisited l cell load delay is w))
 
-  -- The match at the top of a cover of an inverter or NAND.
-  record Top (load n : ℕ) (s : Shape) (c : Cover) : Type 0 where
-    m : Match
-    below : Cover
-    legal : IsMatch l load n s m
-    inputs : AreCovers l (m .pattern .cell) load (m .inputs) below
-    whole : c ≡ topped n m below
-
-  top-of : {load n : ℕ} {s : Shape} {c : Cover} → 0 < gates s → IsCover l load n s c → Top load n s c
-  unfolding gates
-  top-of g (bare e) = absurd (omega arith)
-  top-of g (matching {d = d} m f h e) = record { m = m; below = d; legal = f; inputs = h; whole = e }
-
-  inputs-plus : (cell : Cell) (load delay : ℕ) (is : List Input) (a : Point) (w : Walk) → inputsVisited l cell load delay is (plus a w) ≡ plus a (inputsVisited l cell load delay is w)
-  unfolding inputsVisited
-  inputs-plus cell load delay [] a w = refl
-  inputs-plus cell load delay (i ∷ is) a w =
-      ap (visited (pinLoad l (feeds cell i)) (inputDelay cell load i + delay) (i .node) (i .shape)) (inputs-plus cell load delay is a w)
-      ∙ visit-plus (pinLoad l (feeds cell i)) (inputDelay cell load i + delay) (i .node) (i .shape) a (inputsVisited l cell load delay is w)
+-- The match at the top of a cover of an inverter or NAND.
+top-of : {l : Library} {load n : ℕ} {s : Shape} {c : Cover} → 0 < gates s → IsCover l load n s c → (m : Match) × (d : Cover) × IsMatch l load n s m × AreCovers l (m .pattern .cell) load (m .inputs) d × (c ≡ topped n m d)
+unfolding gates
+top-of g (bare e) = absurd (omega arith)
+top-of g (matching {d = d} m f h e) = (m, d, f, h, e)
 
 module _ (l : Library) (p : Point) where
+  -- The list begins with a cover of this kind, of what is reached with a delay; the rest covers what the walk has left.
+  abbrev Parted : (Cover → Type 0) → ℕ → Walk → List Placed → Type 0
+  Parted P delay w xs = (c : Cover) × (ys : List Placed) × P c × (xs ≡ c .placed ++ ys) × Covered l (w .left) ys (beside (late delay (c .point)) (w .point)) p
+
   -- A cover of a node that is reached, whether it is a leaf or not.
-  record Split (load delay n : ℕ) (s : Shape) (w : Walk) (xs : List Placed) : Type 0 where
-    c : Cover
-    ys : List Placed
-    legal : IsCover l load n s c
-    parts : xs ≡ c .placed ++ ys
-    rest : Covered l (w .left) ys (beside (late delay (c .point)) (w .point)) p
+  visit-covered : {load n : ℕ} (delay : ℕ) (s : Shape) (w : Walk) {xs : List Placed} → Parted (IsCover l load n s) delay w xs → Covered l (visited load delay n s w .left) xs (visited load delay n s w .point) p
+  unfolding visited leafCover gates
+  visit-covered delay (leaf x) w (c, ys, bare g, e, k) = rw (e, g) (rw g at k)
+  visit-covered delay (leaf x) w (c, ys, matching m f h g, e, k) = absurd (omega (arith, match-inside f .fewer))
+  visit-covered delay (inv s) w (c, ys, h, e, k) = one-left c h e k
+  visit-covered delay (nand s t) w (c, ys, h, e, k) = one-left c h e k
 
-  visit-covered : {load delay n : ℕ} (s : Shape) (w : Walk) {xs : List Placed} → Split load delay n s w xs → Covered l (visited load delay n s w .left) xs (visited load delay n s w .point) p
+  visit-uncovered : {load n : ℕ} (delay : ℕ) (s : Shape) (w : Walk) {xs : List Placed} → Covered l (visited load delay n s w .left) xs (visited load delay n s w .point) p → Parted (IsCover l load n s) delay w xs
   unfolding visited leafCover
-  visit-covered {load} {delay} {n} (leaf x) w {xs} h =
-      let e = leaf-cover l (h .legal) in
-      let same : h .ys ≡ xs = sym (h .parts ∙ ap (λ (c : Cover). c .placed ++ h .ys) e) in
-      subst (λ (zs : List Placed). Covered l (w .left) zs (beside (late delay (leafPoint x load)) (w .point)) p) same
-      (subst (λ (c : Cover). Covered l (w .left) (h .ys) (beside (late delay (c .point)) (w .point)) p) e (h .rest))
-  visit-covered (inv s) w h = one-left (h .c) (h .legal) (h .parts) (h .rest)
-  visit-covered (nand s t) w h = one-left (h .c) (h .legal) (h .parts) (h .rest)
-
-  visit-uncovered : {load delay n : ℕ} (s : Shape) (w : Walk) {xs : List Placed} → Covered l (visited load delay n s w .left) xs (visited load delay n s w .point) p → Split load delay n s w xs
-  unfolding visited leafCover
-  visit-uncovered {load} (leaf x) w {xs} k = record { c = leafCover x load; ys = xs; legal = bare refl; parts = refl; rest = k }
-  visit-uncovered (inv s) w (one-left {ys = ys} c h e k) = record { c = c; ys = ys; legal = h; parts = e; rest = k }
-  visit-uncovered (nand s t) w (one-left {ys = ys} c h e k) = record { c = c; ys = ys; legal = h; parts = e; rest = k }
+  visit-uncovered {load} delay (leaf x) w {xs} k = (leafCover x load, xs, bare refl, refl, k)
+  visit-uncovered delay (inv s) w (one-left {ys = ys} c h e k) = (c, ys, h, e, k)
+  visit-uncovered delay (nand s t) w (one-left {ys = ys} c h e k) = (c, ys, h, e, k)
 
   module _ (cell : Cell) (load delay : ℕ) where
     abbrev inputs : List Input → Walk → Walk
     inputs = inputsVisited l cell load delay
-
-    -- Covers of all inputs, which are reached at once.
-    record InputsSplit (is : List Input) (w : Walk) (xs : List Placed) : Type 0 where
-      d : Cover
-      ys : List Placed
-      legal : AreCovers l cell load is d
-      parts : xs ≡ d .placed ++ ys
-      rest : Covered l (w .left) ys (beside (late delay (d .point)) (w .point)) p
 
     -- With no input the delay alone must not count.
     abbrev Counts : List Input → Walk → Type 0
@@ -138,114 +108,27 @@ module _ (l : Library) (p : Point) where
     unfolding together delayed beside late
     beside-first i c e q = point-path (omega arith) (omega arith)
 
-    beside-none : {d : Cover} (w : Walk) → d ≡ nothing → delay ≤ w .point .arrival → beside (late delay (d .point)) (w .point) ≡ w .point
+    beside-none : (w : Walk) → delay ≤ w .point .arrival → beside (late delay (nothing .point)) (w .point) ≡ w .point
     unfolding nothing beside late
-    beside-none w e g = point-path (omega (arith, ap (λ (c : Cover). c .point .area) e)) (omega (arith, ap (λ (c : Cover). c .point .arrival) e, g))
+    beside-none w g = point-path (omega arith) (omega arith)
 
-    none-of : {d : Cover} → AreCovers l cell load [] d → d ≡ nothing
-    none-of (done e) = e
-
-    record More (i : Input) (is : List Input) (d : Cover) : Type 0 where
-      c : Cover
-      b : Cover
-      first : IsCover l (pinLoad l (feeds cell i)) (i .node) (i .shape) c
-      later : AreCovers l cell load is b
-      whole : d ≡ together (delayed (inputDelay cell load i) c) b
-
-    more-of : {i : Input} {is : List Input} {d : Cover} → AreCovers l cell load (i ∷ is) d → More i is d
-    more-of (more {d = c} {e = b} f r e) = record { c = c; b = b; first = f; later = r; whole = e }
-
-    inputs-covered : (is : List Input) (w : Walk) {xs : List Placed} → Counts is w → InputsSplit is w xs → Covered l (inputs is w .left) xs (inputs is w .point) p
+    -- Covers of all inputs, which are reached at once.
+    inputs-covered : (is : List Input) (w : Walk) {xs : List Placed} → Counts is w → Parted (AreCovers l cell load is) delay w xs → Covered l (inputs is w .left) xs (inputs is w .point) p
     unfolding inputsVisited nothing together delayed
-    inputs-covered [] w {xs} g h =
-        let e = none-of (h .legal) in
-        subst (λ (zs : List Placed). Covered l (w .left) zs (w .point) p) (sym (h .parts ∙ ap (λ (c : Cover). c .placed ++ h .ys) e))
-        (subst (λ (q : Point). Covered l (w .left) (h .ys) q p) (beside-none w e (g refl)) (h .rest))
-    inputs-covered (i ∷ is) w {xs} g h =
-        let f = more-of (h .legal) in
-        let a = adds i (f .c) in
-        visit-covered (i .shape) (inputs is w) record {
-          c = f .c;
-          ys = f .b .placed ++ h .ys;
-          legal = f .first;
-          parts = h .parts ∙ ap (λ (c : Cover). c .placed ++ h .ys) (f .whole) ∙ append-assoc (f .c .placed) (f .b .placed) (h .ys);
-          rest = subst (λ (v : Walk). Covered l (v .left) (f .b .placed ++ h .ys) (v .point) p) (inputs-plus l cell load delay is a w)
-              (inputs-covered is (plus a w) (λ e. unfold late beside in omega arith) record {
-                d = f .b;
-                ys = h .ys;
-                legal = f .later;
-                parts = refl;
-                rest = subst (λ (q : Point). Covered l (w .left) (h .ys) q p) (ap (λ (c : Cover). beside (late delay (c .point)) (w .point)) (f .whole) ∙ beside-first i (f .c) (f .b) (w .point)) (h .rest);
-              });
-        }
+    inputs-covered [] w g (d, ys, done e, f, k) = rw (f, e) (rw (e, beside-none w (g refl)) at k)
+    inputs-covered (i ∷ is) w g (d, ys, more {d = c} {e = b} h r e, f, k) =
+        let a = adds i c in
+        let below = inputs-covered is (plus a w) (λ e. unfold late beside in omega arith) (b, ys, r, refl, rw (e, beside-first i c b (w .point)) at k) in
+        visit-covered (inputDelay cell load i + delay) (i .shape) (inputs is w) (c, b .placed ++ ys, h, rw (f, e, append-assoc), rw (inputs-plus l cell load delay is a w) at below)
 
-    inputs-uncovered : (is : List Input) (w : Walk) {xs : List Placed} → Counts is w → Covered l (inputs is w .left) xs (inputs is w .point) p → InputsSplit is w xs
+    inputs-uncovered : (is : List Input) (w : Walk) {xs : List Placed} → Counts is w → Covered l (inputs is w .left) xs (inputs is w .point) p → Parted (AreCovers l cell load is) delay w xs
     unfolding inputsVisited nothing together delayed
-    inputs-uncovered [] w {xs} g k = record { d = nothing; ys = xs; legal = done refl; parts = refl; rest = subst (λ (q : Point). Covered l (w .left) xs q p) (sym (beside-none w refl (g refl))) k }
-    inputs-uncovered (i ∷ is) w {xs} g k =
-        let f = visit-uncovered (i .shape) (inputs is w) k in
-        let a = adds i (f .c) in
-        let h = inputs-uncovered is (plus a w) {xs = f .ys} (λ e. unfold late beside in omega arith) (subst (λ (v : Walk). Covered l (v .left) (f .ys) (v .point) p) (sym (inputs-plus l cell load delay is a w)) (f .rest)) in
-        record {
-          d = together (delayed (inputDelay cell load i) (f .c)) (h .d);
-          ys = h .ys;
-          legal = more (f .legal) (h .legal) refl;
-          parts = f .parts ∙ ap (λ (zs : List Placed). f .c .placed ++ zs) (h .parts) ∙ sym (append-assoc (f .c .placed) (h .d .placed) (h .ys));
-          rest = subst (λ (q : Point). Covered l (w .left) (h .ys) q p) (sym (beside-first i (f .c) (h .d) (w .point))) (h .rest);
-        }
-
-  -- ---- one match more
-
-  module _ (o : Uncovered) (os : List Uncovered) (q : Point) where
-    -- A match has an input, so that its delay counts.
-    counts : {m : Match} (w : Walk) → IsMatch l (o .load) (o .node) (o .shape) m → Counts (m .pattern .cell) (o .load) (o .delay) (m .inputs) w
-    counts {m} w f e = absurd (omega (arith, matched-some (redrawn (m .crossing) (m .pattern .drawing)) (o .node) (o .shape) (f .fits)))
-
-    beside-top : (m : Match) (d : Cover) → beside (late (o .delay) (topped (o .node) m d .point)) q ≡ beside (late (o .delay) (d .point)) (raised (m .pattern .cell .area) q)
-    unfolding topped raised beside late
-    beside-top m d = point-path (omega arith) (omega arith)
-
-    -- The first listed match stands at the first node, and the rest make up the rest.
-    record FirstMatch (x : Placed) (xs : List Placed) : Type 0 where
-      m : Match
-      named : Named l (x .pattern) (x .crossing) o m
-      node-is : x .node ≡ o .node
-      rest : Covered l (after l o os q m .left) xs (after l o os q m .point) p
-
-    first-uncovered : {x : Placed} {xs : List Placed} → 0 < gates (o .shape) → Covered l (o ∷ os) (x ∷ xs) q p → FirstMatch x xs
-    unfolding topped after
-    first-uncovered {x} {xs} g (one-left {ys = ys} c h e k) =
-        let t = top-of l g h in
-        let m = t .m in
-        let w : Walk = record { left = os; point = raised (m .pattern .cell .area) q } in
-        let list : x ∷ xs ≡ record { node = o .node; pattern = m .number; crossing = m .crossing } ∷ (t .below .placed ++ ys) = e ∙ ap (λ (c : Cover). c .placed ++ ys) (t .whole) in
-        record {
-          m = m;
-          named = record {
-            legal-match = t .legal;
-            number-is = sym (ap (λ (y : Placed). y .pattern) (head-eq-of-cons-eq list));
-            crossing-is = sym (ap (λ (y : Placed). y .crossing) (head-eq-of-cons-eq list));
-          };
-          node-is = ap (λ (y : Placed). y .node) (head-eq-of-cons-eq list);
-          rest = inputs-covered (m .pattern .cell) (o .load) (o .delay) (m .inputs) w (counts w (t .legal)) record {
-            d = t .below;
-            ys = ys;
-            legal = t .inputs;
-            parts = tail-eq-of-cons-eq list;
-            rest = subst (λ (r : Point). Covered l os ys r p) (ap (λ (c : Cover). beside (late (o .delay) (c .point)) q) (t .whole) ∙ beside-top m (t .below)) k;
-          };
-        }
-
-    first-covered : {x : Placed} {xs : List Placed} → FirstMatch x xs → Covered l (o ∷ os) (x ∷ xs) q p
-    unfolding topped after
-    first-covered {x} {xs} f =
-        let m = f .m in
-        let g = f .named in
-        let w : Walk = record { left = os; point = raised (m .pattern .cell .area) q } in
-        let h = inputs-uncovered (m .pattern .cell) (o .load) (o .delay) (m .inputs) w (counts w (g .legal-match)) (f .rest) in
-        let same : x ≡ record { node = o .node; pattern = m .number; crossing = m .crossing } = λ i. record { node = f .node-is i; pattern = sym (g .number-is) i; crossing = sym (g .crossing-is) i } in
-        one-left (topped (o .node) m (h .d)) (matching m (g .legal-match) (h .legal) refl) (ap₂ _∷_ same (h .parts))
-        (subst (λ (r : Point). Covered l os (h .ys) r p) (sym (beside-top m (h .d))) (h .rest))
+    inputs-uncovered [] w {xs} g k = (nothing, xs, done refl, refl, rw (beside-none w (g refl)) k)
+    inputs-uncovered (i ∷ is) w g k =
+        let (c, ys, h, e, j) = visit-uncovered (inputDelay cell load i + delay) (i .shape) (inputs is w) k in
+        let a = adds i c in
+        let (b, zs, r, f, below) = inputs-uncovered is (plus a w) {xs = ys} (λ e. unfold late beside in omega arith) (rw (inputs-plus l cell load delay is a w) j) in
+        (together (delayed (inputDelay cell load i) c) b, zs, more h r refl, cc (append-assoc (c .placed) (b .placed) zs), rw (beside-first i c b (w .point)) below)
 
 -- ---- the whole walk
 
@@ -263,30 +146,48 @@ is-gate (next a g r) = g
 pub answer-none : {A : Type 0} {i n k : ℕ} {a : A} → _≡_ {A = Answer A} (refusedIn i n k) (success a) → ⊥
 answer-none e = answer-apart (sym e)
 
+-- A match has an input, so that its delay counts.
+counts : {l : Library} {load n : ℕ} {s : Shape} {m : Match} {d a : ℕ} → IsMatch l load n s m → length (m .inputs) ≡ 0 → d ≤ a
+counts {n} {s} {m} f e = absurd (omega (arith, matched-some (redrawn (m .crossing) (m .pattern .drawing)) n s (f .fits)))
+
+beside-top : (delay n : ℕ) (m : Match) (d : Cover) (q : Point) → beside (late delay (topped n m d .point)) q ≡ beside (late delay (d .point)) (raised (m .pattern .cell .area) q)
+unfolding topped raised beside late
+beside-top delay n m d q = point-path (omega arith) (omega arith)
+
 module _ (l : Library) (p : Point) where
+  -- A listed match after which a walk comes to its end is a legal one at the first of what is to be covered.
+  stepped : {o : Uncovered} {os : List Uncovered} {q : Point} {x : Placed} {w : Option Walk} (k : ℕ) (rest : Walk → Answer Point) → StepIs l o os q x w → onward k rest w ≡ success p →
+      (m : Match) × Named l (x .pattern) (x .crossing) o m × (x .node ≡ o .node) × (rest (after l o os q m) ≡ success p)
+  unfolding onward
+  stepped k rest wrong e = absurd (answer-none e)
+  stepped k rest (right m f h) e = (m, f, h, e)
+
   -- What a walk ends with is covered by what it walked over.
   walk-covers : (xs : List Placed) (k : ℕ) (os : List Uncovered) (q : Point) {low high : ℕ} → Apart low high os → walk l k xs (at os q) ≡ success p → Covered l os xs q p
-  unfolding walk listEnded onward
+  unfolding walk listEnded onward topped after
   walk-covers [] k [] q r e = none-left {q = q} {p = p} refl cc
   walk-covers [] k (o ∷ os) q r e = absurd (answer-none e)
   walk-covers (x ∷ xs) k [] q r e = absurd (answer-none e)
-  walk-covers (x ∷ xs) k (o ∷ os) q r e = go (step-is l r q x) e (λ m f g. walk-covers xs (suc k) (after l o os q m .left) (after l o os q m .point) (after-apart l q r f) g)
-    where
-      go : {w : Option Walk} → StepIs l o os q x w → onward k (walk l (suc k) xs) w ≡ success p →
-          ((m : Match) → IsMatch l (o .load) (o .node) (o .shape) m → walk l (suc k) xs (after l o os q m) ≡ success p → Covered l (after l o os q m .left) xs (after l o os q m .point) p) →
-          Covered l (o ∷ os) (x ∷ xs) q p
-      go wrong e later = unfold onward in absurd (answer-none e)
-      go (right m f h) e later = unfold onward in first-covered l p o os q record { m = m; named = f; node-is = h; rest = later m (f .legal-match) e }
+  walk-covers (x ∷ xs) k (o ∷ os) q r e =
+      let s = stepped k (walk l (suc k) xs) (step-is l r q x) e in
+      let m = s .0 in
+      let g = s .1 in
+      let rest = walk-covers xs (suc k) (after l o os q m .left) (after l o os q m .point) (after-apart l q r (g .legal-match)) (s .3) in
+      let h = inputs-uncovered l p (m .pattern .cell) (o .load) (o .delay) (m .inputs) (at os (raised (m .pattern .cell .area) q)) (counts (g .legal-match)) rest in
+      one-left {o = o} {os = os} {ys = h .1} {q = q} {p = p} (topped (o .node) m (h .0)) (matching m (g .legal-match) (h .2) refl)
+      (λ i. record { node = s .2 i; pattern = sym (g .number-is) i; crossing = sym (g .crossing-is) i } ∷ h .3 i) (rw (beside-top (o .delay) (o .node) m (h .0) q) (h .4))
 
   covers-walk : (xs : List Placed) (k : ℕ) (os : List Uncovered) (q : Point) {low high : ℕ} → Apart low high os → Covered l os xs q p → walk l k xs (at os q) ≡ success p
-  unfolding walk listEnded onward topped
+  unfolding walk listEnded onward topped gates after
   covers-walk [] k [] q r (none-left e f) = ap success f
-  covers-walk [] k (o ∷ os) q r (one-left {ys = ys} c h e j) = absurd (cons≢nil (sym (e ∙ ap (λ (c : Cover). c .placed ++ ys) (top-of l (is-gate r) h .whole))))
+  covers-walk [] k (o ∷ os) q r (one-left c h e j) = absurd (cons≢nil (sym (rw (top-of (is-gate r) h .4) at e)))
   covers-walk (x ∷ xs) k [] q r (none-left e f) = absurd (cons≢nil e)
-  covers-walk (x ∷ xs) k (o ∷ os) q r h =
-      let f = first-uncovered l p o os q (is-gate r) h in
-      ap (onward k (walk l (suc k) xs)) (step-some l r q x (f .node-is) (match-found l o (f .named)))
-      ∙ covers-walk xs (suc k) (after l o os q (f .m) .left) (after l o os q (f .m) .point) (after-apart l q r (f .named .legal-match)) (f .rest)
+  covers-walk (x ∷ xs) k (o ∷ os) q r (one-left {ys = ys} c h e j) =
+      let (m, d, f, b, t) = top-of (is-gate r) h in
+      let list : x ∷ xs ≡ record { node = o .node; pattern = m .number; crossing = m .crossing } ∷ (d .placed ++ ys) = rw t at e in
+      let below = inputs-covered l p (m .pattern .cell) (o .load) (o .delay) (m .inputs) (at os (raised (m .pattern .cell .area) q)) {xs = xs} (counts f) (d, ys, b, cc, rw (t, beside-top (o .delay) (o .node) m d q) at j) in
+      rw (step-some l r q x (cc) (match-found l o record { legal-match = f; number-is = cc; crossing-is = cc }))
+      (covers-walk xs (suc k) (after l o os q m .left) (after l o os q m .point) (after-apart l q r f) below)
 
 -- From the root: a walk ends with the figures of a legal cover, and every legal cover is walked to its end.
 pub started-apart : (t : Tree) → Apart 0 (size (t .shape)) (started t .left)
@@ -295,23 +196,16 @@ started-apart t = visit-apart (t .load) 0 0 (t .shape) (at [] (record { area = 0
 
 pub walk-legal : (l : Library) (t : Tree) (xs : List Placed) (p : Point) → (walk l 0 xs (started t) ≡ success p) ↔ RootCover l t (record { point = p; placed = xs })
 unfolding started
-walk-legal l t xs p = (λ e. legal (visit-uncovered l p (t .shape) none (walk-covers l p xs 0 (started t .left) (started t .point) (started-apart t) e)), λ h. covers-walk l p xs 0 (started t .left) (started t .point) (started-apart t) (visit-covered l p (t .shape) none (whole h)))
+walk-legal l t xs p = (
+  λ e. legal (visit-uncovered l p 0 (t .shape) none (walk-covers l p xs 0 (started t .left) (started t .point) (started-apart t) e)),
+  λ h. covers-walk l p xs 0 (started t .left) (started t .point) (started-apart t) (visit-covered l p 0 (t .shape) none (record { point = p; placed = xs }, [], h, sym (append-nil xs), none-left refl (same p))),
+)
   where
     none : Walk
     none = at [] (record { area = 0; arrival = 0 })
 
-    rests : {ys : List Placed} {q : Point} → Covered l [] ys q p → (ys ≡ []) × (q ≡ p)
-    rests (none-left e f) = (e, f)
-
     same : (q : Point) → beside (late 0 q) (record { area = 0; arrival = 0 }) ≡ q
     same q = unfold beside late in point-path (omega arith) (omega arith)
 
-    legal : Split l p (t .load) 0 0 (t .shape) none xs → RootCover l t (record { point = p; placed = xs })
-    legal h =
-        let r = rests (h .rest) in
-        let list : h .c .placed ≡ xs = sym (h .parts ∙ ap (λ (ys : List Placed). h .c .placed ++ ys) (r .0) ∙ append-nil (h .c .placed)) in
-        let point : h .c .point ≡ p = sym (same (h .c .point)) ∙ r .1 in
-        subst (RootCover l t) (λ i. record { point = point i; placed = list i }) (h .legal)
-
-    whole : RootCover l t (record { point = p; placed = xs }) → Split l p (t .load) 0 0 (t .shape) none xs
-    whole h = record { c = record { point = p; placed = xs }; ys = []; legal = h; parts = sym (append-nil xs); rest = none-left refl (same p) }
+    legal : Parted l p (IsCover l (t .load) 0 (t .shape)) 0 none xs → RootCover l t (record { point = p; placed = xs })
+    legal (c, ys, h, e, none-left f g) = rw (e, f, append-nil, ← g, same) h

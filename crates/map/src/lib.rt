@@ -13,10 +13,9 @@ ghost use lib.ListN.{length};
 ghost use Rattle.sheets_rules.specs.Model.{Library, Tree};
 ghost use Rattle.covers.specs.Capacity.{workWords, allowed};
 ghost use Rattle.covers.specs.Lending.{cleared};
-ghost use Rattle.covers.specs.Outcome.{operation};
 ghost use Rattle.overlay.specs.Inside.Promises.{LibraryStored, SheetsStored};
 ghost use Rattle.map_rules.specs.Public.{ofReply, Operated, Maps, Lists};
-ghost use Rattle.map.specs.Inside.Promises.{leastOutput, taskAnswer, sheetsAnswer, Allows, Starts, RepliesStarted, RepliesStored, OperatesAny};
+ghost use Rattle.map.specs.Inside.Promises.{leastOutput, sheetsAnswer, Allows, Starts, RepliesStarted, RepliesStored, OperatesAny, Operates};
 
 // The least output that is lent for a task.
 fn least_output(task: Task) -> usize
@@ -131,7 +130,7 @@ fn with_lent(
 
 // A task with any library and any tree, lent anything.
 fn operate(task: Task, library: &[u8], tree: &[u8], output: &mut [u8], work: &mut [u64]) -> Reply
-    ensures { λ r. ⌜ Operated (operation (leastOutput task) (taskAnswer task) (now (library .entry)) (now (tree .entry)) (length (now (output .entry))) (length (now (work .entry)))) (now (output .entry)) (now (output .exit)) (now (work .entry)) (now (work .exit)) (ofReply r) ⌝ }
+    ensures { λ r. ⌜ Operates task (now (library .entry)) (now (tree .entry)) (now (output .entry)) (now (output .exit)) (now (work .entry)) (now (work .exit)) (ofReply r) ⌝ }
 {
     let lent = lending::lend(least_output(task), output.len(), work.len());
     let finding = lent.finding;

@@ -1,10 +1,11 @@
 -- Laws about what is replied: that it fits a word, what is left in the work area, what follows a success and what a refusal leaves.
 use mathlib.Core.Path.{_≡_, refl, sym, ap, ap₂, subst, _∙_}
-use mathlib.Core.Bool.{Bool, true, false, _&&_, cond}
+use mathlib.Core.Bool.{false, _&&_}
 use mathlib.Core.List.{List, _++_}
 use mathlib.Core.Option.{Option, none, some}
 use Prim.Native.Nat.{ℕ, _-_, _≤_, _<_}
 use native.Mathlib.Omega.{arith}
+use borrow.Table.Steps.{cases}
 use lib.Dec.{leb}
 use lib.ListN.{length, take, drop, replicate, length-replicate}
 use lib.Seq.{take-append-seam, drop-append-seam}
@@ -15,24 +16,24 @@ use Rattle.fields.specs.declared.Refusal.{Refusal}
 use Rattle.fields.specs.declared.Scan.{Scan}
 use Rattle.fields.specs.declared.Scan.the-variants.{At, Refused}
 use Rattle.fields.specs.Reading.{start}
-use Rattle.fields.specs.Answer.{Answer, refused, refusedIn, refusal, success, said, inItem, _>>=_, onSuccess, Bounded}
+use Rattle.fields.specs.Answer.{Answer, refusedIn, refusal, success, said, inItem, _>>=_, onSuccess, Bounded}
 use Rattle.fields.proofs.Answer.{after-success, after-refused}
 use Rattle.sheets_rules.specs.Model.{Library, Tree}
 use Rattle.sheets_rules.specs.LibrarySheet.{library}
 use Rattle.sheets_rules.specs.TreeSheet.{tree}
 use Rattle.sheets_rules.specs.Report.{libraryNumber, treeNumber, librarySaid, treeSaid}
 use Rattle.sheets_rules.specs.Inside.Sound.{SoundTree}
-use Rattle.covers.specs.Lists.{any}
-use Rattle.covers.specs.Tradeoff.{nodes, overfull, overfullNode}
+use Rattle.covers.specs.Tradeoff.{nodes, tradeoffs, overfull, overfullNode}
 use Rattle.covers.specs.Choice.{choice}
-use Rattle.covers.specs.Capacity.{capacity, workWords, allowed}
-use Rattle.covers.specs.Answer.{shortNumber, answered, mapped}
+use Rattle.covers.specs.CoverSheet.{coverSheet, listSheet}
+use Rattle.covers.specs.Capacity.{capacity, workWords}
+use Rattle.covers.specs.Answer.{shortNumber, answered, mapped, nonempty, listed, mapAnswer, listAnswer}
 use Rattle.covers.specs.Lending.{lent, told, outputAfter, observed, cleared, workCleared, leavesZero, workAfter}
-use Rattle.covers.specs.Outcome.{mapOutcome, listOutcome}
+use Rattle.covers.specs.Outcome.{operation, mapBytes, listBytes, mapOutcome, listOutcome}
 use Rattle.covers.proofs.Ascending.{ascending-range}
 use Rattle.covers.proofs.Overfull.{LastOf, at, nodes-ascend, overfull-named}
 use Rattle.covers.proofs.Demands.{observed-is, map-demands, list-demands}
-use Rattle.map_rules.specs.Public.{Operated, Maps, Lists}
+use Rattle.map_rules.specs.Public.{Operated, Refuses, AboutNone, Maps, Lists}
 
 -- ---- the work area
 
@@ -77,31 +78,39 @@ worked f (some n) a work = refl
 worked f none none work = refl
 worked f none (some a) work = refl
 
+-- ---- what all refusals of an answer have
+
+module _ (P : ℕ → ℕ → Type 0) where
+  refuses-both : {A B : Type 0} (r : Answer A) (f : A → Answer B) → Refuses P r → ((a : A) → Refuses P (f a)) → Refuses P (r >>= f)
+  unfolding _>>=_
+  refuses-both (refusedIn i n p) f h g = h
+  refuses-both (success a) f h g = g a
+
+  -- Those of a sheet, and of too little lent.
+  refuses-said : {A : Type 0} (number : Fault → ℕ) (x : A × Scan) → ((f : Fault) → P 0 (number f)) → Refuses P (said number x)
+  unfolding said
+  refuses-said number (a, At c) h = tt
+  refuses-said number (a, Refused f p) h = h f
+
+  refuses-lent : (least output work : ℕ) → P 0 shortNumber → Refuses P (lent least output work)
+  unfolding lent
+  refuses-lent least output work h = cases (leb least output && leb (workWords capacity) work) (λ e. rw e tt) (λ e. rw e h)
+
 -- ---- refusals that spare the work area
 
 abbrev pub Spares : ℕ → Type 0
 Spares n = leavesZero n ≡ false
 
--- An answer that is refused, if at all, with such a number.
 abbrev pub Sparing : {A : Type 0} → Answer A → Type 0
-Sparing (refusedIn i n p) = Spares n
-Sparing (success a) = Unit {0}
+Sparing = Refuses (λ i n. Spares n)
 
 pub sparing-both : {A B : Type 0} (r : Answer A) (f : A → Answer B) → Sparing r → ((a : A) → Sparing (f a)) → Sparing (r >>= f)
-unfolding _>>=_
-sparing-both (refusedIn i n p) f h g = h
-sparing-both (success a) f h g = g a
+sparing-both = refuses-both (λ i n. Spares n)
 
 pub sparing-item : {A : Type 0} (k : ℕ) (r : Answer A) → Sparing r → Sparing (inItem k r)
 unfolding inItem
 sparing-item k (refusedIn i n p) h = h
 sparing-item k (success a) h = tt
-
--- Those of a sheet.
-pub sparing-said : {A : Type 0} (number : Fault → ℕ) (x : A × Scan) → ((f : Fault) → Spares (number f)) → Sparing (said number x)
-unfolding said
-sparing-said number (a, At c) h = tt
-sparing-said number (a, Refused f p) h = h f
 
 pub library-spares : (f : Fault) → Spares (libraryNumber f)
 unfolding leavesZero libraryNumber
@@ -121,21 +130,16 @@ tree-spares Size = refl
 
 pub sparing-library : (ls : List ℕ) → Sparing (librarySaid ls)
 unfolding librarySaid
-sparing-library ls = sparing-said libraryNumber (library ls start) library-spares
+sparing-library ls = refuses-said (λ i n. Spares n) libraryNumber (library ls start) library-spares
 
 pub sparing-tree : (ts : List ℕ) → Sparing (treeSaid ts)
 unfolding treeSaid
-sparing-tree ts = sparing-said treeNumber (tree ts start) tree-spares
+sparing-tree ts = refuses-said (λ i n. Spares n) treeNumber (tree ts start) tree-spares
 
 -- Too little lent.
 pub sparing-lent : (least output work : ℕ) → Sparing (lent least output work)
-unfolding lent leavesZero
-sparing-lent least output work = go (leb least output) (leb (workWords capacity) work)
-  where
-    go : (b d : Bool) → Sparing (cond (b && d) (success (allowed work)) (refused shortNumber 0))
-    go true true = tt
-    go true false = refl
-    go false d = refl
+unfolding leavesZero
+sparing-lent least output work = refuses-lent (λ i n. Spares n) least output work refl
 
 -- ---- what follows, or not
 
@@ -156,9 +160,37 @@ stopped f q output work spared e fits =
 pub seen : {o : Answer (List ℕ)} {output output′ work work′ : List ℕ} {a : Answer ℕ} → Operated o output output′ work work′ a → observed a output′ ≡ o
 seen {o} {output} h = ap₂ observed (h .told-is) (h .output-is) ∙ observed-is o output
 
+-- It is about no item.
+none-told : (o : Answer (List ℕ)) → AboutNone o → AboutNone (told o)
+unfolding told onSuccess
+none-told (refusedIn i n p) h = h
+none-told (success s) h = tt
+
+none-answered : {A B : Type 0} (f : A → B) (o : Option ℕ) (a : Option A) → AboutNone (onSuccess f (answered o a))
+unfolding onSuccess answered
+none-answered f (some n) a = refl
+none-answered f none none = refl
+none-answered f none (some a) = tt
+
+none-operation : {A : Type 0} (least : ℕ) (f : ℕ → Library → Tree → Answer A) (ls ts : List ℕ) (output work : ℕ) → ((most : ℕ) (l : Library) (t : Tree) → AboutNone (f most l t)) → AboutNone (operation least f ls ts output work)
+unfolding operation librarySaid treeSaid
+none-operation least f ls ts output work h =
+    let none : ℕ → ℕ → Type 0 = λ i n. i ≡ 0 in
+    refuses-both none (lent least output work) _ (refuses-lent none least output work refl) (λ most.
+    refuses-both none (librarySaid ls) _ (refuses-said none libraryNumber (library ls start) (λ g. refl)) (λ l.
+    refuses-both none (treeSaid ts) _ (refuses-said none treeNumber (tree ts start) (λ g. refl)) (h most l)))
+
+none-mapped : (ls ts : List ℕ) (output work : ℕ) → AboutNone (mapOutcome ls ts output work)
+unfolding mapOutcome mapAnswer mapped
+none-mapped ls ts output work = none-operation mapBytes mapAnswer ls ts output work (λ most l t. none-answered coverSheet (overfullNode most l t) (choice l (t .load) 0 (t .shape) (t .required)))
+
+none-listed : (ls ts : List ℕ) (output work : ℕ) → AboutNone (listOutcome ls ts output work)
+unfolding listOutcome listAnswer listed
+none-listed ls ts output work = none-operation listBytes listAnswer ls ts output work (λ most l t. none-answered listSheet (overfullNode most l t) (nonempty (tradeoffs l (t .load) 0 (t .shape))))
+
 module _ (ls ts output : List ℕ) {output′ : List ℕ} (work : List ℕ) {work′ : List ℕ} {a : Answer ℕ} where
   pub maps : Operated (mapOutcome ls ts (length output) (length work)) output output′ work work′ a → Maps ls ts output output′ work work′ a
-  maps h = record { operated = h; demands = rw (seen h) (map-demands ls ts (length output) (length work)) }
+  maps h = record { operated = h; about-none = rw (h .told-is) (none-told _ (none-mapped ls ts (length output) (length work))); demands = rw (seen h) (map-demands ls ts (length output) (length work)) }
 
   pub lists : Operated (listOutcome ls ts (length output) (length work)) output output′ work work′ a → Lists ls ts output output′ work work′ a
-  lists h = record { operated = h; demands = rw (seen h) (list-demands ls ts (length output) (length work)) }
+  lists h = record { operated = h; about-none = rw (h .told-is) (none-told _ (none-listed ls ts (length output) (length work))); demands = rw (seen h) (list-demands ls ts (length output) (length work)) }

@@ -1,2 +1,3 @@
 -- The laws of `map_rules`.
 pub mod Laws
+pub mod Examples

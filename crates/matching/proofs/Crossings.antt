@@ -1,25 +1,24 @@
 -- Crossings of a pattern in ascending order: which may be passed over after a walk.
 use Prim.Native.Nat.{ℕ, zero, suc, _+_, _-_, _*_, _/_, _%_, _^_, _≤_, _<_}
-use mathlib.Core.Path.{_≡_, refl, sym, ap, ap₂, subst, _∙_}
-use mathlib.Core.Logic.{_⊎_, inl, inr, ⊎-elim}
-use mathlib.Core.Bool.{Bool, true, false, cond, _&&_, false≢true}
+use mathlib.Core.Path.{_≡_, refl, sym, ap, subst, _∙_}
+use mathlib.Core.Bool.{true, cond, false≢true}
 use mathlib.Core.List.{List, [], _∷_, _++_, append-nil}
 use mathlib.Core.Option.{Option, none, some}
 use native.Mathlib.Nat.{zero-add, mul-le-mul-right, suc-mul, mul-mod-left, mul-assoc, mod-lt, div-lt-iff-lt-mul}
 use native.Mathlib.Omega.{arith}
 use native.Mathlib.Numerals.{add-one}
-use lib.Dec.{eqb, ltb}
-use lib.ListN.{length}
+use lib.Dec.{ltb}
 use lib.Pow.{pow-add, pow-pos, shr-lt, shr-mono, split}
-use borrow.Author.Tests.{eq-eqb, lt-ltb}
+use borrow.Author.Tests.{eqb-true, eq-eqb, lt-ltb}
+use borrow.Table.Steps.{cases}
 use Rattle.sheets_rules.specs.Model.{Shape, Pattern, nands}
 use Rattle.sheets_rules.specs.Inside.Sound.{SoundDrawing}
 use Rattle.covers.specs.Lists.{keepIf, select}
-use Rattle.covers.specs.Crossing.{crossingLimit, redrawn, isCrossing, counted, crossings}
+use Rattle.covers.specs.Crossing.{crossingLimit, redrawn, isCrossing, counted}
 use Rattle.covers.specs.Match.{Input, Match, matched, putFirst, fittingUnder}
 use Rattle.covers.proofs.Basics.{tests, select-append}
 use Rattle.overlay.specs.declared.Walked.{Walked}
-use Rattle.overlay.specs.Inside.Promises.{SameBits, WalkIs}
+use Rattle.overlay.specs.Inside.Promises.{WalkIs}
 use Rattle.overlay.proofs.Patterns.{matched-laid, redrawn-sound}
 
 -- ---- the next block of numbers
@@ -33,10 +32,7 @@ module _ (x k : ℕ) where
   next-is = ap (λ q. q * 2 ^ k) (add-one (x / 2 ^ k)) ∙ suc-mul (x / 2 ^ k) (2 ^ k)
 
   pub next-above : x < next
-  next-above = omega (arith, next-is, split x k, mod-small)
-    where
-      mod-small : x % 2 ^ k < 2 ^ k
-      mod-small = mod-lt x (pow-pos k)
+  next-above = omega (arith, next-is, split x k, mod-lt x (pow-pos k))
 
   pub next-limit : x < crossingLimit → k ≤ 5 → next ≤ crossingLimit
   next-limit h g =
@@ -48,9 +44,8 @@ module _ (x k : ℕ) where
   -- The numbers in between stand in the same block.
   pub same-block : (y : ℕ) → x ≤ y → y < next → x / 2 ^ k ≡ y / 2 ^ k
   same-block y h g =
-      let lower : x / 2 ^ k ≤ y / 2 ^ k = shr-mono k h in
       let upper : y / 2 ^ k < x / 2 ^ k + 1 = div-lt-iff-lt-mul (pow-pos k) .1 g in
-      omega arith
+      omega (arith, shr-mono k h)
 
 -- ---- the test of a crossing
 
@@ -60,12 +55,9 @@ module _ (d : Shape) (x : ℕ) where
 
   pub crossing-is : isCrossing d x ≡ true → (x < crossingLimit) × (x % unused ≡ 0)
   unfolding isCrossing
-  crossing-is e = go (ltb x crossingLimit) refl (eqb (x % unused) 0) refl e
-    where
-      go : (a : Bool) → ltb x crossingLimit ≡ a → (b : Bool) → eqb (x % unused) 0 ≡ b → a && b ≡ true → (x < crossingLimit) × (x % unused ≡ 0)
-      go true f true g h = (omega (arith, tests), omega (arith, tests))
-      go true f false g h = absurd (false≢true h)
-      go false f b g h = absurd (false≢true h)
+  crossing-is e = cases (ltb x crossingLimit)
+      (λ f. (omega (arith, tests), eqb-true (x % unused) 0 (rw f at e)))
+      (λ f. absurd (false≢true (rw f at e)))
 
   pub is-crossing : x < crossingLimit → x % unused ≡ 0 → isCrossing d x ≡ true
   unfolding isCrossing
@@ -78,16 +70,11 @@ unfolding putFirst
 put-append k p x none ms qs = refl
 put-append k p x (some is) ms qs = refl
 
-keep-first : (b : Bool) (a : ℕ) (ys : List ℕ) → keepIf b a ys ≡ keepIf b a [] ++ ys
-unfolding keepIf
-keep-first true a ys = refl
-keep-first false a ys = refl
-
 module _ (n : ℕ) (s : Shape) (k : ℕ) (p : Pattern) where
   under-append : (xs ys : List ℕ) → fittingUnder n s k p (xs ++ ys) ≡ fittingUnder n s k p xs ++ fittingUnder n s k p ys
   unfolding fittingUnder
   under-append [] ys = refl
-  under-append (x ∷ xs) ys = ap (putFirst k p x (matched (redrawn x (p .drawing)) n s)) (under-append xs ys) ∙ put-append k p x (matched (redrawn x (p .drawing)) n s) (fittingUnder n s k p xs) (fittingUnder n s k p ys)
+  under-append (x ∷ xs) ys = rw (under-append xs ys, put-append)
 
   -- Those under `count` crossings from a on; those below x; and that under x, if there is one.
   abbrev matchesFrom : ℕ → ℕ → List Match
@@ -102,26 +89,19 @@ module _ (n : ℕ) (s : Shape) (k : ℕ) (p : Pattern) where
   abbrev Missing : ℕ → Type 0
   Missing y = isCrossing (p .drawing) y ≡ true → matched (redrawn y (p .drawing)) n s ≡ none
 
-  -- One number more.
-  from-first : (a m : ℕ) → matchesFrom a (suc m) ≡ fittingUnder n s k p (keepIf (isCrossing (p .drawing) a) a []) ++ matchesFrom (suc a) m
-  unfolding counted select
-  from-first a m = ap (fittingUnder n s k p) (keep-first (isCrossing (p .drawing) a) a (select (isCrossing (p .drawing)) (counted (suc a) m))) ∙ under-append (keepIf (isCrossing (p .drawing) a) a []) (select (isCrossing (p .drawing)) (counted (suc a) m))
+  -- One number more, without a match and with one.
+  first-missing : (a m : ℕ) → Missing a → matchesFrom a (suc m) ≡ matchesFrom (suc a) m
+  unfolding counted select keepIf fittingUnder putFirst
+  first-missing a m h = cases (isCrossing (p .drawing) a) (λ e. rw (e, h e)) (λ e. rw e)
 
-  first-missing : (a : ℕ) → Missing a → fittingUnder n s k p (keepIf (isCrossing (p .drawing) a) a []) ≡ []
-  first-missing a h = go (isCrossing (p .drawing) a) refl
-    where
-      go : (b : Bool) → isCrossing (p .drawing) a ≡ b → fittingUnder n s k p (keepIf b a []) ≡ []
-      go true e = unfold keepIf fittingUnder in ap (λ o. putFirst k p a o []) (h e) ∙ (unfold putFirst in refl)
-      go false e = unfold keepIf fittingUnder in refl
-
-  first-kept : (a : ℕ) → isCrossing (p .drawing) a ≡ true → fittingUnder n s k p (keepIf (isCrossing (p .drawing) a) a []) ≡ matchesAt a
-  unfolding keepIf fittingUnder
-  first-kept a e = ap (λ b. fittingUnder n s k p (keepIf b a [])) e
+  first-kept : (a m : ℕ) → isCrossing (p .drawing) a ≡ true → matchesFrom a (suc m) ≡ matchesAt a ++ matchesFrom (suc a) m
+  unfolding counted select keepIf fittingUnder
+  first-kept a m e = rw e (put-append k p a (matched (redrawn a (p .drawing)) n s) [] (matchesFrom (suc a) m))
 
   none-from : (a m : ℕ) → ((y : ℕ) → a ≤ y → y < a + m → Missing y) → matchesFrom a m ≡ []
   unfolding counted select fittingUnder
   none-from a zero h = refl
-  none-from a (suc m) h = from-first a m ∙ ap₂ _++_ (first-missing a (h a (omega arith) (omega arith))) (none-from (suc a) m (λ y f g. h y (omega arith) (omega arith)))
+  none-from a (suc m) h = first-missing a m (h a (omega arith) (omega arith)) ∙ none-from (suc a) m (λ y f g. h y (omega arith) (omega arith))
 
   counted-append : (a m l : ℕ) → counted a (m + l) ≡ counted a m ++ counted (a + m) l
   unfolding counted
@@ -131,15 +111,11 @@ module _ (n : ℕ) (s : Shape) (k : ℕ) (p : Pattern) where
   -- A crossing that was tried, and those that may be passed over.
   pub below-more : (x x′ : ℕ) → x < x′ → isCrossing (p .drawing) x ≡ true → ((y : ℕ) → x < y → y < x′ → Missing y) → matchesBelow x′ ≡ matchesBelow x ++ matchesAt x
   below-more x x′ h e f =
-      let test = isCrossing (p .drawing) in
       let m = x′ - suc x in
       let g : x′ ≡ x + suc m = omega arith in
       ap matchesBelow g
-      ∙ ap (λ l. fittingUnder n s k p (select test l)) (counted-append 0 x (suc m) ∙ ap (λ i. counted 0 x ++ counted i (suc m)) (zero-add x))
-      ∙ ap (fittingUnder n s k p) (select-append test (counted 0 x) (counted x (suc m)))
-      ∙ under-append (select test (counted 0 x)) (select test (counted x (suc m)))
-      ∙ ap (λ r. matchesBelow x ++ r)
-      (from-first x m ∙ ap₂ _++_ (first-kept x e) (none-from (suc x) m (λ y a b. f y a (omega arith))) ∙ append-nil (matchesAt x))
+      ∙ rw (counted-append 0 x (suc m), zero-add x, select-append (isCrossing (p .drawing)) (counted 0 x) (counted x (suc m)), under-append)
+      (rw (first-kept x m e, none-from (suc x) m (λ y a b. f y a (omega arith)), append-nil))
 
 -- ---- after a walk
 
@@ -152,29 +128,20 @@ module _ {d s : Shape} {n x pins : ℕ} {walked : Walked} (sound : SoundDrawing 
   after = next x (5 - bits)
 
   pub bits-few : bits ≤ nands d
-  bits-few = go (walked .matched)
-    where
-      go : (b : Bool) → cond b (nands d) (walked .used) ≤ nands d
-      go true = omega arith
-      go false = walk-is .used-few
+  bits-few = cases (walked .matched) (λ e. rw e (omega arith)) (λ e. rw e (walk-is .used-few))
 
   pub passed-over : (y : ℕ) → x < y → y < after → isCrossing d y ≡ true → matched (redrawn y d) n s ≡ none
-  passed-over y h g e = go (walked .matched) refl g
-    where
-      go : (b : Bool) → walked .matched ≡ b → y < next x (5 - cond b (nands d) (walked .used)) → matched (redrawn y d) n s ≡ none
-      go true m g =
-          let k = 5 - nands d in
-          let same = same-block x k y (omega arith) g in
-          absurd (omega (arith, split x k, split y k, crossing-is d x crossing .1, crossing-is d y e .1, ap (λ q. q * 2 ^ k) same))
-      go false m g =
-          matched-laid (redrawn y d) n s (redrawn-sound y sound .gate)
-          ∙ walk-is .ruled-out m y (same-block x (5 - walked .used) y (omega arith) g)
+  passed-over y h g e = cases (walked .matched)
+      (λ m.
+      let k = 5 - nands d in
+      let same = same-block x k y (omega arith) (rw m at g) in
+      absurd (omega (arith, split x k, split y k, crossing-is d x crossing .1, crossing-is d y e .1, ap (λ q. q * 2 ^ k) same)))
+      (λ m. matched-laid (redrawn y d) n s (redrawn-sound y sound .gate) ∙ walk-is .ruled-out m y (same-block x (5 - walked .used) y (omega arith) (rw m at g)))
 
   pub crossing-after : after < crossingLimit → isCrossing d after ≡ true
   crossing-after h =
-      let e : (bits-over) + (5 - nands d) ≡ 5 - bits = omega (arith, bits-few) in
-      let f : 2 ^ (5 - bits) ≡ 2 ^ bits-over * 2 ^ (5 - nands d) = ap (λ i. 2 ^ i) (sym e) ∙ pow-add 2 bits-over (5 - nands d) in
-      is-crossing d after h (ap (λ b. ((x / 2 ^ (5 - bits) + 1) * b) % 2 ^ (5 - nands d)) f ∙ ap (λ i. i % 2 ^ (5 - nands d)) (sym (mul-assoc (x / 2 ^ (5 - bits) + 1) (2 ^ bits-over) (2 ^ (5 - nands d)))) ∙ mul-mod-left ((x / 2 ^ (5 - bits) + 1) * 2 ^ bits-over) (2 ^ (5 - nands d)))
-    where
-      bits-over : ℕ
-      bits-over = nands d - bits
+      let over = nands d - bits in
+      let e : over + (5 - nands d) ≡ 5 - bits = omega (arith, bits-few) in
+      let f : 2 ^ (5 - bits) ≡ 2 ^ over * 2 ^ (5 - nands d) = rw (← e) (pow-add 2 over (5 - nands d)) in
+      is-crossing d after h
+      (ap (λ b. ((x / 2 ^ (5 - bits) + 1) * b) % 2 ^ (5 - nands d)) f ∙ rw (← mul-assoc (x / 2 ^ (5 - bits) + 1)) (mul-mod-left ((x / 2 ^ (5 - bits) + 1) * 2 ^ over) (2 ^ (5 - nands d))))

@@ -1,15 +1,16 @@
 -- The patterns of a sound library, tried one after another at a node, each under its crossings.
 use Prim.Native.Nat.{ℕ, suc, _+_, _-_, _*_, _/_, _≤_, _<_}
-use mathlib.Core.Path.{_≡_, refl, sym, ap, ap₂, subst, _∙_}
+use mathlib.Core.Path.{_≡_, refl, sym, ap, _∙_}
 use mathlib.Core.Bool.{Bool, true, false, cond, true≢false, false≢true}
 use mathlib.Core.List.{List, [], _∷_, _++_, map, map-append, append-assoc, append-nil, List·Memᴰ, List·Memᴰ·head, List·Memᴰ·tail, List·Memᴰ·not-nil, Memᴰ·of-map}
 use mathlib.Core.Option.{Option, none, some}
-use native.Mathlib.Nat.{zero-add, add-zero, add-suc, suc-add}
+use native.Mathlib.Nat.{zero-add, add-zero}
 use native.Mathlib.Numerals.{add-one}
 use native.Mathlib.Omega.{arith}
 use lib.ListN.{length, getD, set, take, drop, length-append, length-map}
 use lib.Seq.{sets, take-suc, length-take-le}
 use borrow.Rule.Slice.PartMut.{putMid}
+use borrow.Table.Steps.{cases}
 use Rattle.fields.proofs.Lists.{mid-sets, at-map}
 use Rattle.sheets_rules.specs.Model.{Shape, Library, Pattern, Tree, patterns, nands}
 use Rattle.sheets_rules.specs.Inside.Layout.{tableFrom, rowWords}
@@ -20,12 +21,12 @@ use Rattle.sheets_rules.proofs.Patterns.{sound-pattern}
 use Rattle.covers.specs.Lists.{keepIf, select}
 use Rattle.covers.specs.Crossing.{crossingLimit, redrawn, isCrossing, counted, crossings}
 use Rattle.covers.specs.Match.{Input, Match, laid, matched, putFirst, fittingUnder, fittingFrom, fitting}
-use Rattle.covers.proofs.Basics.{at-in}
+use Rattle.covers.proofs.Basics.{option-cases, at-in}
 use Rattle.covers.proofs.Matching.{whenever, IsFitting, fitting-are}
 use Rattle.covers.proofs.Nodes.{root-in}
 use Rattle.overlay.specs.declared.Walked.{Walked}
 use Rattle.overlay.specs.Inside.Standing.{extent, Measured}
-use Rattle.overlay.specs.Inside.Promises.{WalkedIs, WalkIs}
+use Rattle.overlay.specs.Inside.Promises.{WalkIs}
 use Rattle.overlay.proofs.Patterns.{pinned, redrawn-sound, FromDrawing, laid-from, matched-laid, noPattern, patternAt, at-hand, row-stored, walkable}
 use Rattle.matching.specs.Inside.Found.{matchBytes, matchTable, inputsAt, inputsBytes, hitOf}
 use Rattle.matching.specs.Inside.Promises.{Few, Writable, Trying, Ready}
@@ -50,19 +51,12 @@ module _ {pins : ℕ} {d : Shape} (sound : SoundDrawing pins d) (few-pins : pins
       record { few = omega (arith, f .few, again .nands); pinned = λ i m. pinned again f i m }
 
   pub writable : {walked : Walked} → WalkIs d s n x walked → Writable (matched (redrawn x d) n s) walked
-  writable {walked} w = record { walked-is = subst (λ o. WalkedIs o walked) (sym gate) (w .found-is); few = go (matched (redrawn x d) n s) refl }
-    where
-      go : (o : Option (List Input)) → matched (redrawn x d) n s ≡ o → Few o
-      go none e = tt
-      go (some is) e = inputs-sound e .few
+  writable w = record { walked-is = rw gate (w .found-is); few = option-cases (matched (redrawn x d) n s) (λ e. rw e tt) (λ is e. rw e (inputs-sound e .few)) }
 
 -- What is written for a walk.
 pub missing : {o : Option (List Input)} {walked : Walked} → Writable o walked → walked .matched ≡ false → o ≡ none
-missing {o} {walked} w e = go o (w .walked-is)
-  where
-    go : (o : Option (List Input)) → WalkedIs o walked → o ≡ none
-    go none h = refl
-    go (some is) h = absurd (false≢true (sym e ∙ h .matches))
+missing {o = none} w e = refl
+missing {o = some is} w e = absurd (false≢true (sym e ∙ w .walked-is .matches))
 
 pub record There (o : Option (List Input)) (walked : Walked) : Type 0 where
   pub inputs : List Input
@@ -70,11 +64,8 @@ pub record There (o : Option (List Input)) (walked : Walked) : Type 0 where
   pub writable : Writable (some inputs) walked
 
 pub there : {o : Option (List Input)} {walked : Walked} → Writable o walked → walked .matched ≡ true → There o walked
-there {o} {walked} w e = go o refl w
-  where
-    go : (u : Option (List Input)) → o ≡ u → Writable u walked → There o walked
-    go none f h = absurd (true≢false (sym e ∙ h .walked-is))
-    go (some is) f h = record { inputs = is; is-there = f; writable = h }
+there {o = none} w e = absurd (true≢false (sym e ∙ w .walked-is))
+there {o = some is} w e = record { inputs = is; is-there = refl; writable = w }
 
 module _ (k x : ℕ) (p : Pattern) (t : List ℕ) where
   pub wrote-none : {o : Option (List Input)} → o ≡ none → (0 ≡ length (putFirst k p x o [])) × (t ≡ tableFrom matchBytes t 0 (map hitOf (putFirst k p x o [])))
@@ -122,11 +113,8 @@ module _ (n : ℕ) (s : Shape) (k : ℕ) (p : Pattern) (x : ℕ) {walked : Walke
       let ms = matchesAt n s k p x in
       let o = matched (redrawn x (p .drawing)) n s in (
         omega (arith, ap length more, length-append fs ms, h .0),
-        ap (putMid (matchBytes * found) m t) (h .1)
-            ∙ lent-back t found m (map hitOf ms) e g (omega (arith, length-map ms hitOf, put-few k p x o)) (put-small k p x o (w .few))
-            ∙ ap₂ (λ t′ i. tableFrom matchBytes t′ i (map hitOf ms)) et (ec ∙ ap (λ i. count + i) (sym (length-map fs hitOf)))
-            ∙ sym (table-append matchBytes t₀ count (map hitOf fs) (map hitOf ms))
-            ∙ ap (tableFrom matchBytes t₀ count) (sym (ap (map hitOf) more ∙ map-append hitOf fs ms)),
+        rw (h .1, lent-back t found m (map hitOf ms) e g (omega (arith, length-map ms hitOf, put-few k p x o)) (put-small k p x o (w .few)))
+            (rw (more, map-append hitOf fs ms, table-append matchBytes t₀ count (map hitOf fs), length-map fs hitOf, ← ec, ← et)),
       )
 
 -- Those below the last are all.
@@ -147,7 +135,7 @@ module _ {row ss zs : List ℕ} {n k room count : ℕ} {p : Pattern} {s : Shape}
   module _ (x : ℕ) (crossing : isCrossing (p .drawing) x ≡ true) {walked : Walked} (walk-is : WalkIs (p .drawing) s n x walked)
       (told decides : ℕ) (told-is : told ≡ nands (p .drawing)) (decides-is : decides ≡ cond (walked .matched) told (walked .used)) where
     same : decides ≡ bits (t .sound) few-nands walk-is crossing
-    same = decides-is ∙ ap (λ i. cond (walked .matched) i (walked .used)) told-is
+    same = decides-is ∙ rw told-is
 
     pub decides-few : decides ≤ 5
     decides-few = omega (arith, same, bits-few (t .sound) few-nands walk-is crossing, few-nands)
@@ -158,11 +146,11 @@ module _ {row ss zs : List ℕ} {n k room count : ℕ} {p : Pattern} {s : Shape}
 
       pub more-below : matchesBelow n s k p x′ ≡ matchesBelow n s k p x ++ matchesAt n s k p x
       more-below =
-          below-more n s k p x x′ (subst (λ i. x < i) (sym same-next) (next-above x (5 - bits (t .sound) few-nands walk-is crossing))) crossing
-          (λ y a b. passed-over (t .sound) few-nands walk-is crossing y a (subst (λ i. y < i) same-next b))
+          below-more n s k p x x′ (rw same-next (next-above x (5 - bits (t .sound) few-nands walk-is crossing))) crossing
+          (λ y a b. passed-over (t .sound) few-nands walk-is crossing y a (rw same-next at b))
 
       pub next-crosses : x′ < crossingLimit → isCrossing (p .drawing) x′ ≡ true
-      next-crosses h = subst (λ i. isCrossing (p .drawing) i ≡ true) (sym same-next) (crossing-after (t .sound) few-nands walk-is crossing (subst (λ i. i < crossingLimit) same-next h))
+      next-crosses h = rw same-next (crossing-after (t .sound) few-nands walk-is crossing (rw same-next at h))
 
 -- ---- one turn of the loop over the patterns
 
@@ -176,19 +164,15 @@ matchesOf l n s j = fittingUnder n s j (patternAt l j) (crossings (patternAt l j
 fitting-more : (n : ℕ) (s : Shape) (k : ℕ) (ps : List Pattern) (p : Pattern) →
     fittingFrom n s k (ps ++ (p ∷ [])) ≡ fittingFrom n s k ps ++ fittingUnder n s (k + length ps) p (crossings (p .drawing))
 unfolding fittingFrom
-fitting-more n s k [] p = append-nil (fittingUnder n s k p (crossings (p .drawing))) ∙ ap (λ i. fittingUnder n s i p (crossings (p .drawing))) (sym (add-zero k))
+fitting-more n s k [] p = rw (append-nil, add-zero)
 fitting-more n s k (q ∷ ps) p =
-    let first = fittingUnder n s k q (crossings (q .drawing)) in
-    ap (λ r. first ++ r) (fitting-more n s (suc k) ps p ∙ ap (λ i. fittingFrom n s (suc k) ps ++ fittingUnder n s i p (crossings (p .drawing))) (suc-add k (length ps) ∙ sym (add-suc k (length ps))))
-    ∙ sym (append-assoc first (fittingFrom n s (suc k) ps) (fittingUnder n s (k + suc (length ps)) p (crossings (p .drawing))))
+    let e : suc k + length ps ≡ k + suc (length ps) = omega arith in
+    rw (fitting-more n s (suc k) ps p, e) (sym (append-assoc (fittingUnder n s k q (crossings (q .drawing))) (fittingFrom n s (suc k) ps) _))
 
 before-more : (l : Library) (n : ℕ) (s : Shape) (j : ℕ) → j < length (patterns l) → matchesBefore l n s (j + 1) ≡ matchesBefore l n s j ++ matchesOf l n s j
 before-more l n s j h =
-    let ps = patterns l in
-    let p = patternAt l j in
-    ap (fittingFrom n s 0) (ap (λ i. take i ps) (add-one j) ∙ take-suc ps j noPattern h)
-    ∙ fitting-more n s 0 (take j ps) p
-    ∙ ap (λ i. fittingFrom n s 0 (take j ps) ++ fittingUnder n s i p (crossings (p .drawing))) (zero-add (length (take j ps)) ∙ length-take-le j ps (omega arith))
+    rw (add-one j, take-suc (patterns l) j noPattern h)
+    (fitting-more n s 0 (take j (patterns l)) (patternAt l j) ∙ rw (zero-add, length-take-le j (patterns l) (omega arith)))
 
 pub pattern-turn : (l : Library) (n : ℕ) (s : Shape) (j : ℕ) → j < length (patterns l) → (t₀ t t′ : List ℕ) (count r : ℕ) →
     count ≡ length (matchesBefore l n s j) → t ≡ tableFrom matchBytes t₀ 0 (map hitOf (matchesBefore l n s j)) →
@@ -199,10 +183,7 @@ pattern-turn l n s j h t₀ t t′ count r ec et w =
     let ms = matchesOf l n s j in
     let more = before-more l n s j h in (
       omega (arith, ap length more, length-append fs ms, w .0),
-      w .1
-          ∙ ap₂ (λ a i. tableFrom matchBytes a i (map hitOf ms)) et (ec ∙ sym (zero-add (length (map hitOf fs)) ∙ length-map fs hitOf))
-          ∙ sym (table-append matchBytes t₀ 0 (map hitOf fs) (map hitOf ms))
-          ∙ ap (tableFrom matchBytes t₀ 0) (sym (ap (map hitOf) more ∙ map-append hitOf fs ms)),
+      rw (more, map-append hitOf fs ms, table-append matchBytes t₀ 0 (map hitOf fs), length-map fs hitOf, zero-add, ← ec, ← et) (w .1),
     )
 
 -- How many matches there may be.
@@ -211,15 +192,10 @@ unfolding fittingUnder
 under-few n s k p [] = omega arith
 under-few n s k p (x ∷ xs) = omega (arith, put-more k p x (matched (redrawn x (p .drawing)) n s) (fittingUnder n s k p xs), under-few n s k p xs)
 
-keep-few : (b : Bool) (x : ℕ) (ys : List ℕ) → length (keepIf b x ys) ≤ suc (length ys)
-unfolding keepIf
-keep-few true x ys = omega arith
-keep-few false x ys = omega arith
-
 select-few : (test : ℕ → Bool) (xs : List ℕ) → length (select test xs) ≤ length xs
-unfolding select
+unfolding select keepIf
 select-few test [] = omega arith
-select-few test (x ∷ xs) = omega (arith, keep-few (test x) x (select test xs), select-few test xs)
+select-few test (x ∷ xs) = let few = select-few test xs in cases (test x) (λ e. rw e (omega arith)) (λ e. rw e (omega arith))
 
 crossings-few : (d : Shape) → length (crossings d) ≤ 32
 unfolding crossings counted

@@ -1,6 +1,6 @@
 -- A hit, written byte by byte, and read back.
 use Prim.Native.Nat.{ℕ, zero, suc, _+_, _*_, _<_, _≤_}
-use mathlib.Core.Path.{_≡_, refl, sym, ap, ap₂, _∙_}
+use mathlib.Core.Path.{_≡_, refl, ap, _∙_}
 use mathlib.Core.List.{List, [], _∷_, _++_}
 use native.Mathlib.Numerals.{add-one}
 use native.Mathlib.Omega.{arith}
@@ -57,14 +57,6 @@ pub inputs-turn : {is : List Input} {walked : Walked} → Walks is walked → le
 unfolding inputsBytes
 inputs-turn {is} {walked} w few k t t₁ h e =
     let here : k < length is = omega (arith, w .count-is) in
-    let i = getD is k noInput in
-    let old = inputsBytes (take k is) in
-    let new = i .pin ∷ (i .node ∷ []) in
-    let long : length old ≡ 2 * k = length-inputs (take k is) ∙ ap (λ j. 2 * j) (length-take-le k is (omega arith)) in
-    let more : inputsBytes (take (k + 1) is) ≡ old ++ new = ap (λ j. inputsBytes (take j is)) (add-one k) ∙ ap inputsBytes (take-suc is k noInput here) ∙ inputs-append (take k is) (i ∷ []) in
-    let next : inputPlace k + 1 ≡ suc (inputPlace k) = add-one (inputPlace k) in
-    ap₂ (λ x y. set (set t₁ (inputPlace k) x) (inputPlace k + 1) y) (noted (λ j. j .pin) (walked .pins) is k (w .pins-are) few here) (noted (λ j. j .node) (walked .nodes) is k (w .nodes-are) few here)
-    ∙ ap₂ (λ t′ j. set (set t′ (inputPlace k) (i .pin)) j (i .node)) e next
-    ∙ ap (λ j. sets (sets t inputsAt old) (inputsAt + j) new) (sym long)
-    ∙ sym (sets-append t inputsAt old new)
-    ∙ ap (sets t inputsAt) (sym more)
+    let long : length (inputsBytes (take k is)) ≡ 2 * k = length-inputs (take k is) ∙ rw (length-take-le k is (omega arith)) in
+    rw (noted (λ j. j .pin) (walked .pins) is k (w .pins-are) few here, noted (λ j. j .node) (walked .nodes) is k (w .nodes-are) few here)
+    (rw (e, add-one (inputPlace k), add-one k, take-suc is k noInput here, inputs-append, sets-append, long))

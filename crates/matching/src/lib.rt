@@ -3,6 +3,7 @@
 use overlay::Crossing;
 use overlay::Extents;
 use overlay::Walked;
+use sheets_rules::Limits;
 use sheets_rules::PatternRow;
 ghost use mathlib.Core.Path.{_≡_};
 ghost use mathlib.Core.Bool.{cond};
@@ -36,9 +37,10 @@ impl Hit {
 
     pub const BYTES: usize = 16;
 
-    pub const MATCHES: usize = 4096;
+    // Each pattern under each crossing, at the most.
+    pub const MATCHES: usize = Limits::PATTERNS * Crossing::NUMBERS as usize;
 
-    pub const TABLE: usize = 65536;
+    pub const TABLE: usize = Hit::BYTES * Hit::MATCHES;
 }
 
 // The bytes of a match's inputs.

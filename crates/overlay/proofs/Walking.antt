@@ -21,7 +21,7 @@ use Rattle.covers.proofs.Matching.{size-pos}
 use Rattle.overlay.specs.declared.Left.{Left}
 use Rattle.overlay.specs.declared.Walked.{Walked}
 use Rattle.overlay.specs.Inside.Standing.{Stands, extent, Drawn}
-use Rattle.overlay.specs.Inside.Promises.{Passable, branched, passed, resumed, WalkedIs, SameBits, WalkIs, Walkable}
+use Rattle.overlay.specs.Inside.Promises.{atRoot, Passable, branched, passed, resumed, WalkedIs, SameBits, WalkIs, Walkable}
 
 -- ---- drawings laid in a row
 
@@ -278,9 +278,9 @@ module _ (row words ss zs : List ℕ) (d s : Shape) (n crossing : ℕ) where
   symbolAt left = getD row (symbolsAt + left .spot % 32) 0
 
   module _ (w : Walkable row words ss zs n d s) where
-    pub going-start : Going (replicate 6 0) (replicate 6 0) 0 (record { spot = 0; depth = 0; waiting = replicate 6 0; used = 0 }) n
+    pub going-start : {left : Left} → left ≡ atRoot → Going (replicate 6 0) (replicate 6 0) 0 left n
     unfolding laidInRow rowSize partsLeaves joined redrawn
-    going-start = record {
+    going-start e = rw e record {
       noted = [];
       spot = 0;
       before = 0;

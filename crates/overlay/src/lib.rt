@@ -8,7 +8,7 @@ ghost use Prim.Native.Nat.{_<_, _≤_, max};
 ghost use Rattle.sheets_rules.specs.Model.{Shape, size};
 ghost use Rattle.covers.specs.Crossing.{exchanged, crossingLimit};
 ghost use Rattle.overlay.specs.Inside.Standing.{Extending, ExtentFound, DrawingStored, DrawingMeasured};
-ghost use Rattle.overlay.specs.Inside.Promises.{Passable, passed, resumed, Walkable, DrawingWalked};
+ghost use Rattle.overlay.specs.Inside.Promises.{atRoot, Passable, passed, resumed, Walkable, DrawingWalked};
 
 // How many crossing numbers there are: five bits, the first the highest.
 pub struct Crossing {}
@@ -38,6 +38,20 @@ pub struct Left {
     pub used: usize,
 }
 
+impl Left {
+    // At the drawing's root, where no branch waits.
+    fn at_root() -> Left
+        ensures { λ r. ⌜ r ≡ atRoot ⌝ }
+    {
+        Left {
+            spot: 0,
+            depth: 0,
+            waiting: [0u8; Slots::PINS],
+            used: 0,
+        }
+    }
+}
+
 // What a walk over a pattern finds: whether it matches and, if so, how many inputs it has, with the pin and the node of each in the
 // order of the tree; if not, how many bits of the crossing tell so.
 pub struct Walked {
@@ -48,19 +62,25 @@ pub struct Walked {
     pub nodes: [u8; Slots::PINS],
 }
 
+fn wide(x: u8) -> usize
+    ensures { λ r. ⌜ (r ≡ x) × (r ≤ 255) ⌝ }
+{
+    x as usize
+}
+
 // The extent of the node numbered k, from its symbol and the extents of the nodes after it.
-fn extent_from(symbol: u32, words: [u8; Limits::PATTERN_NODES], k: usize) -> usize
-    requires { ⌜ ((s : Shape) × Extending symbol words k s) ⌝ }
-    ensures { λ r. ⌜ ExtentFound symbol words k r ⌝ }
+fn extent_from(symbol: u32, words: &[u8; Limits::PATTERN_NODES], k: usize) -> usize
+    requires { ⌜ ((s : Shape) × Extending symbol (now words) k s) ⌝ }
+    ensures { λ r. ⌜ ExtentFound symbol (now (words .entry)) k r ⌝ }
 {
     if Packed::LEAF <= symbol {
         return 1;
     }
-    let first = words[k + 1] as usize;
+    let first = wide(words[k + 1]);
     if symbol == Packed::INVERTER {
         return 1 + first;
     }
-    Extents::FIRST + first + words[k + 1 + first % Extents::NAND] as usize
+    Extents::FIRST + first + wide(words[k + 1 + first % Extents::NAND])
 }
 
 // The extents of the drawing in a pattern's row, from the last node to the first.
@@ -72,7 +92,7 @@ pub fn measure(row: &[u32]) -> Extents
     let mut k = row[PatternRow::SIZE] as usize;
     while 0 < k {
         k -= 1;
-        words[k] = extent_from(row[PatternRow::SYMBOLS + k], words, k) as u8;
+        words[k] = extent_from(row[PatternRow::SYMBOLS + k], &words, k) as u8;
     }
     Extents { words }
 }
@@ -152,12 +172,7 @@ pub fn walk<'a>(
     let mut pins = [0u8; Slots::PINS];
     let mut nodes = [0u8; Slots::PINS];
     let mut count: usize = 0;
-    let mut left = Left {
-        spot: 0,
-        depth: 0,
-        waiting: [0u8; Slots::PINS],
-        used: 0,
-    };
+    let mut left = Left::at_root();
     let mut at = n;
     loop {
         let symbol = row[PatternRow::SYMBOLS + left.spot % Extents::NAND];
@@ -174,7 +189,7 @@ pub fn walk<'a>(
             at += 1;
             left = pass_gate(left, symbol, extents, crossing);
         } else {
-            pins[count] = (symbol - 2) as u8;
+            pins[count] = (symbol - Packed::LEAF) as u8;
             nodes[count] = at as u8;
             count += 1;
             at += sizes[at] as usize;

@@ -100,15 +100,8 @@ fn map_trees(rows: &[u32], bins: Bins, part: PartRecord, most: usize, work: &mut
     while k < count {
         let tree = trees[k];
         let first = Drivers::TREE * k;
-        let mapped = map_linked(
-            rows,
-            bins,
-            tree,
-            &drivers[first..first + Drivers::TREE],
-            &arrivals,
-            most,
-            work,
-        );
+        let own = &drivers[first..first + Drivers::TREE];
+        let mapped = map_linked(rows, bins, tree, own, &arrivals, most, work);
         let finding = mapped.finding;
         match finding {
             Finding::Refused(refusal) => {

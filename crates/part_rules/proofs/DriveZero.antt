@@ -21,13 +21,12 @@ use Rattle.shapes_rules.specs.Drawing.{shape}
 use Rattle.sheets_rules.specs.Model.{Tree}
 use Rattle.sheets_rules.specs.TreeSheet.{treeRules, treeTo}
 use Rattle.sheets_rules.specs.TreeWritten.{SoundCoded, Undriven}
-use Rattle.sheets_rules.specs.Report.{treeNumber, librarySaid, treeSaid}
+use Rattle.sheets_rules.specs.Report.{treeNumber, treeSaid}
 use Rattle.sheets_rules.proofs.TreeWritten.{same-with-plain}
-use Rattle.covers.specs.Lending.{lent}
-use Rattle.part_rules.specs.Part.{Link, Part}
+use Rattle.part_rules.specs.Part.{Link}
 use Rattle.part_rules.specs.PartSheet.{Counts, counts}
 use Rattle.part_rules.specs.PartRead.{linkNumber, sheetRead, treesFrom, linksJudged, afterCounts, part}
-use Rattle.part_rules.specs.Outcome.{partBytes, partSheets, partOutcome}
+use Rattle.part_rules.specs.Outcome.{partOutcome}
 use Rattle.part_rules.specs.DriveZero.{SameTrees, none-left, one-more, SamePart, SamePartAlike, Written, sheetOf, plainSheetOf, PartDriveZero}
 use Rattle.part_rules.proofs.Fronts.{alike-tree, alike-counts}
 

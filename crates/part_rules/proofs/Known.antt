@@ -4,12 +4,12 @@ use mathlib.Core.Path.{_≡_, refl, sym, ap, ap₂, subst, _∙_}
 use mathlib.Core.Logic.{⊎-elim}
 use mathlib.Core.Bool.{true, false≢true}
 use mathlib.Core.List.{List·Memᴰ, List·Memᴰ·head, List·Memᴰ·append-cases, List·Memᴰ·eq-of-singleton, Memᴰ·append-left, Memᴰ·append-right}
-use mathlib.Core.Option.{Option, none, some, Option·getD}
+use mathlib.Core.Option.{Option, none, some}
 use native.Mathlib.Omega.{arith}
 use borrow.Author.Tests.{ltb-true, lt-ltb}
-use Rattle.sheets_rules.specs.Model.{Leaf, arrivalOf, Shape, leaf, inv, nand, size, leaves, Tree}
+use Rattle.sheets_rules.specs.Model.{Leaf, Shape, leaf, inv, nand, size, leaves, Tree}
 use Rattle.sheets_rules.specs.Inside.Sound.{SoundLeaf, SoundTree}
-use Rattle.covers.proofs.Basics.{FirstOf, nowhere, somewhere, first-of}
+use Rattle.covers.proofs.Basics.{option-cases, nowhere, somewhere, first-of}
 use Rattle.covers.proofs.Ascending.{Ascending, end, then, lowered, ascending-append, first-lowest}
 use Rattle.part_rules.specs.Part.{leafNodes, putIn, knownTree}
 use Rattle.part_rules.specs.Outcome.{latestLinked, isLate, lateLeaf}
@@ -45,16 +45,13 @@ module _ (f : ℕ → Option ℕ) (t : Tree) where
   -- The leaf that is named is the lowest that is too late, and none is named where none is.
   pub late-of : LateOf f t (lateLeaf f t)
   unfolding lateLeaf
-  late-of = go (lateLeaf f t) refl (first-of (λ n. isLate (f n)) (leafNodes 0 (t .shape)))
-    where
-      go : (o : Option ℕ) → lateLeaf f t ≡ o → FirstOf (λ n. isLate (f n)) (leafNodes 0 (t .shape)) o → LateOf f t o
-      go none e (nowhere a) = none-late (λ n h. false≢true (sym (a n (h .among)) ∙ is-late h))
-      go (some n) e (somewhere m h) =
-          let r = late-brought (f n) h in
-          lowest (record {
-            late = record { among = m; arrival = r .0; brought = r .1; late = r .2 };
-            none-below = λ k below g. omega (arith, first-lowest (λ n. isLate (f n)) (leaves-ascend 0 (t .shape)) e (g .among) (is-late g));
-          })
+  late-of = (elim (first-of (λ n. isLate (f n)) (leafNodes 0 (t .shape))) as (λ o x. lateLeaf f t ≡ o → LateOf f t o) [
+    | nowhere a ↦ λ e. none-late (λ n h. false≢true (sym (a n (h .among)) ∙ is-late h))
+    | somewhere {x = n} m h ↦ λ e.
+        let (a, brought, over) = late-brought (f n) h in
+        let none-below : (k : ℕ) → k < n → TooLate f t k → ⊥ = λ k below g. omega (arith, first-lowest (λ n. isLate (f n)) (leaves-ascend 0 (t .shape)) e (g .among) (is-late g)) in
+        lowest (record { late = record { among = m; arrival = a; brought = brought; late = over }; none-below = none-below })
+  ]) refl
 
 -- ---- a sound tree stays sound
 
@@ -69,11 +66,8 @@ put-size f n (nand a b) = ap₂ (λ (i k : ℕ). suc (i + k)) (put-size f (suc n
 put-sound : (f : ℕ → Option ℕ) (n : ℕ) (s : Shape) → ((x : Leaf) → List·Memᴰ x (leaves s) → SoundLeaf x) → ((m a : ℕ) → List·Memᴰ m (leafNodes n s) → f m ≡ some a → a ≤ latestLinked) →
     (y : Leaf) → List·Memᴰ y (leaves (putIn f n s)) → SoundLeaf y
 unfolding putIn leaves leafNodes
-put-sound f n (leaf x) own brought y m = rw (List·Memᴰ·eq-of-singleton m) (go (f n) refl, own x (List·Memᴰ·head refl) .1)
-  where
-    go : (o : Option ℕ) → f n ≡ o → Option·getD o (arrivalOf x) ≤ latestLinked
-    go none e = own x (List·Memᴰ·head refl) .0
-    go (some a) e = brought n a (List·Memᴰ·head refl) e
+put-sound f n (leaf x) own brought y m =
+    rw (List·Memᴰ·eq-of-singleton m) (option-cases (f n) (λ e. rw e (own x (List·Memᴰ·head refl) .0)) (λ a e. rw e (brought n a (List·Memᴰ·head refl) e)), own x (List·Memᴰ·head refl) .1)
 put-sound f n (inv a) own brought y m = put-sound f (suc n) a own brought y m
 put-sound f n (nand a b) own brought y m =
     ⊎-elim (put-sound f (suc n) a (λ x k. own x (Memᴰ·append-left (leaves b) k)) (λ i v k. brought i v (Memᴰ·append-left (leafNodes (suc n + size a) b) k)) y)
@@ -87,8 +81,5 @@ known-sound {f} {t} h early = record {
   load = h .load;
   required = h .required;
   size = rw (put-size f 0 (t .shape)) (h .size);
-  leaves = put-sound f 0 (t .shape) (h .leaves) in-time;
+  leaves = put-sound f 0 (t .shape) (h .leaves) (λ m a k e. let late : latestLinked < a → ⊥ = λ l. early m record { among = k; arrival = a; brought = e; late = l } in omega arith);
 }
-  where
-    in-time : (m a : ℕ) → List·Memᴰ m (leafNodes 0 (t .shape)) → f m ≡ some a → a ≤ latestLinked
-    in-time m a k e = let late : latestLinked < a → ⊥ = λ l. early m record { among = k; arrival = a; brought = e; late = l } in omega arith

@@ -1,21 +1,22 @@
 -- The links of a part, judged one after another: all are sound, or the first at fault is named. And what sound links bring.
-use Prim.Native.Nat.{ℕ, zero, suc, _≤_, _<_}
-use mathlib.Core.Path.{_≡_, refl, sym, ap, ap₂, subst, _∙_}
-use mathlib.Core.Logic.{_↔_, _⊎_, inl, inr}
-use mathlib.Core.Bool.{Bool, true, false, _&&_, cond, true≢false, false≢true}
+use Prim.Native.Nat.{ℕ, zero, suc, _<_}
+use mathlib.Core.Path.{_≡_, refl, sym, ap, subst, _∙_}
+use mathlib.Core.Logic.{_↔_, ⊎-elim}
+use mathlib.Core.Bool.{true, cond, true≢false, false≢true}
 use mathlib.Core.List.{List, [], _∷_, _++_, map, append-nil, List·Memᴰ, List·Memᴰ·head, List·Memᴰ·tail, List·Memᴰ·not-nil, Memᴰ·cast}
 use mathlib.Core.Option.{Option, none, some, Option·map, Option·none-ne-some, Option·some-injective}
 use native.Mathlib.Omega.{arith}
 use lib.Dec.{eqb, ltb}
 use lib.ListN.{length, take, drop, getD, getElem?, length-take, length-append, List·getD-map}
 use lib.Seq.{append-snoc, take-take, take-append-seam, getD-take, length-take-le}
+use borrow.Table.Steps.{cases}
 use borrow.Author.Tests.{ltb-true, ltb-false, eqb-true, eqb-false, eq-eqb}
 use Rattle.fields.specs.Reading.{start}
 use Rattle.fields.specs.Answer.{Answer, refused, success, refusedIn, _>>=_}
 use Rattle.fields.proofs.Answer.{answer-apart}
 use Rattle.sheets_rules.specs.Model.{Tree}
 use Rattle.covers.specs.Cover.{Cover, nothing}
-use Rattle.covers.proofs.Basics.{lt-or-le, each, at-in, at-below, at-value, any-true, true-any}
+use Rattle.covers.proofs.Basics.{lt-or-le, option-cases, each, at-in, at-below, at-value, any-true, true-any}
 use Rattle.part_rules.specs.Part.{Link, Part, leafNodes, driverOf, linkedArrival}
 use Rattle.part_rules.specs.PartSheet.{leafField, Counts, counts}
 use Rattle.part_rules.specs.PartRead.{linkNumber, driverNumber, sheetRead, treesFrom, isLeafOf, isFree, linkJudged, linksJudged, afterCounts, part}
@@ -54,29 +55,26 @@ data DriverIs (links : List Link) (k n : ℕ) : Option ℕ → Type 0 where
   undriven : ((x : Link) → List·Memᴰ x links → Names k n x → ⊥) → DriverIs links k n none
   driven : {x : Link} → List·Memᴰ x links → Names k n x → DriverIs links k n (some (x .driving))
 
+later : {x : Link} {xs : List Link} {k n : ℕ} {o : Option ℕ} → (Names k n x → ⊥) → DriverIs xs k n o → DriverIs (x ∷ xs) k n o
+later {k = k} {n} not (undriven h) = undriven (each {P = λ y. Names k n y → ⊥} not h)
+later not (driven m s) = driven (List·Memᴰ·tail m) s
+
 driver-of : (links : List Link) (k n : ℕ) → DriverIs links k n (driverOf links k n)
 unfolding driverOf
 driver-of [] k n = undriven (λ x m. absurd (List·Memᴰ·not-nil m))
-driver-of (x ∷ xs) k n = go (eqb (x .reading) k) refl (eqb (x .node) n) refl (driver-of xs k n)
-  where
-    later : (Names k n x → ⊥) → {o : Option ℕ} → DriverIs xs k n o → DriverIs (x ∷ xs) k n o
-    later not (undriven h) = undriven (each {P = λ y. Names k n y → ⊥} not h)
-    later not (driven m s) = driven (List·Memᴰ·tail m) s
-
-    go : (a : Bool) → eqb (x .reading) k ≡ a → (b : Bool) → eqb (x .node) n ≡ b → {o : Option ℕ} → DriverIs xs k n o → DriverIs (x ∷ xs) k n (cond (a && b) (some (x .driving)) o)
-    go true e true f r = driven (List·Memᴰ·head refl) (eqb-true (x .reading) k e, eqb-true (x .node) n f)
-    go true e false f r = later (λ s. eqb-false (x .node) n f (s .1)) r
-    go false e b f r = later (λ s. eqb-false (x .reading) k e (s .0)) r
+driver-of (x ∷ xs) k n = cases (eqb (x .reading) k)
+    (λ e. cases (eqb (x .node) n) (λ f. rw (e, f) (driven (List·Memᴰ·head refl) (eqb-true (x .reading) k e, eqb-true (x .node) n f))) (λ f. rw (e, f) (later (λ s. eqb-false (x .node) n f (s .1)) (driver-of xs k n))))
+    (λ e. rw e (later (λ s. eqb-false (x .reading) k e (s .0)) (driver-of xs k n)))
 
 module _ (trees : List Tree) where
   -- The test of a leaf says that it is one.
   leaf-exactly : (x : Link) → (isLeafOf (getElem? trees (x .reading)) (x .node) ≡ true) ↔ NamesLeaf trees x
   unfolding isLeafOf
-  leaf-exactly x = (go (getElem? trees (x .reading)) refl, λ h. rw (h .tree-is) (true-any (eqb (x .node)) (leafNodes 0 (h .tree .shape)) (h .among) (eq-eqb (x .node) (x .node) refl)))
-    where
-      go : (o : Option Tree) → getElem? trees (x .reading) ≡ o → isLeafOf o (x .node) ≡ true → NamesLeaf trees x
-      go none e h = absurd (false≢true h)
-      go (some t) e h = let r = any-true (eqb (x .node)) (leafNodes 0 (t .shape)) h in record { tree = t; tree-is = e; among = Memᴰ·cast (eqb-true (x .node) (r .0) (r .2)) (r .1) }
+  leaf-exactly x = (
+    λ h. option-cases (getElem? trees (x .reading)) (λ e. absurd (false≢true (rw e at h)))
+        (λ t e. let r = any-true (eqb (x .node)) (leafNodes 0 (t .shape)) (rw e at h) in record { tree = t; tree-is = e; among = Memᴰ·cast (eqb-true (x .node) (r .0) (r .2)) (r .1) }),
+    λ h. rw (h .tree-is) (true-any (eqb (x .node)) (leafNodes 0 (h .tree .shape)) (h .among) (eq-eqb (x .node) (x .node) refl)),
+  )
 
   -- No link before takes the leaf.
   abbrev Untaken : List Link → Link → Type 0
@@ -89,14 +87,14 @@ module _ (trees : List Tree) where
 
   link-promise : (before : List Link) (x : Link) → LinkPromise before x (linkJudged trees before x)
   unfolding linkJudged isFree
-  link-promise before x = go (isLeafOf (getElem? trees (x .reading)) (x .node)) refl (driver-of before (x .reading) (x .node)) (ltb (x .driving) (x .reading)) refl
-    where
-      go : (a : Bool) → isLeafOf (getElem? trees (x .reading)) (x .node) ≡ a → {o : Option ℕ} → DriverIs before (x .reading) (x .node) o → (c : Bool) → ltb (x .driving) (x .reading) ≡ c →
-          LinkPromise before x (cond (a && isFree o) (cond c (success (before ++ (x ∷ []))) (refused driverNumber (length before))) (refused linkNumber (leafField (length before))))
-      go false e d c f = at-fault (no-leaf (λ h. true≢false (sym (leaf-exactly x .1 h) ∙ e)))
-      go true e (driven m s) c f = at-fault (leaf-taken m s)
-      go true e (undriven h) true f = sound (leaf-exactly x .0 e) h (ltb-true (x .driving) (x .reading) f)
-      go true e (undriven h) false f = at-fault (not-lower (leaf-exactly x .0 e) h (ltb-false (x .driving) (x .reading) f))
+  link-promise before x = cases (isLeafOf (getElem? trees (x .reading)) (x .node))
+      (λ e. rw e (elim (driver-of before (x .reading) (x .node)) as (λ o y.
+      LinkPromise before x (cond (isFree o) (cond (ltb (x .driving) (x .reading)) (success (before ++ (x ∷ []))) (refused driverNumber (length before))) (refused linkNumber (leafField (length before))))) [
+        | driven m s ↦ at-fault (leaf-taken m s)
+        | undriven h ↦ cases (ltb (x .driving) (x .reading))
+            (λ f. rw f (sound (leaf-exactly x .0 e) h (ltb-true (x .driving) (x .reading) f))) (λ f. rw f (at-fault (not-lower (leaf-exactly x .0 e) h (ltb-false (x .driving) (x .reading) f))))
+      ]))
+      (λ e. rw e (at-fault (no-leaf (λ h. true≢false (sym (leaf-exactly x .1 h) ∙ e)))))
 
   -- ---- all links
 
@@ -104,16 +102,15 @@ module _ (trees : List Tree) where
   sound-more : {before : List Link} {x : Link} → SoundLinks trees before → NamesLeaf trees x → Untaken before x → x .driving < x .reading → SoundLinks trees (before ++ (x ∷ []))
   sound-more {before} {x} h leaf free lower = record {
     leaf = each-more {P = NamesLeaf trees} before (h .leaf) leaf;
-    free = λ j k y z lt at-j at-k. go j k y z lt at-j at-k (lt-or-le k (length before));
+    free = λ j k y z lt at-j at-k.
+        let in-j : getElem? before j ≡ some y = sym (at-front before (x ∷ []) j (omega (arith, at-below (before ++ (x ∷ [])) k at-k, length-append before (x ∷ [])))) ∙ at-j in
+        ⊎-elim (λ in-front. h .free j k y z lt in-j (sym (at-front before (x ∷ []) k in-front) ∙ at-k))
+        (λ last.
+        let here : length before ≡ k = omega (arith, at-below (before ++ (x ∷ [])) k at-k, length-append before (x ∷ [])) in
+        let same : x ≡ z = Option·some-injective x z (sym (at-seam before x []) ∙ ap (getElem? (before ++ (x ∷ []))) here ∙ at-k) in
+        rw (← same) (free y (at-in before j in-j))) (lt-or-le k (length before));
     lower = each-more {P = λ y. y .driving < y .reading} before (h .lower) lower;
   }
-    where
-      go : (j k : ℕ) (y z : Link) → j < k → getElem? (before ++ (x ∷ [])) j ≡ some y → getElem? (before ++ (x ∷ [])) k ≡ some z → (k < length before) ⊎ (length before ≤ k) → SameLeaf y z → ⊥
-      go j k y z lt at-j at-k (inl in-front) = h .free j k y z lt (sym (at-front before (x ∷ []) j (omega arith)) ∙ at-j) (sym (at-front before (x ∷ []) k in-front) ∙ at-k)
-      go j k y z lt at-j at-k (inr last) =
-          let here : length before ≡ k = omega (arith, at-below (before ++ (x ∷ [])) k at-k, length-append before (x ∷ [])) in
-          let same : x ≡ z = Option·some-injective x z (sym (at-seam before x []) ∙ ap (getElem? (before ++ (x ∷ []))) here ∙ at-k) in
-          rw (← same) (free y (at-in before j (sym (at-front before (x ∷ []) j (omega arith)) ∙ at-j)))
 
   -- What an answer to all links says: all are sound, or the first at fault is named.
   data LinksPromise (links : List Link) : Answer (List Link) → Type 0 where
@@ -123,19 +120,13 @@ module _ (trees : List Tree) where
   from : (before xs : List Link) → SoundLinks trees before → LinksPromise (before ++ xs) (linksJudged trees before xs)
   unfolding linksJudged
   from before [] h = rw (append-nil before) (all-sound h)
-  from before (x ∷ xs) h = go (link-promise before x) (from (before ++ (x ∷ [])) xs)
-    where
-      go : {a : Answer (List Link)} → LinkPromise before x a → (SoundLinks trees (before ++ (x ∷ [])) → LinksPromise (before ++ (x ∷ []) ++ xs) (linksJudged trees (before ++ (x ∷ [])) xs)) →
-          LinksPromise (before ++ x ∷ xs) (a >>= (λ links. linksJudged trees links xs))
-      go (sound leaf free lower) rest = subst (λ (l : List Link). LinksPromise l (linksJudged trees (before ++ (x ∷ [])) xs)) (append-snoc before x xs) (rest (sound-more h leaf free lower))
-      go (at-fault {number} {place} f) rest = let front = sym (take-append-seam before (x ∷ xs)) in
-          first-fault (record {
-            position = length before;
-            before = subst (SoundLinks trees) front h;
-            link = x;
-            link-is = at-seam before x xs;
-            fault = subst (λ (l : List Link). LinkFault trees l (length before) x number place) front f;
-          })
+  from before (x ∷ xs) h = elim (link-promise before x) as (λ a y. LinksPromise (before ++ x ∷ xs) (a >>= (λ links. linksJudged trees links xs))) [
+    | sound leaf free lower ↦ rw (append-snoc before x xs) at (from (before ++ (x ∷ [])) xs (sound-more h leaf free lower))
+    | at-fault {number} {place} f ↦
+        let front = sym (take-append-seam before (x ∷ xs)) in
+        let fault = subst (λ (l : List Link). LinkFault trees l (length before) x number place) front f in
+        first-fault (record { position = length before; before = rw front at h; link = x; link-is = at-seam before x xs; fault = fault })
+  ]
 
   links-promise : (links : List Link) → LinksPromise links (linksJudged trees [] links)
   links-promise links = from [] links (record { leaf = λ x m. absurd (List·Memᴰ·not-nil m); free = λ j k x y lt e. absurd (Option·none-ne-some x e); lower = λ x m. absurd (List·Memᴰ·not-nil m) })
@@ -157,15 +148,14 @@ fault-same (not-lower n f le) (not-lower n′ f′ le′) = (refl, refl)
 module _ {trees : List Tree} where
   -- Links are not sound and at fault.
   pub sound-or-fault : {links : List Link} {number place : ℕ} → SoundLinks trees links → FirstFault trees links number place → ⊥
-  sound-or-fault {links} h f = go (f .fault)
-    where
-      go : {number place : ℕ} → LinkFault trees (take (f .position) links) (f .position) (f .link) number place → ⊥
-      go (no-leaf n) = n (h .leaf (f .link) (at-in links (f .position) (f .link-is)))
-      go (leaf-taken {y = y} m s) =
-          let r = in-at m in
-          let below : r .0 < f .position = omega (arith, at-below (take (f .position) links) (r .0) (r .1), length-take (f .position) links) in
-          h .free (r .0) (f .position) y (f .link) below (sym (at-take links (f .position) (r .0) below) ∙ r .1) (f .link-is) s
-      go (not-lower n a le) = omega (arith, h .lower (f .link) (at-in links (f .position) (f .link-is)))
+  sound-or-fault {links} h f = elim (f .fault) [
+    | no-leaf n ↦ n (h .leaf (f .link) (at-in links (f .position) (f .link-is)))
+    | leaf-taken {y = y} m s ↦
+        let (k, e) = in-at m in
+        let below : k < f .position = omega (arith, at-below (take (f .position) links) k e, length-take (f .position) links) in
+        h .free k (f .position) y (f .link) below (sym (at-take links (f .position) k below) ∙ e) (f .link-is) s
+    | not-lower n a le ↦ omega (arith, h .lower (f .link) (at-in links (f .position) (f .link-is)))
+  ]
 
   -- The first at fault is so too where only some links after it are there. So no other is the first.
   among-first : {links : List Link} {number place : ℕ} (k : ℕ) (f : FirstFault trees links number place) → f .position < k → FirstFault trees (take k links) number place
@@ -189,11 +179,8 @@ module _ {trees : List Tree} where
 
 -- The links of a part that was read are sound.
 pub part-links : (s : List ℕ) (p : Part) → part s ≡ success p → SoundLinks (p .trees) (p .links)
-part-links s p e = let r = part-from s p e in go (links-promise (p .trees) (r .0 .0 .links)) (r .2)
-  where
-    go : {links : List Link} {a : Answer (List Link)} → LinksPromise (p .trees) links a → a ≡ success (p .links) → SoundLinks (p .trees) (p .links)
-    go {links} (all-sound h) e = let same : links ≡ p .links = cc in subst (SoundLinks (p .trees)) same h
-    go (first-fault f) e = absurd (answer-apart (sym e))
+part-links s p e = let r = part-from s p e in (elim (links-promise (p .trees) (r .0 .0 .links)) as (λ a x. a ≡ success (p .links) → SoundLinks (p .trees) (p .links))
+    [ all-sound h ↦ λ e. let same : r .0 .0 .links ≡ p .links = cc in rw same at h | first-fault f ↦ λ e. absurd (answer-apart (sym e)) ]) (r .2)
 
 -- Where all before them is sound, the part is read exactly when its links are sound; else the first link at fault is refused.
 pub data LinksRead (ps : List ℕ) (head : Counts × ℕ) (trees : List Tree) : Type 0 where
@@ -202,11 +189,8 @@ pub data LinksRead (ps : List ℕ) (head : Counts × ℕ) (trees : List Tree) : 
 
 pub links-read : (ps : List ℕ) (head : Counts × ℕ) (trees : List Tree) → sheetRead (λ f. linkNumber) (counts ps start) ≡ success head → treesFrom [] (head .0 .trees) (drop (head .1) ps) ≡ success trees → LinksRead ps head trees
 unfolding part afterCounts
-links-read ps head trees e e′ = go (links-promise trees (head .0 .links)) (rw (e, e′))
-  where
-    go : {a : Answer (List Link)} → LinksPromise trees (head .0 .links) a → part ps ≡ (a >>= (λ links. success (record { trees = trees; links = links }))) → LinksRead ps head trees
-    go (all-sound h) is = all-read h is
-    go (first-fault f) is = one-refused f is
+links-read ps head trees e e′ = (elim (links-promise trees (head .0 .links)) as (λ a x. part ps ≡ (a >>= (λ links. success (record { trees = trees; links = links }))) → LinksRead ps head trees)
+    [ all-sound h ↦ λ is. all-read h is | first-fault f ↦ λ is. one-refused f is ]) (rw (e, e′))
 
 -- ---- what sound links bring
 
@@ -214,30 +198,24 @@ module _ {trees : List Tree} {links : List Link} (h : SoundLinks trees links) wh
   -- No two links name the same leaf.
   same-link : {x y : Link} → List·Memᴰ x links → List·Memᴰ y links → SameLeaf x y → x ≡ y
   same-link {x} {y} m k s =
-      let i = in-at m in
-      let j = in-at k in
-      let a : i .0 < j .0 → ⊥ = λ lt. h .free (i .0) (j .0) x y lt (i .1) (j .1) s in
-      let b : j .0 < i .0 → ⊥ = λ lt. h .free (j .0) (i .0) y x lt (j .1) (i .1) (sym (s .0), sym (s .1)) in
-      let here : i .0 ≡ j .0 = omega arith in
-      Option·some-injective x y (sym (i .1) ∙ ap (getElem? links) here ∙ j .1)
+      let (i, at-i) = in-at m in
+      let (j, at-j) = in-at k in
+      let a : i < j → ⊥ = λ lt. h .free i j x y lt at-i at-j s in
+      let b : j < i → ⊥ = λ lt. h .free j i y x lt at-j at-i (sym (s .0), sym (s .1)) in
+      let here : i ≡ j = omega arith in
+      Option·some-injective x y (sym at-i ∙ ap (getElem? links) here ∙ at-j)
 
   pub links-bring : (covers : List Cover) → LinksBring links covers
   unfolding linkedArrival nothing
   links-bring covers = record {
-    brings = λ x m le d has. rw (length-take-le (x .reading) covers le) (driver-brings x m d has (driver-of links (x .reading) (x .node)));
-    brings-none = λ k n le not. rw (length-take-le k covers le) (none-brings k n not (driver-of links k n));
+    brings = λ x m le d has. rw (length-take-le (x .reading) covers le) (elim (driver-of links (x .reading) (x .node)) as (λ o y. Option·map (λ k. getD (map arrival (take (x .reading) covers)) k 0) o ≡ some (arrival d)) [
+      | undriven not ↦ absurd (not x m (refl, refl))
+      | driven k s ↦ rw (same-link k m s)
+          (ap some (List·getD-map arrival (take (x .reading) covers) (x .driving) nothing ∙ ap arrival (getD-take (x .reading) covers (x .driving) nothing (h .lower x m) ∙ at-value covers (x .driving) nothing has)))
+    ]);
+    brings-none = λ k n le not. rw (length-take-le k covers le) (elim (driver-of links k n) as (λ o y. Option·map (λ d. getD (map arrival (take k covers)) d 0) o ≡ none)
+        [ undriven a ↦ refl | driven {x = x} m s ↦ absurd (not x m (s .0) (s .1)) ]);
   }
     where
       arrival : Cover → ℕ
       arrival c = c .point .arrival
-
-      driver-brings : (x : Link) → List·Memᴰ x links → (d : Cover) → getElem? covers (x .driving) ≡ some d → {o : Option ℕ} → DriverIs links (x .reading) (x .node) o →
-          Option·map (λ k. getD (map arrival (take (x .reading) covers)) k 0) o ≡ some (arrival d)
-      driver-brings x m d has (undriven not) = absurd (not x m (refl, refl))
-      driver-brings x m d has (driven k s) =
-          rw (same-link k m s)
-          (ap some (List·getD-map arrival (take (x .reading) covers) (x .driving) nothing ∙ ap arrival (getD-take (x .reading) covers (x .driving) nothing (h .lower x m) ∙ at-value covers (x .driving) nothing has)))
-
-      none-brings : (k n : ℕ) → ((x : Link) → List·Memᴰ x links → (x .reading ≡ k) → (x .node ≡ n) → ⊥) → {o : Option ℕ} → DriverIs links k n o → Option·map (λ d. getD (map arrival (take k covers)) d 0) o ≡ none
-      none-brings k n not (undriven a) = refl
-      none-brings k n not (driven {x = x} m s) = absurd (not x m (s .0) (s .1))

@@ -2,20 +2,21 @@
 use Prim.Native.Nat.{ℕ, zero, suc, _+_, _<_}
 use mathlib.Core.Path.{_≡_, refl, sym, ap, ap₂, subst, _∙_}
 use mathlib.Core.List.{List, [], _∷_, _++_, map, map-append, append-nil}
-use mathlib.Core.Option.{Option, some, Option·map, Option·none-ne-some, Option·some-injective}
+use mathlib.Core.Option.{Option, none, some, Option·map, Option·none-ne-some, Option·some-injective}
 use native.Mathlib.Omega.{arith}
 use lib.ListN.{length, take, drop, getD, getElem?, length-append, length-map}
 use lib.Seq.{append-snoc, length-take-le, split-at, take-at, getD-at}
 use Rattle.fields.specs.Answer.{Answer, refused, refusedIn, success, inItem, _>>=_}
 use Rattle.sheets_rules.specs.Model.{Library, Tree}
 use Rattle.covers.specs.Cover.{Cover}
+use Rattle.covers.specs.Answer.{mapped}
 use Rattle.covers.proofs.Basics.{at-below, at-value}
-use Rattle.covers.proofs.Promises.{MapPromise, too-many, none-wanted, right, map-promise}
+use Rattle.covers.proofs.Promises.{too-many, none-wanted, right, map-promise}
 use Rattle.covers.proofs.Demands.{highest-same}
 use Rattle.part_rules.specs.Part.{Link, driverOf, linkedArrival, known, knownTree}
 use Rattle.part_rules.specs.Outcome.{afterLate, treeMapped, coversFrom}
 use Rattle.part_rules.specs.Demands.{LowestTooLate, IsMapped, Fails, late, overfull, no-cover, AreMapped, no-more, one-more, FirstFails}
-use Rattle.part_rules.proofs.Known.{LateOf, none-late, lowest, late-of}
+use Rattle.part_rules.proofs.Known.{none-late, lowest, late-of}
 
 module _ (most : ℕ) (l : Library) where
   -- ---- one tree
@@ -29,13 +30,12 @@ module _ (most : ℕ) (l : Library) where
     -- Every answer of a tree keeps its promise.
     pub tree-promise : TreePromise (treeMapped most l f t)
     unfolding treeMapped
-    tree-promise = go (late-of f t) (map-promise most l (knownTree f t))
-      where
-        go : {o : Option ℕ} → LateOf f t o → {a : Answer Cover} → MapPromise most l (knownTree f t) a → TreePromise (afterLate o a)
-        go (lowest h) p = fails (late h)
-        go (none-late n) (too-many h) = fails (overfull n h)
-        go (none-late n) (none-wanted a h) = fails (no-cover n a h)
-        go (none-late n) (right a h) = is-mapped (record { none-late = n; none-overfull = a; best = h })
+    tree-promise = elim (late-of f t) as (λ o x. TreePromise (afterLate o (mapped most l (knownTree f t)))) [
+      | lowest h ↦ fails (late h)
+      | none-late n ↦
+          elim (map-promise most l (knownTree f t)) as (λ a x. TreePromise (afterLate none a))
+          [ too-many h ↦ fails (overfull n h) | none-wanted a h ↦ fails (no-cover n a h) | right a h ↦ is-mapped (record { none-late = n; none-overfull = a; best = h }) ]
+    ]
 
 -- Only one leaf is the lowest.
 lowest-same : {f : ℕ → Option ℕ} {t : Tree} {j k : ℕ} → LowestTooLate f t j → LowestTooLate f t k → j ≡ k
@@ -71,18 +71,12 @@ module _ {most : ℕ} {l : Library} {f : ℕ → Option ℕ} {t : Tree} where
 
   -- So a mapped tree is answered with a cover of that arrival, and one that fails with its refusal.
   mapped-answers : {c : Cover} → IsMapped most l f t c → (d : Cover) × (treeMapped most l f t ≡ success d) × (c .point .arrival ≡ d .point .arrival)
-  mapped-answers {c} m = go (tree-promise most l f t)
-    where
-      go : {a : Answer Cover} → TreePromise most l f t a → (d : Cover) × (a ≡ success d) × (c .point .arrival ≡ d .point .arrival)
-      go (fails h) = absurd (mapped-or-fails m h)
-      go (is-mapped {c = d} h) = (d, refl, mapped-same m h)
+  mapped-answers {c} m = elim (tree-promise most l f t) as (λ a x. (d : Cover) × (a ≡ success d) × (c .point .arrival ≡ d .point .arrival))
+      [ fails h ↦ absurd (mapped-or-fails m h) | is-mapped {c = d} h ↦ (d, refl, mapped-same m h) ]
 
   fails-answers : {number place : ℕ} → Fails most l f t number place → treeMapped most l f t ≡ refused number place
-  fails-answers {number} {place} h = go (tree-promise most l f t)
-    where
-      go : {a : Answer Cover} → TreePromise most l f t a → a ≡ refused number place
-      go (fails g) = let same = fails-same g h in ap₂ (λ (n k : ℕ). refused n k) (same .0) (same .1)
-      go (is-mapped m) = absurd (mapped-or-fails m h)
+  fails-answers {number} {place} h = elim (tree-promise most l f t) as (λ a x. a ≡ refused number place)
+      [ fails g ↦ let same = fails-same g h in cc (same .0, same .1) | is-mapped m ↦ absurd (mapped-or-fails m h) ]
 
 -- ---- all trees
 
@@ -139,18 +133,15 @@ module _ (most : ℕ) (l : Library) (links : List Link) where
     fails-from : {covers : List Cover} {t : Tree} {k number place : ℕ} (at : ℕ) → k ≡ length before + at → AreMapped most l links before (take at ts) covers → getElem? ts at ≡ some t → Fails most l (known links covers) t number place →
         From before ts (refusedIn k number place)
 
+  later : {before : List Cover} {t : Tree} {ts : List Tree} {c : Cover} {r : Answer (List Cover)} → IsMapped most l (known links before) t c → From (before ++ (c ∷ [])) ts r → From before (t ∷ ts) r
+  later m (all-from rest) = all-from (one-more m rest)
+  later {before} {c = c} m (fails-from {k = k} at e rest is h) = fails-from {k = k} (suc at) (omega (arith, length-append before (c ∷ []))) (one-more m rest) is h
+
   from : (before : List Cover) (ts : List Tree) → From before ts (coversFrom most l links before ts)
   unfolding coversFrom
   from before [] = all-from no-more
-  from before (t ∷ ts) = go (tree-promise most l (known links before) t) (λ c. from (before ++ (c ∷ [])) ts)
-    where
-      later : {c : Cover} → IsMapped most l (known links before) t c → {r : Answer (List Cover)} → From (before ++ (c ∷ [])) ts r → From before (t ∷ ts) r
-      later m (all-from rest) = all-from (one-more m rest)
-      later {c} m (fails-from {k = k} at e rest is h) = fails-from {k = k} (suc at) (omega (arith, length-append before (c ∷ []))) (one-more m rest) is h
-
-      go : {a : Answer Cover} → TreePromise most l (known links before) t a → ((c : Cover) → From (before ++ (c ∷ [])) ts (coversFrom most l links (before ++ (c ∷ [])) ts)) → From before (t ∷ ts) (inItem (length before) a >>= (λ c. coversFrom most l links (before ++ (c ∷ [])) ts))
-      go (fails h) rest = fails-from {k = length before} 0 (omega arith) no-more refl h
-      go (is-mapped {c = c} m) rest = later m (rest c)
+  from before (t ∷ ts) = elim (tree-promise most l (known links before) t) as (λ a x. From before (t ∷ ts) (inItem (length before) a >>= (λ c. coversFrom most l links (before ++ (c ∷ [])) ts)))
+      [ fails h ↦ fails-from {k = length before} 0 (omega arith) no-more refl h | is-mapped m ↦ later m (from (before ++ (_ ∷ [])) ts) ]
 
   -- What an answer to all trees says: all are mapped, or the first that fails is named.
   pub data CoversPromise (ts : List Tree) : Answer (List Cover) → Type 0 where
@@ -159,12 +150,11 @@ module _ (most : ℕ) (l : Library) (links : List Link) where
 
   -- The answer to all trees keeps that promise.
   pub covers-promise : (ts : List Tree) → CoversPromise ts (coversFrom most l links [] ts)
-  covers-promise ts = go (from [] ts)
-    where
-      go : {r : Answer (List Cover)} → From [] ts r → CoversPromise ts r
-      go (all-from m) = all-mapped m
-      go (fails-from {covers = covers} {t = t} {k = k} at e m is h) = let same : at ≡ k = omega arith in
-          first-fails (record { covers = covers; before = subst (λ (j : ℕ). AreMapped most l links [] (take j ts) covers) same m; tree = t; tree-is = subst (λ (j : ℕ). getElem? ts j ≡ some t) same is; fails = h })
+  covers-promise ts = elim (from [] ts) as (λ r x. CoversPromise ts r) [
+    | all-from m ↦ all-mapped m
+    | fails-from {covers = covers} {t = t} {k = k} at e m is h ↦
+        let same : at ≡ k = omega arith in first-fails (record { covers = covers; before = rw same at m; tree = t; tree-is = rw same at is; fails = h })
+  ]
 
 -- ---- each tree
 

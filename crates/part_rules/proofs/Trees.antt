@@ -1,9 +1,8 @@
 -- The trees of a part that was read are sound.
 use Prim.Native.Nat.{ℕ, zero, suc}
-use mathlib.Core.Path.{_≡_, refl, sym, subst}
+use mathlib.Core.Path.{_≡_, sym, subst}
 use mathlib.Core.Logic.{⊎-elim}
 use mathlib.Core.List.{List, [], _∷_, _++_, List·Memᴰ, List·Memᴰ·append-cases, List·Memᴰ·eq-of-singleton, List·Memᴰ·not-nil}
-use native.Mathlib.Omega.{arith}
 use lib.Dec.{eqb}
 use lib.ListN.{length, drop}
 use Rattle.fields.specs.Reading.{start, Live}
@@ -52,12 +51,10 @@ unfolding part afterCounts
 part-from s p e =
     let judged : Counts × ℕ → List Tree → Answer Part = λ head trees. linksJudged trees [] (head .0 .links) >>= (λ links. success (record { trees = trees; links = links })) in
     let read : Counts × ℕ → Answer Part = λ head. treesFrom [] (head .0 .trees) (drop (head .1) s) >>= judged head in
-    let head = both-succeed ((sheetRead (λ f. linkNumber) (counts s start))) read e in
-    let trees = both-succeed (treesFrom [] (head .0 .0 .trees) (drop (head .0 .1) s)) (judged (head .0)) (head .2) in
-    let links = both-succeed (linksJudged (trees .0) [] (head .0 .0 .links)) (λ links. success (record { trees = trees .0; links = links })) (trees .2) in
-    let same : trees .0 ≡ p .trees = cc in
-    let joined : links .0 ≡ p .links = cc in
-    (head .0, (cc), (cc))
+    let (head, _, e₁) = both-succeed (sheetRead (λ f. linkNumber) (counts s start)) read e in
+    let (trees, t, e₂) = both-succeed (treesFrom [] (head .0 .trees) (drop (head .1) s)) (judged head) e₁ in
+    let (links, j, e₃) = both-succeed (linksJudged trees [] (head .0 .links)) (λ links. success (record { trees = trees; links = links })) e₂ in
+    (head, (cc), (cc))
 
 -- Every tree of a part that was read is sound.
 pub trees-sound : (s : List ℕ) (p : Part) → part s ≡ success p → (t : Tree) → List·Memᴰ t (p .trees) → SoundTree t

@@ -9,11 +9,10 @@ use Rattle.fields.specs.Reading.{start}
 use Rattle.fields.specs.Answer.{Answer, refused, refusedIn, success}
 use Rattle.sheets_rules.specs.Model.{Library, Tree}
 use Rattle.sheets_rules.specs.Report.{librarySaid, treeSaid}
-use Rattle.covers.specs.Capacity.{capacity, workWords, allowed}
 use Rattle.covers.specs.Cover.{Cover}
 use Rattle.covers.specs.CoverSheet.{coverSheet, CoverReads}
 use Rattle.covers.specs.Answer.{overfullNumber, noCoverNumber}
-use Rattle.covers.specs.Lending.{lateNumber}
+use Rattle.covers.specs.Lending.{lent, lateNumber}
 use Rattle.covers.specs.Promise.{InTime, BestCover, HighestTooMany, NoneTooMany}
 use Rattle.judge_rules.specs.Judgement.{judgement}
 use Rattle.part_rules.specs.Part.{Link, Part, leafNodes, known, knownTree}
@@ -64,7 +63,7 @@ pub record LinkDemands (ps : List ℕ) (head : Counts × ℕ) (trees : List Tree
   pub refused-exactly : (number place : ℕ) → LinkNumber number → (o ≡ refused number place) ↔ FirstFault trees (head .0 .links) number place
 
 abbrev pub LinksWhereRead : (ls ps : List ℕ) → (output work : ℕ) → Answer (List ℕ) → Type 0
-LinksWhereRead ls ps output work o = (l : Library) (head : Counts × ℕ) (trees : List Tree) → partBytes ≤ output → workWords capacity ≤ work → librarySaid ls ≡ success l → sheetRead (λ f. linkNumber) (counts ps start) ≡ success head → treesFrom [] (head .0 .trees) (drop (head .1) ps) ≡ success trees → LinkDemands ps head trees o
+LinksWhereRead ls ps output work o = (most : ℕ) (l : Library) (head : Counts × ℕ) (trees : List Tree) → lent partBytes output work ≡ success most → librarySaid ls ≡ success l → sheetRead (λ f. linkNumber) (counts ps start) ≡ success head → treesFrom [] (head .0 .trees) (drop (head .1) ps) ≡ success trees → LinkDemands ps head trees o
 
 -- What the links bring where these are the covers, be they those of all trees or of the first ones: to a linked leaf the arrival of its driving tree's cover, to any other node nothing.
 pub record LinksBring (links : List Link) (covers : List Cover) : Type 0 where
@@ -137,4 +136,4 @@ pub record PartDemands (most : ℕ) (ls : List ℕ) (l : Library) (p : Part) (o 
 
 -- The demands of the library and the part on the two sheets, if enough is lent and both are sound.
 abbrev pub PartWhereSound : (ls ps : List ℕ) → (output work : ℕ) → Answer (List ℕ) → Type 0
-PartWhereSound ls ps output work o = (l : Library) (p : Part) → partBytes ≤ output → workWords capacity ≤ work → librarySaid ls ≡ success l → part ps ≡ success p → PartDemands (allowed work) ls l p o
+PartWhereSound ls ps output work o = (most : ℕ) (l : Library) (p : Part) → lent partBytes output work ≡ success most → librarySaid ls ≡ success l → part ps ≡ success p → PartDemands most ls l p o

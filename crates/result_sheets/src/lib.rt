@@ -3,13 +3,13 @@ use fields::Scan;
 use sheets_rules::Limits;
 ghost use mathlib.Core.Path.{_≡_};
 ghost use mathlib.Core.List.{_++_};
-ghost use Prim.Native.Nat.{ℕ, _+_, _*_, _<_, _≤_, _^_};
-ghost use lib.ListN.{length, take, drop, getD, replicate};
+ghost use Prim.Native.Nat.{_+_, _*_, _<_, _≤_, _^_};
+ghost use lib.ListN.{length, take, drop, replicate};
 ghost use Rattle.fields.specs.Reading.{place};
 ghost use Rattle.fields.specs.Written.{written};
-ghost use Rattle.covers.specs.CoverSheet.{areaWidth, arrivalWidth, matchCountWidth, pointCountWidth, placedFields, pointFields, coverSheet, listSheet};
+ghost use Rattle.covers.specs.CoverSheet.{matchCountWidth, pointCountWidth, placedFields, pointFields, coverSheet, listSheet};
 ghost use Rattle.result_sheets.specs.Public.{placedOf, coverOf, coverBits, Written, CoverIs};
-ghost use Rattle.result_sheets.specs.Inside.Promises.{pointsOf, listBits, MatchIs, MatchesAre};
+ghost use Rattle.result_sheets.specs.Inside.Promises.{pointsOf, Listable, MatchIs, MatchesAre};
 
 // How wide the fields of the cover sheet and the list sheet are, in bits.
 pub struct Sheet {}
@@ -120,7 +120,7 @@ pub fn write_cover(output: &mut [u8], cover: CoverRecord) -> usize
 
 // Puts the fields of the first `count` words' points, the last first.
 fn put_points(output: &mut [u8], points: &[u64], count: usize)
-    requires { ⌜ (count < 2 ^ pointCountWidth) × (count ≤ length (now points)) × (listBits count ≤ 8 * length (now output)) × ((k : ℕ) → k < count → getD (now points) k 0 < 2 ^ (arrivalWidth + areaWidth)) ⌝ }
+    requires { ⌜ Listable count (now points) (now output) ⌝ }
     ensures { λ _. ⌜ now (output .exit) ≡ written (pointFields (pointsOf count (now (points .entry)))) pointCountWidth (now (output .entry)) ⌝ }
 {
     let mut at = Sheet::POINT_COUNT;
@@ -141,7 +141,7 @@ fn put_points(output: &mut [u8], points: &[u64], count: usize)
 
 // Writes the list sheet of the first `count` words' points, which stand latest first, and answers how many bytes it takes.
 pub fn write_list(output: &mut [u8], points: &[u64], count: usize) -> usize
-    requires { ⌜ (count < 2 ^ pointCountWidth) × (count ≤ length (now points)) × (listBits count ≤ 8 * length (now output)) × ((k : ℕ) → k < count → getD (now points) k 0 < 2 ^ (arrivalWidth + areaWidth)) ⌝ }
+    requires { ⌜ Listable count (now points) (now output) ⌝ }
     ensures { λ r. ⌜ Written (listSheet (pointsOf count (now (points .entry)))) (now (output .entry)) (now (output .exit)) r ⌝ }
 {
     let bytes = (Sheet::POINT_COUNT + Sheet::POINT * count + 7) / 8;

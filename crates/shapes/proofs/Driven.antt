@@ -1,7 +1,7 @@
 -- Laws about a driven leaf: a leaf's number and then its drive, one for each way out.
 use mathlib.Core.Path.{_≡_, refl, sym, ap, subst, _∙_}
 use mathlib.Core.List.{List}
-use mathlib.Core.Bool.{true, false}
+use mathlib.Core.Bool.{false, false≢true}
 use Prim.Native.Nat.{ℕ, zero, suc, _+_, _*_, _≤_, _<_}
 use native.Mathlib.Omega.{arith}
 use lib.ListN.{length, take, set, getD, length-set}
@@ -15,9 +15,9 @@ use Rattle.fields.specs.declared.Scan.the-variants.{At}
 use Rattle.fields.specs.Reading.{place, field, free, Live}
 use Rattle.fields.proofs.Laws.{field-near, free-small, live-sound}
 use Rattle.shapes_rules.specs.declared.Rules.{Rules}
-use Rattle.shapes_rules.specs.Shape.{plain, leafSymbol, Shape, leaf, symbols}
+use Rattle.shapes_rules.specs.Shape.{plain, leafSymbol, leaf, symbols}
 use Rattle.shapes_rules.specs.Drawing.{leafVerdict, leafNode, drivenNode, plainBits, leafBits}
-use Rattle.shapes.specs.Inside.Promises.{openReach, outcome, cursorOf, stoodAt, nextOf, reached, LeafRoom, Laid, LeafRead, WordsAfter}
+use Rattle.shapes.specs.Inside.Promises.{Met, openReach, outcome, cursorOf, stoodAt, nextOf, pinsOf, reached, LeafRoom, LeafRead, WordsAfter}
 use Rattle.shapes.proofs.Laws.{outcome-dead, outcome-place, field-truncated, field-sound, found-used, moved-cursor, moved-next}
 use Rattle.shapes_rules.proofs.Drawing.{leaf-passes}
 
@@ -47,20 +47,15 @@ module _ {s : List ℕ} {rules : Rules} (words : List ℕ) {l words₁ l₁ : Li
       (Live (outcome k (cursorOf words′)) → l′ ≡ set l (nextOf words) (leafSymbol (record { number = number .0; drive = d }))) →
       LeafRead s rules (At (cursorOf words)) (nextOf words) l l′ (reached k words′) leafBits (drivenNode s rules)
   unfolding symbols
-  driven d k words′ l′ e same h = record {
-    laid = subst (λ (x : Shape × Scan). Laid (nextOf words) l l′ (reached k words′) (x .1) (symbols (x .0))) (sym driven-is) (record {
-      scan = ap (λ (x : ℕ × Scan). x .1) e;
-      symbols = λ z. h z ∙ ap (λ (x : ℕ × Scan). set l (nextOf words) (leafSymbol (record { number = number .0; drive = x .0 }))) e;
-      next = λ z. omega (arith, same, first .went (live z));
-    });
-    went = λ z. omega (arith, same, first .went (live z));
-    near = omega (arith, ap (λ (x : ℕ × Scan). place (x .1)) e, field-near s 8 free then, first .near);
-    from = omega (arith, same, first .from);
-    upto = omega (arith, same, first .upto);
-  }
-    where
-      live : Live (outcome k (cursorOf words′)) → Live then
-      live z = live-sound s 8 free then (subst Live (ap (λ (x : ℕ × Scan). x .1) e) z) .1
+  driven d k words′ l′ e same h =
+      let live : Live (outcome k (cursorOf words′)) → Live then = λ z. live-sound s 8 free then (subst Live (ap (λ (x : ℕ × Scan). x .1) e) z) .1 in
+      record {
+        laid = rw (driven-is, ← e) (record { scan = refl; symbols = h; next = λ z. omega (arith, first .went (live z)) });
+        went = λ z. omega (arith, first .went (live z));
+        near = omega (arith, ap (λ (x : ℕ × Scan). place (x .1)) e, field-near s 8 free then, first .near);
+        from = omega (arith, first .from);
+        upto = omega (arith, first .upto);
+      }
 
   -- The reader ended with a fault.
   ended : (k : ℕ) → 0 < k → (0, outcome k (cursorOf words₁)) ≡ field s 8 free then →
@@ -70,17 +65,16 @@ module _ {s : List ℕ} {rules : Rules} (words : List ℕ) {l words₁ l₁ : Li
       (driven 0 k words₁ l₁ e refl (λ z. absurd (dead z)), record { long = kept .long; symbols-long = kept .symbols-long; used = λ z. absurd (dead z); met = λ z. absurd (dead z) })
 
   pub number-refused : 0 < end → LeafRead s rules (At (cursorOf words)) (nextOf words) l l₁ (reached end words₁) leafBits (drivenNode s rules) × WordsAfter rules end words₁ l₁
-  number-refused h = ended end h (stays end h)
-    where
-      stays : (k : ℕ) → 0 < k → (0, outcome k (cursorOf words₁)) ≡ field s 8 free (outcome k (cursorOf words₁))
-      stays zero z = absurd (omega arith)
-      stays (suc k) z = refl
+  number-refused h =
+      ended end h ((elim end as (λ k. 0 < k → (0, outcome k (cursorOf words₁)) ≡ field s 8 free (outcome k (cursorOf words₁))) [
+        | zero ↦ λ z. absurd (omega arith)
+        | suc k ↦ λ z. refl
+      ]) h)
 
   -- There is room for the drive.
   pub drive-inside : end ≡ 0 → placeOf (cursorOf words) + leafBits ≤ openReach → (getD words₁ 1 0 < 8) × (getD words₁ 0 0 ≤ 252)
   unfolding placeOf
-  drive-inside sound near =
-      (kept .used (subst (λ (k : ℕ). Live (outcome k (cursorOf words₁))) (sym sound) tt), omega (arith, outcome-place end (cursorOf words₁), first .near))
+  drive-inside sound near = (kept .used (rw sound tt), omega (arith, outcome-place end (cursorOf words₁), first .near))
 
   -- The number is in range, and stands in the array.
   module _ (sound : end ≡ 0) (room : nextOf words < length l) where
@@ -113,25 +107,12 @@ module _ {s : List ℕ} {rules : Rules} (words : List ℕ) {l words₁ l₁ : Li
 
         pub drive-sound : rules .pattern ≡ false → let l′ = set l₁ (nextOf words) (1048576 * d + getD l₁ (nextOf words) 0) in
             LeafRead s rules (At (cursorOf words)) (nextOf words) l l′ (reached 0 (stoodAt words₁ n)) leafBits (drivenNode s rules) × WordsAfter rules 0 (stoodAt words₁ n) l′
-        drive-sound tree = (
-          driven d 0 (stoodAt words₁ n) (set l₁ (nextOf words) v) (ap (λ (c : Cursor). (d, At c)) moved ∙ read ∙ ap (field s 8 free) at) (moved-next (n .byte) (n .used) words₁)
-              (λ z. ap (λ (k : List ℕ). set k (nextOf words) v) stands ∙ set-set l (nextOf words) (leafSymbol (plain (number .0))) v ∙ ap (set l (nextOf words)) whole),
-          record {
-            long = length-set (set words₁ 0 (n .byte)) 1 (n .used) ∙ length-set words₁ 0 (n .byte) ∙ kept .long;
-            symbols-long = length-set l₁ (nextOf words) v ∙ kept .symbols-long;
-            used = λ z. subst (λ (m : ℕ). m < 8) (sym (ap (λ (c : Cursor). c .used) moved)) (found-used s (placeOf (cursorOf words₁)) 8 d n f here e .0);
-            met = λ z p. absurd (no-pattern (sym tree ∙ p));
-          },
-        )
-          where
-            v : ℕ
-            v = 1048576 * d + getD l₁ (nextOf words) 0
-
-            moved : cursorOf (stoodAt words₁ n) ≡ n
-            moved = moved-cursor (n .byte) (n .used) words₁ (kept .long)
-
-            whole : v ≡ leafSymbol (record { number = number .0; drive = d })
-            whole = omega (arith, driven-number)
-
-            no-pattern : false ≡ true → ⊥
-            no-pattern q = let z : _≡_ {A = ℕ} 0 1 = cc in absurd (omega arith)
+        drive-sound tree =
+            let v = 1048576 * d + getD l₁ (nextOf words) 0 in
+            let moved : cursorOf (stoodAt words₁ n) ≡ n = moved-cursor (n .byte) (n .used) words₁ (kept .long) in
+            let whole : v ≡ leafSymbol (record { number = number .0; drive = d }) = omega (arith, driven-number) in
+            let met : Met rules (pinsOf (stoodAt words₁ n)) (take (nextOf (stoodAt words₁ n)) (set l₁ (nextOf words) v)) = λ p. absurd (false≢true (sym tree ∙ p)) in (
+              driven d 0 (stoodAt words₁ n) (set l₁ (nextOf words) v) (ap (λ (c : Cursor). (d, At c)) moved ∙ read ∙ ap (field s 8 free) at) (moved-next (n .byte) (n .used) words₁)
+                  (λ z. ap (λ (k : List ℕ). set k (nextOf words) v) stands ∙ set-set l (nextOf words) (leafSymbol (plain (number .0))) v ∙ ap (set l (nextOf words)) whole),
+              search (arith, length-set, kept .long, kept .symbols-long, ap (λ (c : Cursor). c .used) moved, found-used s (placeOf (cursorOf words₁)) 8 d n f here e .0),
+            )

@@ -1,9 +1,11 @@
 -- Laws about a node's code, how a reader ends, a field in an opening and the words of the readers.
 use mathlib.Core.Path.{_≡_, refl, sym, ap, ap₂, subst, _∙_}
-use mathlib.Core.List.{List, [], _∷_}
-use mathlib.Core.Bool.{Bool, true, false}
+use mathlib.Core.List.{List}
+use mathlib.Core.Bool.{true}
 use Prim.Native.Nat.{ℕ, zero, suc, _+_, _≤_, _<_}
-use lib.ListN.{length, set}
+use lib.ListN.{length, set, length-set}
+use lib.Seq.{getD-set-same, getD-set-other, drop-set-lt}
+use borrow.Table.Steps.{cases}
 use native.Mathlib.Omega.{arith}
 use Rattle.fields.specs.declared.Got.{Got}
 use Rattle.fields.specs.declared.Scan.{Scan}
@@ -13,12 +15,12 @@ use Rattle.fields.specs.declared.Verdict.{Verdict}
 use Rattle.bits.specs.declared.Cursor.{Cursor}
 use Rattle.bits.specs.declared.FieldRead.{FieldRead}
 use Rattle.bits.specs.declared.FieldRead.the-variants.{Value, Truncated as TruncatedField}
-use Rattle.bits.specs.Bits.{placeOf, cursorAt, fieldAt}
+use Rattle.bits.specs.Bits.{placeOf, fieldAt}
 use Rattle.bits.proofs.Laws.{place-at}
 use Rattle.bits.proofs.Words.{stands}
 use Rattle.fields.specs.declared.Fault.the-variants.{Size}
-use Rattle.fields.proofs.Laws.{Read, ends, reads, read, cursorIn, live-sound, positive-live, dead-stays}
-use Rattle.fields.specs.Reading.{place, field, scanned, settled, Live}
+use Rattle.fields.proofs.Laws.{found-is, live-sound, positive-live, dead-stays}
+use Rattle.fields.specs.Reading.{place, field, Live}
 use Rattle.fields.specs.Inside.Promises.{Reads}
 use Rattle.shapes.specs.Inside.Promises.{Coded, faultOf, verdictOf, outcome, cursorOf, nextOf, pinsOf}
 use Rattle.shapes_rules.specs.declared.Rules.{Rules}
@@ -33,14 +35,10 @@ coded s rules scan n r h =
     record {
       reads = h;
       gate = gate;
-      tree = λ e. no-driven (rules .pattern) (λ q. omega (arith, h .value, passes (gate (omega arith)) .1 q));
+      tree = λ e. cases (rules .pattern) (λ q. absurd (omega (arith, h .value, passes (gate (omega arith)) .1 q))) (λ q. q);
       room = λ l. passes l .0;
       stays = λ d. rw (h .scan) (dead-stays s 2 v scan (λ l. d (subst Live (sym (h .scan)) l)));
     }
-  where
-    no-driven : (p : Bool) → (p ≡ true → ⊥) → p ≡ false
-    no-driven true h = absurd (h refl)
-    no-driven false h = refl
 
 -- ---- how a reader ends
 
@@ -52,8 +50,7 @@ other-fault (suc (suc (suc zero))) a b c = absurd (c refl)
 other-fault (suc (suc (suc (suc k)))) a b c = refl
 
 pub ends-sound : (k : ℕ) (c : Cursor) → k ≡ 0 → At c ≡ outcome k c
-ends-sound zero c e = refl
-ends-sound (suc k) c e = absurd (omega arith)
+ends-sound k c e = rw e
 
 pub ends-refused : (k p : ℕ) (f : Fault) (c : Cursor) → (k ≡ 0 → ⊥) → f ≡ faultOf k → p ≡ placeOf c → Refused f p ≡ outcome k c
 ends-refused zero p f c h e q = absurd (h refl)
@@ -71,61 +68,41 @@ outcome-place (suc k) c = refl
 
 module _ (s : List ℕ) (c : Cursor) (w : ℕ) (v : ℕ → Verdict) (f : FieldRead) (here : f ≡ fieldAt s (placeOf c) w) where
   pub field-truncated : f ≡ TruncatedField → (0, outcome 1 c) ≡ field s w v (At c)
-  field-truncated e = ap (scanned (placeOf c) v) (sym e ∙ here)
+  field-truncated e = rw (← here, e)
 
   pub field-faulty : (k x : ℕ) (n : Cursor) → f ≡ Value x n → 0 < k → verdictOf k ≡ v x → (0, outcome k c) ≡ field s w v (At c)
   field-faulty zero x n e h q = absurd (omega arith)
-  field-faulty (suc k) x n e h q = ap (λ (d : Verdict). settled (placeOf c) d x (At n)) q ∙ ap (scanned (placeOf c) v) (sym e ∙ here)
+  field-faulty (suc k) x n e h q = rw (← here, e, ← q)
 
   pub field-sound : (k x : ℕ) (n : Cursor) → f ≡ Value x n → k ≡ 0 → verdictOf k ≡ v x → (x, At n) ≡ field s w v (At c)
-  field-sound zero x n e h q = ap (λ (d : Verdict). settled (placeOf c) d x (At n)) q ∙ ap (scanned (placeOf c) v) (sym e ∙ here)
-  field-sound (suc k) x n e h q = absurd (omega arith)
+  field-sound k x n e h q = rw (← here, e, ← (rw h at q))
 
 -- A cursor after a field that was found has not used up its byte.
 pub found-used : (s : List ℕ) (i w x : ℕ) (n : Cursor) (f : FieldRead) → f ≡ fieldAt s i w → f ≡ Value x n → (n .used < 8) × (placeOf n ≡ i + w)
-found-used s i w x n f e q = go (fieldAt s i w) (read s i w) (sym e ∙ q)
-  where
-    go : (g : FieldRead) → Read s i w g → g ≡ Value x n → (n .used < 8) × (placeOf n ≡ i + w)
-    go g ends z = let k : _≡_ {A = ℕ} 0 1 = cc in absurd (omega arith)
-    go g (reads l) z =
-        let at : n ≡ cursorAt (i + w) = ap (λ (h : FieldRead). cursorIn h) (sym z) in
-        (stands at .0, ap placeOf at ∙ place-at (i + w))
+found-used s i w x n f e q = let at = found-is s i w x n f e q .1 in (stands at .0, ap placeOf at ∙ place-at (i + w))
 
 -- ---- the words of the readers
 
 -- The cursor moved, and the rest is as it was.
 module _ (b u : ℕ) where
   pub moved-cursor : (words : List ℕ) → length words ≡ 16 → cursorOf (set (set words 0 b) 1 u) ≡ record { byte = b; used = u }
-  moved-cursor [] h = absurd (omega arith)
-  moved-cursor (x ∷ []) h = absurd (omega arith)
-  moved-cursor (x ∷ (y ∷ r)) h = refl
+  moved-cursor words h =
+      let second = getD-set-same (set words 0 b) 1 u 0 (omega (arith, length-set words 0 b)) in
+      rw (getD-set-other (set words 0 b) 1 0 u 0 (λ e. omega arith), getD-set-same words 0 b 0 (omega arith), second)
 
   pub moved-next : (words : List ℕ) → nextOf (set (set words 0 b) 1 u) ≡ nextOf words
-  moved-next [] = refl
-  moved-next (x ∷ []) = refl
-  moved-next (x ∷ (y ∷ r)) = refl
+  moved-next words = rw (getD-set-other (set words 0 b) 1 2 u 0 (λ e. omega arith), getD-set-other words 0 2 b 0 (λ e. omega arith))
 
   pub moved-pins : (words : List ℕ) → pinsOf (set (set words 0 b) 1 u) ≡ pinsOf words
-  moved-pins [] = refl
-  moved-pins (x ∷ []) = refl
-  moved-pins (x ∷ (y ∷ r)) = refl
+  moved-pins words = drop-set-lt 3 (set words 0 b) 1 u (omega arith) ∙ drop-set-lt 3 words 0 b (omega arith)
 
 -- A node was counted.
 module _ (n : ℕ) where
   pub counted-cursor : (words : List ℕ) → cursorOf (set words 2 n) ≡ cursorOf words
-  counted-cursor [] = refl
-  counted-cursor (x ∷ []) = refl
-  counted-cursor (x ∷ (y ∷ [])) = refl
-  counted-cursor (x ∷ (y ∷ (z ∷ r))) = refl
+  counted-cursor words = rw (getD-set-other words 2 0 n 0 (λ e. omega arith), getD-set-other words 2 1 n 0 (λ e. omega arith))
 
   pub counted-next : (words : List ℕ) → length words ≡ 16 → nextOf (set words 2 n) ≡ n
-  counted-next [] h = absurd (omega arith)
-  counted-next (x ∷ []) h = absurd (omega arith)
-  counted-next (x ∷ (y ∷ [])) h = absurd (omega arith)
-  counted-next (x ∷ (y ∷ (z ∷ r))) h = refl
+  counted-next words h = getD-set-same words 2 n 0 (omega arith)
 
   pub counted-pins : (words : List ℕ) → pinsOf (set words 2 n) ≡ pinsOf words
-  counted-pins [] = refl
-  counted-pins (x ∷ []) = refl
-  counted-pins (x ∷ (y ∷ [])) = refl
-  counted-pins (x ∷ (y ∷ (z ∷ r))) = refl
+  counted-pins words = drop-set-lt 3 words 2 n (omega arith)

@@ -1,12 +1,11 @@
 -- Laws about the node reader and the pair reader in an opening: what they may call, and what comes out of it.
-use mathlib.Core.Path.{_≡_, refl, sym, ap, ap₂, subst, _∙_}
+use mathlib.Core.Path.{_≡_, refl, ap, _∙_}
 use mathlib.Core.List.{List}
 use Prim.Native.Nat.{ℕ, suc, _+_, _-_, _≤_, _<_}
 use native.Mathlib.Omega.{arith}
 use lib.ListN.{length, take, set, length-set}
 use Rattle.bits.specs.declared.Cursor.{Cursor}
 use Rattle.bits.specs.Bits.{placeOf}
-use Rattle.fields.specs.declared.Scan.{Scan}
 use Rattle.fields.specs.declared.Scan.the-variants.{At}
 use Rattle.fields.specs.Reading.{Live}
 use Rattle.shapes_rules.specs.declared.Rules.{Rules}
@@ -31,39 +30,26 @@ module _ {e : List ℕ} {bytes : ℕ} {rules : Rules} {words l : List ℕ} (room
         NodeRead s rules (At (cursorOf words)) (nextOf words) l l (reached f words₁) × WordsAfter rules f words₁ l
     refused-done s f code =
         let dead = outcome-dead f (cursorOf words₁) (code .fault f refl) in (
-          subst (λ (n : ℕ). NodeRead s rules (At (cursorOf words)) (nextOf words) l l (record { scan = outcome f (cursorOf words₁); next = n })) (sym (code .next))
-              (node-refused s rules (At (cursorOf words)) (nextOf words) l (room .read) few (codeGot (Faulty f) words₁) (code .coded) dead),
+          rw (code .next) (node-refused s rules (At (cursorOf words)) (nextOf words) l (room .read) few (codeGot (Faulty f) words₁) (code .coded) dead),
           record { long = code .long; symbols-long = room .symbols-long; used = λ x. absurd (dead x); met = λ x. absurd (dead x) },
         )
 
-    -- Room for the node whose code was read.
-    in-room : (s : List ℕ) (k : ℕ) → CodeRead s rules words words₁ (Code k) → nextOf words < rules .nodes
-    in-room s k code = code .coded .room tt
-
     pub leaf-room : (s : List ℕ) (k : ℕ) → CodeRead s rules words words₁ (Code k) → LeafRoom e bytes rules words₁ l
     unfolding placeOf
-    leaf-room s k code = record {
-      rules-are = room .rules-are;
-      opened = room .opened;
-      long = code .long;
-      symbols-long = room .symbols-long;
-      room = omega (arith, code .next, in-room s k code);
-      used = code .used;
-      near = omega (arith, code .coded .reads .near, room .near, in-room s k code);
-      met = subst (λ (n : ℕ). Met rules (pinsOf words₁) (take n l)) (sym (code .next)) (subst (λ (ps : List ℕ). Met rules ps (take (nextOf words) l)) (sym (code .pins)) (room .met));
-    }
+    leaf-room s k code =
+        let in-room : nextOf words < rules .nodes = code .coded .room tt in
+        let met : Met rules (pinsOf words₁) (take (nextOf words₁) l) = rw (code .next, code .pins) (room .met) in
+        search arith
 
     pub leaf-done : (s : List ℕ) (k : ℕ) (l′ : List ℕ) (r : Reached) → k ≡ 0 → CodeRead s rules words words₁ (Code k) →
         LeafRead s rules (At (cursorOf words₁)) (nextOf words₁) l l′ r plainBits (leafNode s rules) → NodeRead s rules (At (cursorOf words)) (nextOf words) l l′ r
     leaf-done s k l′ r z code h =
-        node-leaf s rules (At (cursorOf words)) (nextOf words) l (room .read) few (codeGot (Code k) words₁) (code .coded) l′ r z tt
-        (subst (λ (n : ℕ). LeafRead s rules (At (cursorOf words₁)) n l l′ r plainBits (leafNode s rules)) (code .next) h)
+        node-leaf s rules (At (cursorOf words)) (nextOf words) l (room .read) few (codeGot (Code k) words₁) (code .coded) l′ r z tt (rw (code .next) at h)
 
     pub driven-done : (s : List ℕ) (k : ℕ) (l′ : List ℕ) (r : Reached) → k ≡ 3 → CodeRead s rules words words₁ (Code k) →
         LeafRead s rules (At (cursorOf words₁)) (nextOf words₁) l l′ r leafBits (drivenNode s rules) → NodeRead s rules (At (cursorOf words)) (nextOf words) l l′ r
     driven-done s k l′ r z code h =
-        node-driven s rules (At (cursorOf words)) (nextOf words) l (room .read) few (codeGot (Code k) words₁) (code .coded) l′ r z tt
-        (subst (λ (n : ℕ). LeafRead s rules (At (cursorOf words₁)) n l l′ r leafBits (drivenNode s rules)) (code .next) h)
+        node-driven s rules (At (cursorOf words)) (nextOf words) l (room .read) few (codeGot (Code k) words₁) (code .coded) l′ r z tt (rw (code .next) at h)
 
     -- A gate: its symbol, and the node counted.
     module _ (s : List ℕ) (k : ℕ) (small : k ≤ 2) (code : CodeRead s rules words words₁ (Code k)) where
@@ -83,41 +69,25 @@ module _ {e : List ℕ} {bytes : ℕ} {rules : Rules} {words l : List ℕ} (room
       gate-next = omega (arith, next-is)
 
       pub gate-in-room : nextOf words < rules .nodes
-      gate-in-room = in-room s k code
+      gate-in-room = code .coded .room tt
 
       pub gate-room : Room e bytes rules counted drawn
-      gate-room = record {
-        rules-are = room .rules-are;
-        opened = room .opened;
-        long = length-set words₁ 2 (nextOf words₁ + 1) ∙ code .long;
-        symbols-long = length-set l (nextOf words₁) (k - 1) ∙ room .symbols-long;
-        read = omega (arith, next-is, gate-in-room);
-        used = subst (λ (c : Cursor). c .used < 8) (sym cursor-is) (code .used);
-        near = omega (arith, ap placeOf cursor-is, next-is, gate-in-room, code .coded .reads .near, room .near);
-        met = subst (λ (n : ℕ). Met rules (pinsOf counted) (take n drawn)) (sym next-is)
-            (subst (λ (ps : List ℕ). Met rules ps (take (nextOf words + 1) drawn)) (sym (counted-pins (nextOf words₁ + 1) words₁ ∙ code .pins))
-            (subst (λ (n : ℕ). Met rules (pinsOf words) (take (nextOf words + 1) (set l n (k - 1)))) (sym (code .next))
-            (met-gate rules (pinsOf words) l (nextOf words) (k - 1) (omega arith) (omega (arith, few, gate-in-room)) (room .met))));
-      }
-
-      -- What was read after the gate, from the place and with the number that it was read at.
-      at-gate : (P : Scan → ℕ → List ℕ → Type 0) (v : ℕ) → k - 1 ≡ v → P (At (cursorOf counted)) (nextOf counted) drawn → P (At (cursorOf words₁)) (nextOf words + 1) (set l (nextOf words) v)
-      at-gate P v e h =
-          subst (λ (c : Cursor). P (At c) (nextOf words + 1) (set l (nextOf words) v)) cursor-is
-          (subst (λ (n : ℕ). P (At (cursorOf counted)) n (set l (nextOf words) v)) next-is
-          (subst (λ (m : List ℕ). P (At (cursorOf counted)) (nextOf counted) m) (ap₂ (λ (n w : ℕ). set l n w) (code .next) e) h))
+      gate-room =
+          let met : Met rules (pinsOf counted) (take (nextOf counted) drawn) = rw (next-is, counted-pins (nextOf words₁ + 1) words₁, code .pins, code .next)
+          (met-gate rules (pinsOf words) l (nextOf words) (k - 1) (omega arith) (omega (arith, few, gate-in-room)) (room .met)) in
+          search (arith, length-set, next-is, gate-in-room, ap placeOf cursor-is, ap (λ (c : Cursor). c .used) cursor-is)
 
       pub inv-done : (l′ : List ℕ) (r : Reached) → k ≡ 1 → NodeRead s rules (At (cursorOf counted)) (nextOf counted) drawn l′ r →
           NodeRead s rules (At (cursorOf words)) (nextOf words) l l′ r
       inv-done l′ r z h =
-          node-inv s rules (At (cursorOf words)) (nextOf words) l (room .read) few (codeGot (Code k) words₁) (code .coded) l′ r z
-          (at-gate (λ (c : Scan) (n : ℕ) (m : List ℕ). NodeRead s rules c n m l′ r) 0 (omega arith) h)
+          let v : k - 1 ≡ 0 = omega arith in
+          node-inv s rules (At (cursorOf words)) (nextOf words) l (room .read) few (codeGot (Code k) words₁) (code .coded) l′ r z (rw (cursor-is, next-is, code .next, v) at h)
 
       pub nand-done : (l′ : List ℕ) (r : Reached) → k ≡ 2 → PairRead s rules (At (cursorOf counted)) (nextOf counted) drawn l′ r →
           NodeRead s rules (At (cursorOf words)) (nextOf words) l l′ r
       nand-done l′ r z h =
-          node-nand s rules (At (cursorOf words)) (nextOf words) l (room .read) few (codeGot (Code k) words₁) (code .coded) l′ r z
-          (at-gate (λ (c : Scan) (n : ℕ) (m : List ℕ). PairRead s rules c n m l′ r) 1 (omega arith) h)
+          let v : k - 1 ≡ 1 = omega arith in
+          node-nand s rules (At (cursorOf words)) (nextOf words) l (room .read) few (codeGot (Code k) words₁) (code .coded) l′ r z (rw (cursor-is, next-is, code .next, v) at h)
 
   -- ---- the second branch of a NAND after the first
 
@@ -128,22 +98,12 @@ module _ {e : List ℕ} {bytes : ℕ} {rules : Rules} {words l : List ℕ} (room
         (dead-read s rules (reached f words₁) l₁ (outcome-dead f (cursorOf words₁) h) (first .went .upto))
 
     live : f ≡ 0 → Live (outcome f (cursorOf words₁))
-    live z = subst (λ (k : ℕ). Live (outcome k (cursorOf words₁))) (sym z) tt
+    live z = rw z tt
 
     pub second-room : f ≡ 0 → Room e bytes rules words₁ l₁
-    second-room z = record {
-      rules-are = room .rules-are;
-      opened = room .opened;
-      long = kept .long;
-      symbols-long = kept .symbols-long;
-      read = first .went .upto;
-      used = kept .used (live z);
-      near = omega (arith, outcome-place f (cursorOf words₁), first .went .near (live z), room .near);
-      met = kept .met (live z);
-    }
+    second-room z = let here = live z in search (arith, kept .used here, kept .met here, first .went .near here, outcome-place f (cursorOf words₁))
 
     pub second-done : f ≡ 0 → (l₂ : List ℕ) (r : Reached) → NodeRead s rules (At (cursorOf words₁)) (nextOf words₁) l₁ l₂ r →
         PairRead s rules (At (cursorOf words)) (nextOf words) l l₂ r
     second-done z l₂ r h =
-        pair-read s rules (At (cursorOf words)) (nextOf words) l l₁ l₂ (reached f words₁) r few first
-        (subst (λ (c : Scan). NodeRead s rules c (nextOf words₁) l₁ l₂ r) (sym (ap (λ (k : ℕ). outcome k (cursorOf words₁)) z)) h)
+        pair-read s rules (At (cursorOf words)) (nextOf words) l l₁ l₂ (reached f words₁) r few first (rw z h)

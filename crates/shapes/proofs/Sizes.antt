@@ -28,17 +28,11 @@ AllSized (x ∷ xs) (z ∷ zs) = Sized x 0 (length zs) zs z × AllSized xs zs
 -- A shape's sizes begin with its own, and are as many.
 first-size : (a : Shape) (zs : List ℕ) → (getD (sizes a ++ zs) 0 0 ≡ size a) × (0 < size a) × (length (sizes a ++ zs) ≡ size a + length zs)
 unfolding sizes size
-first-size a zs = (head a, pos a, length-append (sizes a) zs ∙ ap (λ (k : ℕ). k + length zs) (length-sizes a))
-  where
-    head : (a : Shape) → getD (sizes a ++ zs) 0 0 ≡ size a
-    head (leaf x) = refl
-    head (inv a) = refl
-    head (nand a b) = refl
-
-    pos : (a : Shape) → 0 < size a
-    pos (leaf x) = omega arith
-    pos (inv a) = omega arith
-    pos (nand a b) = omega arith
+first-size a zs = (
+  elim a [ leaf x ↦ refl | inv b ↦ refl | nand b c ↦ refl ],
+  elim a [ leaf x ↦ omega arith | inv b ↦ omega arith | nand b c ↦ omega arith ],
+  rw (length-append, length-sizes),
+)
 
 all-sized : (d : Shape) (xs zs : List ℕ) → AllSized xs zs → AllSized (symbols d ++ xs) (sizes d ++ zs)
 unfolding symbols sizes size
@@ -61,16 +55,15 @@ sized-at (suc k) (x ∷ xs) (z ∷ zs) h g = sized-at k xs zs (h .1) (omega arit
 
 -- The same where the sizes after the node are a run in m.
 sized-in : (x i z : ℕ) (ys m : List ℕ) → Sized x 0 (length ys) ys z → ((j : ℕ) → j < length ys → getD m (i + j) 0 ≡ getD ys j 0) → Sized x i (i + length ys) m z
-sized-in x i z ys m s h = record {
-  leaf = s .leaf;
-  gate = λ q. rw (first q) (omega (arith, s .gate q));
-  inv = λ q. rw (first (omega arith)) (s .inv q);
-  nand = λ q. let n = simp zero-add at (s .nand q) in rw (first (omega arith)) (omega (arith, h (getD ys 0 0) (n .0)));
-  few = omega (arith, s .few);
-}
-  where
-    first : x < 2 → getD m i 0 ≡ getD ys 0 0
-    first q = ap (λ (j : ℕ). getD m j 0) (sym (add-zero i)) ∙ h 0 (s .gate q .0)
+sized-in x i z ys m s h =
+    let first : x < 2 → getD m i 0 ≡ getD ys 0 0 = λ q. rw add-zero at (h 0 (s .gate q .0)) in
+    record {
+      leaf = s .leaf;
+      gate = λ q. rw (first q) (omega (arith, s .gate q));
+      inv = λ q. rw (first (omega arith)) (s .inv q);
+      nand = λ q. let n = simp zero-add at (s .nand q) in rw (first (omega arith)) (omega (arith, h (getD ys 0 0) (n .0)));
+      few = omega (arith, s .few);
+    }
 
 -- The sizes of a shape, whose symbols are the first n of l, are set in m from the last to the first.
 module _ (n : ℕ) (l m : List ℕ) (many : n ≤ length l) (room : n ≤ length m) (d : Shape) (laid : take n l ≡ symbols d) where

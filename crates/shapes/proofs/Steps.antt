@@ -2,7 +2,7 @@
 use mathlib.Core.Path.{_≡_, refl, sym, ap, subst, _∙_}
 use mathlib.Core.List.{List}
 use mathlib.Core.Bool.{true}
-use Prim.Native.Nat.{ℕ, zero, suc, _+_, _≤_, _<_}
+use Prim.Native.Nat.{ℕ, _+_, _≤_, _<_}
 use native.Mathlib.Omega.{arith}
 use native.Mathlib.Numerals.{add-one}
 use lib.ListN.{length, take, set, getD, length-set}
@@ -33,15 +33,10 @@ faultIn (Faulty fault) = fault
 code-read : (s : List ℕ) (rules : Rules) (words words′ : List ℕ) (r : NodeCode) → nextOf words′ ≡ nextOf words → pinsOf words′ ≡ pinsOf words → length words′ ≡ 16 →
     getD words′ 1 0 < 8 → 0 < faultIn r →
     (codeGot r words′ .value, codeGot r words′ .scan) ≡ field s 2 (codeVerdict rules (nextOf words)) (At (cursorOf words)) → CodeRead s rules words words′ r
-code-read s rules words words′ r en ep el u pos e = record {
-  coded = coded s rules (At (cursorOf words)) (nextOf words) (codeGot r words′)
-      (reads-field s 2 (codeVerdict rules (nextOf words)) (At (cursorOf words)) (codeGot r words′) 3 e (λ x l q. omega arith));
-  next = en;
-  pins = ep;
-  long = el;
-  used = u;
-  fault = λ f q. subst (λ (k : ℕ). 0 < k) (ap faultIn q) pos;
-}
+code-read s rules words words′ r en ep el u pos e =
+    let fault : (f : ℕ) → r ≡ Faulty f → 0 < f = λ f q. rw q at pos in
+    search (coded s rules (At (cursorOf words)) (nextOf words) (codeGot r words′)
+    (reads-field s 2 (codeVerdict rules (nextOf words)) (At (cursorOf words)) (codeGot r words′) 3 e (λ x l q. omega arith)))
 
 module _ (s : List ℕ) (rules : Rules) (words : List ℕ) (f : FieldRead) (long : length words ≡ 16) (u : getD words 1 0 < 8) (here : f ≡ fieldAt s (placeOf (cursorOf words)) 2) where
   pub code-truncated : f ≡ Truncated → CodeRead s rules words words (Faulty 1)
@@ -63,8 +58,7 @@ module _ (s : List ℕ) (rules : Rules) (words : List ℕ) (f : FieldRead) (long
 -- ---- a leaf
 
 pub leaf-most : (rules : Rules) (seen : List ℕ) (k x : ℕ) → k ≡ 0 → verdictOf k ≡ leafVerdict rules seen x → x ≤ rules .most
-leaf-most rules seen zero x h e = leaf-passes rules seen x (sym e) .0
-leaf-most rules seen (suc k) x h e = absurd (omega arith)
+leaf-most rules seen k x h e = leaf-passes rules seen x (sym (rw h at e)) .0
 
 module _ (s : List ℕ) (rules : Rules) (words l : List ℕ) (f : FieldRead) (long : length words ≡ 16) (symbols-long : length l ≡ 64)
     (here : f ≡ fieldAt s (placeOf (cursorOf words)) (rules .width)) where
@@ -75,14 +69,9 @@ module _ (s : List ℕ) (rules : Rules) (words l : List ℕ) (f : FieldRead) (lo
   refused : (k : ℕ) → 0 < k → (0, outcome k (cursorOf words)) ≡ field s (rules .width) (leafVerdict rules (take (nextOf words) l)) (At (cursorOf words)) → Done words l k
   refused k h e =
       let dead = outcome-dead k (cursorOf words) h in
-      let there = outcome-place k (cursorOf words) in (
-        record {
-          laid = leaf-refused s rules (At (cursorOf words)) (nextOf words) l (reached k words) dead e;
-          went = λ x. absurd (dead x);
-          near = omega (arith, there);
-          from = omega arith;
-          upto = omega arith;
-        },
+      let there = outcome-place k (cursorOf words) in
+      let laid = leaf-refused s rules (At (cursorOf words)) (nextOf words) l (reached k words) dead e in (
+        record { laid = laid; went = λ x. absurd (dead x); near = omega arith; from = omega arith; upto = omega arith },
         record { long = long; symbols-long = symbols-long; used = λ x. absurd (dead x); met = λ x. absurd (dead x) },
       )
 
@@ -97,44 +86,18 @@ module _ (s : List ℕ) (rules : Rules) (words l : List ℕ) (f : FieldRead) (lo
   pub leaf-sound : (k x : ℕ) (n : Cursor) (words′ : List ℕ) → f ≡ Value x n → k ≡ 0 → verdictOf k ≡ leafVerdict rules (take (nextOf words) l) x → rules .width ≤ plainBits →
       (rules .pattern ≡ true → x ≤ 12) → nextOf words < 64 → Met rules (pinsOf words) (take (nextOf words) l) →
       Marked rules (set (set (set words 0 (n .byte)) 1 (n .used)) 2 (nextOf words + 1)) x words′ → Done words′ (set l (nextOf words) (2 + x)) 0
-  leaf-sound k x n words′ e h q hw few room met mk = (
-    record {
-      laid = leaf-laid s rules (At (cursorOf words)) (nextOf words) x l (reached 0 words′) (next ∙ add-one (nextOf words))
-          (ap (λ (c : Cursor). (x, At c)) at ∙ field-sound s (cursorOf words) (rules .width) (leafVerdict rules (take (nextOf words) l)) f here k x n e h q);
-      went = λ z. next ∙ add-one (nextOf words);
-      near = omega (arith, ap placeOf at, found .1);
-      from = omega (arith, next);
-      upto = omega (arith, next);
-    },
-    record {
-      long = marked-long;
-      symbols-long = length-set l (nextOf words) (2 + x) ∙ symbols-long;
-      used = λ z. subst (λ (m : ℕ). m < 8) (sym (ap (λ (c : Cursor). c .used) at)) (found .0);
-      met = λ z p. subst (λ (i : ℕ). Met rules (pinsOf words′) (take i (set l (nextOf words) (2 + x)))) (sym next)
-          (met-leaf rules moved words′ l (nextOf words) x moved-long (few p) (omega arith) mk (subst (λ (ps : List ℕ). Met rules ps (take (nextOf words) l)) (sym pins) met)) p;
-    },
-  )
-    where
-      moved : List ℕ
-      moved = set (set (set words 0 (n .byte)) 1 (n .used)) 2 (nextOf words + 1)
-
-      found : (n .used < 8) × (placeOf n ≡ placeOf (cursorOf words) + rules .width)
-      found = found-used s (placeOf (cursorOf words)) (rules .width) x n f here e
-
-      first-long : length (set (set words 0 (n .byte)) 1 (n .used)) ≡ 16
-      first-long = length-set (set words 0 (n .byte)) 1 (n .used) ∙ length-set words 0 (n .byte) ∙ long
-
-      moved-long : length moved ≡ 16
-      moved-long = length-set (set (set words 0 (n .byte)) 1 (n .used)) 2 (nextOf words + 1) ∙ first-long
-
-      marked-long : length words′ ≡ 16
-      marked-long = long-marked rules moved words′ x mk ∙ moved-long
-
-      at : cursorOf words′ ≡ n
-      at = marked-others rules moved words′ x mk .0 ∙ counted-cursor (nextOf words + 1) (set (set words 0 (n .byte)) 1 (n .used)) ∙ moved-cursor (n .byte) (n .used) words long
-
-      next : nextOf words′ ≡ nextOf words + 1
-      next = marked-others rules moved words′ x mk .1 ∙ counted-next (nextOf words + 1) (set (set words 0 (n .byte)) 1 (n .used)) first-long
-
-      pins : pinsOf moved ≡ pinsOf words
-      pins = counted-pins (nextOf words + 1) (set (set words 0 (n .byte)) 1 (n .used)) ∙ moved-pins (n .byte) (n .used) words
+  leaf-sound k x n words′ e h q hw few room met mk =
+      let there = set (set words 0 (n .byte)) 1 (n .used) in
+      let moved = set there 2 (nextOf words + 1) in
+      let found = found-used s (placeOf (cursorOf words)) (rules .width) x n f here e in
+      let first-long : length there ≡ 16 = length-set (set words 0 (n .byte)) 1 (n .used) ∙ length-set words 0 (n .byte) ∙ long in
+      let moved-long : length moved ≡ 16 = length-set there 2 (nextOf words + 1) ∙ first-long in
+      let others = marked-others rules moved words′ x mk in
+      let at : cursorOf words′ ≡ n = others .0 ∙ counted-cursor (nextOf words + 1) there ∙ moved-cursor (n .byte) (n .used) words long in
+      let next : nextOf words′ ≡ nextOf words + 1 = others .1 ∙ counted-next (nextOf words + 1) there first-long in
+      let pins : pinsOf moved ≡ pinsOf words = counted-pins (nextOf words + 1) there ∙ moved-pins (n .byte) (n .used) words in
+      let marked : Met rules (pinsOf words′) (take (nextOf words′) (set l (nextOf words) (2 + x))) = λ p.
+      rw next (met-leaf rules moved words′ l (nextOf words) x moved-long (few p) (omega arith) mk (rw pins met) p) in
+      let laid = leaf-laid s rules (At (cursorOf words)) (nextOf words) x l (reached 0 words′) (next ∙ add-one (nextOf words))
+      (ap (λ (c : Cursor). (x, At c)) at ∙ field-sound s (cursorOf words) (rules .width) (leafVerdict rules (take (nextOf words) l)) f here k x n e h q) in
+      (search (arith, ap placeOf at), search (arith, long-marked rules moved words′ x mk, length-set, ap (λ (c : Cursor). c .used) at))

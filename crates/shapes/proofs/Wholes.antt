@@ -1,5 +1,5 @@
 -- Laws about a whole shape: one for each way out of its reader.
-use mathlib.Core.Path.{_≡_, refl, sym, ap, ap₂, subst, _∙_}
+use mathlib.Core.Path.{_≡_, refl, sym, ap, subst, _∙_}
 use mathlib.Core.List.{List, [], _∷_}
 use mathlib.Core.Bool.{Bool, false, _&&_}
 use Prim.Native.Nat.{ℕ, zero, suc, _+_, _*_, _≤_, _<_}
@@ -7,10 +7,9 @@ use native.Mathlib.Nat.{zero-add}
 use native.Mathlib.Omega.{arith}
 use lib.ListN.{length, take, drop, getD, replicate, length-replicate}
 use Rattle.fields.proofs.Lists.{take-sets, zeros-at}
-use lib.Seq.{sets}
 use Rattle.bits.specs.declared.Cursor.{Cursor}
 use Rattle.bits.specs.Bits.{placeOf}
-use Rattle.bits.specs.Inside.Promises.{Opens}
+use Rattle.bits.specs.Inside.Promises.{Opens, Opened}
 use Rattle.bits.proofs.Laws.{cursor-is}
 use Rattle.fields.specs.declared.Fault.the-variants.{Truncated}
 use Rattle.fields.specs.declared.Scan.{Scan}
@@ -19,7 +18,7 @@ use Rattle.fields.specs.Reading.{place, Live}
 use Rattle.shapes_rules.specs.declared.Rules.{Rules}
 use Rattle.shapes.specs.declared.ShapeRead.{ShapeRead}
 use Rattle.shapes_rules.specs.Shape.{Shape, symbols}
-use Rattle.shapes_rules.specs.Drawing.{elem, hasAll, shape, nodeBits}
+use Rattle.shapes_rules.specs.Drawing.{elem, shape, nodeBits}
 use Rattle.shapes.specs.Inside.Promises.{allMarked, faultOf, outcome, cursorOf, nextOf, pinsOf, reached, Followed, Room, Laid, NodeRead, WordsAfter, ShapeIs}
 use Rattle.shapes.proofs.Laws.{outcome-place}
 use Rattle.shapes.proofs.Marks.{whole-marked}
@@ -54,16 +53,7 @@ module _ (s : List ℕ) (rules : Rules) (l : List ℕ) (symbols-long : length l 
 
 pub start-room : (e s : List ℕ) (bytes u : ℕ) (rules : Rules) (l : List ℕ) → Opens e s bytes → Followed rules → length l ≡ 64 → u < 8 → Room e bytes rules (0 ∷ (u ∷ replicate 14 0)) l
 unfolding placeOf elem
-start-room e s bytes u rules l opens followed symbols-long h = record {
-  rules-are = followed;
-  opened = record { sheet = s; opens = opens };
-  long = refl;
-  symbols-long = symbols-long;
-  read = omega arith;
-  used = h;
-  near = omega (arith, followed .nodes);
-  met = λ p x q. zeros-at 13 x;
-}
+start-room e s bytes u rules l opens followed symbols-long h = let opened : Opened e bytes = record { sheet = s; opens = opens } in search (arith, zeros-at 13)
 
 -- ---- a shape was read in the bytes from number b on
 
@@ -88,9 +78,7 @@ module _ (s : List ℕ) (rules : Rules) (scan : Scan) (c : Cursor) (b u : ℕ) (
   farther : (k : ℕ) → (Live (outcome k (cursorOf words′)) → getD words′ 1 0 < 8) → outcome k next ≡ shift b (outcome k (cursorOf words′))
   unfolding placeOf
   farther zero h = ap At (cursor-is (b + getD words′ 0 0) (getD words′ 1 0) (8 * b + (8 * getD words′ 0 0 + getD words′ 1 0)) (h tt) (omega arith))
-  farther (suc k) h =
-      let there : 8 * (b + getD words′ 0 0) + getD words′ 1 0 ≡ 8 * b + (8 * getD words′ 0 0 + getD words′ 1 0) = omega arith in
-      ap (Refused (faultOf (suc k))) there
+  farther (suc k) h = ap (Refused (faultOf (suc k))) (omega arith)
 
   ends : outcome end next ≡ shape s rules scan .1
   ends = farther end (kept .used) ∙ ap (shift b) (laid .scan) ∙ sym (ap (λ (y : Shape × Scan). y .1) whole-is)
@@ -101,11 +89,7 @@ module _ (s : List ℕ) (rules : Rules) (scan : Scan) (c : Cursor) (b u : ℕ) (
   end-place = omega (arith, outcome-place end (cursorOf words′), read .went .far)
 
   live : Live (outcome end next) → Live (outcome end (cursorOf words′))
-  live = go end
-    where
-      go : (k : ℕ) → Live (outcome k next) → Live (outcome k (cursorOf words′))
-      go zero z = tt
-      go (suc k) z = absurd z
+  live = elim end as (λ k. Live (outcome k next) → Live (outcome k (cursorOf words′))) [ zero ↦ λ z. tt | suc k ↦ λ z. z ]
 
   -- The shape's symbols as they were seen.
   seen : Live (outcome end next) → take (nextOf words′) l′ ≡ symbols (x .0)
@@ -114,15 +98,12 @@ module _ (s : List ℕ) (rules : Rules) (scan : Scan) (c : Cursor) (b u : ℕ) (
   pub shape-done : (r : Scan) (w : Bool) → r ≡ outcome end next → w ≡ (rules .pattern && allMarked (suc (rules .most)) (pinsOf words′)) →
       ShapeIs s rules scan l l′ (record { scan = r; size = nextOf words′; whole = w })
   shape-done r w e marked =
-      let shape-is : shape s rules scan .0 ≡ x .0 = ap (λ (y : Shape × Scan). y .0) whole-is in
       let back : Live r → Live (outcome end next) = λ z. subst Live e z in
       record {
         scan-is = e ∙ ends;
-        symbols-are = λ z. laid .symbols (live (back z)) ∙ ap (λ (d : Shape). sets l 0 (symbols d)) (sym shape-is);
-        size-is = λ z. laid .next (live (back z)) ∙ zero-add (length (symbols (x .0))) ∙ ap (λ (d : Shape). length (symbols d)) (sym shape-is);
-        whole-is = λ z.
-            marked ∙ whole-marked rules (pinsOf words′) (take (nextOf words′) l′) (kept .met (live (back z)))
-            ∙ ap (λ (ss : List ℕ). rules .pattern && hasAll (suc (rules .most)) ss) (seen (back z) ∙ ap symbols (sym shape-is));
+        symbols-are = λ z. rw whole-is (laid .symbols (live (back z)));
+        size-is = λ z. rw whole-is (omega (arith, laid .next (live (back z))));
+        whole-is = λ z. rw (whole-is, ← (seen (back z))) (marked ∙ whole-marked rules (pinsOf words′) (take (nextOf words′) l′) (kept .met (live (back z))));
         few = read .went .upto;
         symbols-long = kept .symbols-long;
         near = omega (arith, end-place, ap place e, outcome-place end next, ap place stands);
@@ -135,5 +116,4 @@ pub drawn-is : (s : List ℕ) (rules : Rules) (c : Scan) (l′ : List ℕ) (read
     take (read .size) l′ ≡ symbols (shape s rules c .0)
 drawn-is s rules c l′ read few h z =
     let d = shape s rules c .0 in
-    ap₂ (λ (i : ℕ) (k : List ℕ). take i k) (h .size-is z ∙ sym (zero-add (length (symbols d)))) (h .symbols-are z)
-    ∙ take-sets (replicate 64 0) 0 (symbols d) (omega (arith, h .size-is z, h .few, length-replicate {A = ℕ} 64 0))
+    rw (h .size-is z, h .symbols-are z) (rw zero-add at (take-sets (replicate 64 0) 0 (symbols d) (omega (arith, h .size-is z, h .few, length-replicate {A = ℕ} 64 0))))

@@ -2,16 +2,16 @@
 use mathlib.Core.Path.{_≡_, refl, sym, ap, subst, _∙_}
 use mathlib.Core.List.{List, [], _∷_, _++_, append-assoc, append-nil}
 use Prim.Native.Nat.{ℕ, zero, suc, _+_, _≤_}
-use mathlib.Core.Bool.{Bool, true, false, cond}
+use mathlib.Core.Bool.{Bool, true}
 use native.Mathlib.Omega.{arith}
+use borrow.Table.Steps.{cases}
 use borrow.Author.Tests.{leb-true}
 use lib.Dec.{leb}
 use native.Mathlib.Nat.{add-zero, add-suc, suc-add}
 use lib.ListN.{length}
 use Rattle.fields.specs.declared.Scan.{Scan}
-use Rattle.fields.specs.Reading.{place, within, field, Live, Reader, times}
-use Rattle.fields.specs.declared.Verdict.the-variants.{Sound, Faulty}
-use Rattle.fields.specs.declared.Fault.the-variants.{Size}
+use Rattle.fields.specs.Reading.{place, field, Live, Reader, times}
+use Rattle.fields.specs.declared.Verdict.the-variants.{Sound}
 use Rattle.fields.proofs.Laws.{positive-live, live-sound, range-least, range-passes}
 use Rattle.shapes_rules.proofs.Drawing.{node-live}
 use Rattle.fields.specs.declared.Scan.the-variants.{At, Refused}
@@ -45,21 +45,17 @@ pattern-live s pins xs c h =
 
 pub count-passes : (total x : ℕ) → countVerdict total x ≡ Sound → (total + x ≤ 128) × (x ≤ 7) × (1 ≤ x)
 unfolding countVerdict
-count-passes total x e = go (leb (total + x) 128) refl e
-  where
-    go : (a : Bool) → leb (total + x) 128 ≡ a → cond a (within 1 7 x) (Faulty Size) ≡ Sound → (total + x ≤ 128) × (x ≤ 7) × (1 ≤ x)
-    go true ea e = (leb-true (total + x) 128 ea, range-passes 1 7 x e, range-least 1 7 x e)
-    go false ea e = let z : _≡_ {A = ℕ} 0 1 = cc in absurd (omega arith)
+count-passes total x e = cases (leb (total + x) 128) (λ f. let g = rw f at e in (leb-true (total + x) 128 f, range-passes 1 7 x g, range-least 1 7 x g))
+    (λ f. let g = rw f at e in let z : _≡_ {A = ℕ} 0 1 = cc in absurd (omega arith))
 
 -- A count fits after the patterns before it: it is 0 if it was refused.
 pub count-fits : (s : List ℕ) (total : ℕ) (scan : Scan) → total ≤ 128 → total + field s 3 (countVerdict total) scan .0 ≤ 128
-count-fits s total scan h = go (field s 3 (countVerdict total) scan .0) refl
-  where
-    go : (v : ℕ) → field s 3 (countVerdict total) scan .0 ≡ v → total + v ≤ 128
-    go zero e = omega arith
-    go (suc v) e =
-        let live = positive-live s 3 (countVerdict total) scan (omega arith) in
-        rw (← e) (count-passes total (field s 3 (countVerdict total) scan .0) (live-sound s 3 (countVerdict total) scan live .0) .0)
+count-fits s total scan h = (elim (field s 3 (countVerdict total) scan .0) as (λ v. field s 3 (countVerdict total) scan .0 ≡ v → total + v ≤ 128) [
+  | zero ↦ λ e. omega arith
+  | suc v ↦ λ e.
+      let live = positive-live s 3 (countVerdict total) scan (omega arith) in
+      rw (← e) (count-passes total (field s 3 (countVerdict total) scan .0) (live-sound s 3 (countVerdict total) scan live .0) .0)
+]) refl
 
 times-dead : {A : Type 0} (n : ℕ) (r : List A → Reader A) (f : Fault) (p : ℕ) → ((xs : List A) → r xs (Refused f p) .1 ≡ Refused f p) → times n r (Refused f p) .1 ≡ Refused f p
 unfolding times

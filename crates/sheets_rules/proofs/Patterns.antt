@@ -1,6 +1,6 @@
 -- The patterns of a sound library, and their rows in the table that the core is lent.
 use Prim.Native.Nat.{ℕ, zero, suc, _+_, _*_, _≤_, _<_}
-use mathlib.Core.Path.{_≡_, refl, sym, ap, subst, _∙_}
+use mathlib.Core.Path.{_≡_, refl, sym, ap, _∙_}
 use mathlib.Core.Logic.{⊎-elim}
 use mathlib.Core.Bool.{false, cond}
 use mathlib.Core.List.{List, [], _∷_, _++_, map, List·Memᴰ, List·Memᴰ·head, List·Memᴰ·tail, List·Memᴰ·not-nil, List·Memᴰ·append-cases, Memᴰ·of-map}
@@ -12,7 +12,7 @@ use Rattle.fields.proofs.Lists.{at-mem, at-map}
 use Rattle.shapes_rules.specs.Shape.{plainLeaf, Shape, size, symbols}
 use Rattle.sheets_rules.specs.Model.{Pin, binLoadOf, Cell, Library, Pattern, drawn, patternsFrom, patterns, cellOf, areaOf, pinsMost}
 use Rattle.sheets_rules.specs.Inside.Sound.{SoundDrawing, SoundCell, SoundLibrary}
-use Rattle.sheets_rules.specs.Inside.Layout.{padded, cellLaid, numberAt, areaAt, pinWords, figuresAt, sizeAt, symbolsAt, rowWords, tableWords, pinFigures, tableFrom, patternRow, patternRows, libraryLaid, patternTable}
+use Rattle.sheets_rules.specs.Inside.Layout.{padded, cellLaid, numberAt, areaAt, pinWords, figuresAt, sizeAt, symbolsAt, rowWords, tableWords, pinFigures, patternRow, patternRows, libraryLaid, patternTable}
 use Rattle.sheets_rules.proofs.Rows.{length-row, row-cell, row-held, row-area, row-highest, row-pins, row-figure, row-size, row-symbol}
 use Rattle.sheets_rules.proofs.Tables.{length-table, row-at}
 use Rattle.sheets_rules.proofs.Laid.{in-padded}
@@ -24,42 +24,22 @@ record Listed (n : ℕ) (cs : List Cell) (p : Pattern) : Type 0 where
   place : ℕ
   number : p .cellNumber ≡ n + place
   inside : place < length cs
-  cell-in : List·Memᴰ (p .cell) cs
   cell-at : (d : Cell) → getD cs place d ≡ p .cell
   drawing-in : List·Memᴰ (p .drawing) (p .cell .drawings)
 
 drawn-cases : (n : ℕ) (c : Cell) (ds : List Shape) {p : Pattern} → List·Memᴰ p (drawn n c ds) → (p .cellNumber ≡ n) × (p .cell ≡ c) × List·Memᴰ (p .drawing) ds
 unfolding drawn
 drawn-cases n c [] h = absurd (List·Memᴰ·not-nil h)
-drawn-cases n c (d ∷ ds) (List·Memᴰ·head e) =
-    (ap (λ (q : Pattern). q .cellNumber) e, ap (λ (q : Pattern). q .cell) e, List·Memᴰ·head (ap (λ (q : Pattern). q .drawing) e))
+drawn-cases n c (d ∷ ds) (List·Memᴰ·head e) = ((cc), (cc), List·Memᴰ·head (ap (λ (q : Pattern). q .drawing) e))
 drawn-cases n c (d ∷ ds) (List·Memᴰ·tail h) = let r = drawn-cases n c ds h in (r .0, r .1, List·Memᴰ·tail (r .2))
 
 listed : (n : ℕ) (cs : List Cell) {p : Pattern} → List·Memᴰ p (patternsFrom n cs) → Listed n cs p
 unfolding patternsFrom
 listed n [] h = absurd (List·Memᴰ·not-nil h)
-listed n (c ∷ cs) {p} h =
+listed n (c ∷ cs) h =
     ⊎-elim
-    (λ m.
-    let r = drawn-cases n c (c .drawings) m in
-    record {
-      place = 0;
-      number = r .0 ∙ sym (add-zero n);
-      inside = omega arith;
-      cell-in = List·Memᴰ·head (r .1);
-      cell-at = λ d. sym (r .1);
-      drawing-in = subst (λ (x : Cell). List·Memᴰ (p .drawing) (x .drawings)) (sym (r .1)) (r .2);
-    })
-    (λ m.
-    let r = listed (suc n) cs m in
-    record {
-      place = suc (r .place);
-      number = r .number ∙ suc-add n (r .place) ∙ sym (add-suc n (r .place));
-      inside = omega (arith, r .inside);
-      cell-in = List·Memᴰ·tail (r .cell-in);
-      cell-at = r .cell-at;
-      drawing-in = r .drawing-in;
-    })
+    (λ m. let (number, cell, drawing) = drawn-cases n c (c .drawings) m in record { place = 0; number = omega arith; inside = omega arith; cell-at = λ d. sym cell; drawing-in = rw cell drawing })
+    (λ m. let r = listed (suc n) cs m in record { place = suc (r .place); number = omega (arith, r .number); inside = omega (arith, r .inside); cell-at = r .cell-at; drawing-in = r .drawing-in })
     (List·Memᴰ·append-cases (drawn n c (c .drawings)) h)
 
 -- Each of these cells has a pattern, if each has a drawing.
@@ -71,11 +51,8 @@ pub record Shown (d : Pattern) (ps : List Pattern) (n : ℕ) : Type 0 where
 pub shown : (d : Pattern) (n : ℕ) (cs : List Cell) → ((c : Cell) → List·Memᴰ c cs → 1 ≤ length (c .drawings)) → (k : ℕ) → k < length cs → Shown d (patternsFrom n cs) (n + k)
 unfolding patternsFrom drawn
 shown d n [] h k g = absurd (omega arith)
-shown d n (c ∷ cs) h zero g = go (c .drawings) (h c (List·Memᴰ·head refl))
-  where
-    go : (ds : List Shape) → 1 ≤ length ds → Shown d (drawn n c ds ++ patternsFrom (suc n) cs) (n + 0)
-    go [] q = absurd (omega arith)
-    go (x ∷ ds) q = record { place = 0; inside = omega arith; number = sym (add-zero n) }
+shown d n (c ∷ cs) h zero g = (elim (c .drawings) as (λ ds. 1 ≤ length ds → Shown d (drawn n c ds ++ patternsFrom (suc n) cs) (n + 0))
+    [ [] ↦ λ q. absurd (omega arith) | x ∷ ds ↦ λ q. record { place = 0; inside = omega arith; number = sym (add-zero n) } ]) (h c (List·Memᴰ·head refl))
 shown d n (c ∷ cs) h (suc k) g =
     let ds = drawn n c (c .drawings) in
     let r = shown d (suc n) cs (λ x m. h x (List·Memᴰ·tail m)) k (omega arith) in
@@ -97,10 +74,11 @@ pub sound-pattern : (l : Library) → SoundLibrary l → {p : Pattern} → List�
 unfolding patterns
 sound-pattern l h {p} m =
     let r = listed 0 (l .cells) m in
-    let c = h .cells (p .cell) (r .cell-in) in
+    let cell-in = rw (r .cell-at (p .cell)) at (at-mem (l .cells) (r .place) (p .cell) (r .inside)) in
+    let c = h .cells (p .cell) cell-in in
     record {
       number-small = omega (arith, r .number, r .inside);
-      cell-in = r .cell-in;
+      cell-in = cell-in;
       cell-at = λ d. ap (λ (k : ℕ). getD (l .cells) k d) (r .number ∙ zero-add (r .place)) ∙ r .cell-at d;
       cell = c;
       drawing = c .drawings (p .drawing) (r .drawing-in);
@@ -129,29 +107,15 @@ pub record Told (bins : List ℕ) (p : Pattern) (r : List ℕ) : Type 0 where
   pub nodes : getD r sizeAt 0 ≡ size (p .drawing)
   pub symbol : (k : ℕ) → k < size (p .drawing) → getD r (symbolsAt + k) 0 ≡ getD (symbols (p .drawing)) k 0
 
--- A row that has the pattern's words first.
-told : (bins : List ℕ) (p : Pattern) (r : List ℕ) → length r ≡ rowWords →
-    ((c : ℕ) → c < symbolsAt + size (p .drawing) → getD r c 0 ≡ getD (patternRow bins p) c 0) → Told bins p r
-unfolding patternRow cellLaid
-told bins p r e h =
-    let n = p .cellNumber in
-    let c = cellLaid bins (p .cell) in
-    let x = p .drawing in
-    record {
-      long = e;
-      number = h 0 (omega arith) ∙ row-cell n c x;
-      held = h 1 (omega arith) ∙ row-held n c x;
-      area = h 2 (omega arith) ∙ row-area n c x;
-      highest = h 3 (omega arith) ∙ row-highest n c x;
-      pins = h 4 (omega arith) ∙ row-pins n c x;
-      figure = λ k q i j. h (figuresAt + pinWords * k + q) (omega arith) ∙ row-figure n c x k q i j;
-      nodes = h sizeAt (omega arith) ∙ row-size n c x;
-      symbol = λ k i. h (symbolsAt + k) (omega arith) ∙ row-symbol n c x k;
-    }
-
 pub all-words : (l : Library) → length (libraryLaid l .rows) ≡ tableWords
 unfolding libraryLaid
 all-words l = length-table rowWords (replicate tableWords 0) 0 (patternRows (l .bins) (patterns l)) ∙ length-replicate {A = ℕ} tableWords 0
+
+-- A word of row j, which is lent in m words, in the whole table.
+table-word : (l : Library) (j c m : ℕ) → c < m → rowWords * j + c < rowWords * length (patterns l) → getD (take m (drop (rowWords * j) (patternTable l))) c 0 ≡ getD (libraryLaid l .rows) (rowWords * j + c) 0
+unfolding patternTable
+table-word l j c m h g =
+    getD-take m (drop (rowWords * j) (patternTable l)) c 0 h ∙ getD-drop (rowWords * j) (patternTable l) c 0 ∙ getD-take (rowWords * length (patterns l)) (libraryLaid l .rows) (rowWords * j + c) 0 g
 
 module _ (l : Library) (sound : SoundLibrary l) where
   pub table-long : length (patternTable l) ≡ rowWords * length (patterns l)
@@ -162,16 +126,13 @@ module _ (l : Library) (sound : SoundLibrary l) where
   module _ (d : Pattern) (j m : ℕ) (h : j < length (patterns l)) (e : m ≡ rowWords) where
     words : (c : ℕ) → c < symbolsAt + size (getD (patterns l) j d .drawing) → c < rowWords →
         getD (take m (drop (rowWords * j) (patternTable l))) c 0 ≡ getD (patternRow (l .bins) (getD (patterns l) j d)) c 0
-    unfolding patternTable libraryLaid patternRows patternRow
+    unfolding libraryLaid patternRows patternRow
     words c g small =
         let ps = patterns l in
         let f = patternRow (l .bins) in
-        let rows = tableFrom rowWords (replicate tableWords 0) 0 (patternRows (l .bins) ps) in
-        let here : getD (patternRows (l .bins) ps) j [] ≡ f (getD ps j d) = at-map f ps j d [] h in
         let p = getD ps j d in
-        getD-take m (drop (rowWords * j) (patternTable l)) c 0 (omega arith)
-        ∙ getD-drop (rowWords * j) (patternTable l) c 0
-        ∙ getD-take (rowWords * length ps) rows (rowWords * j + c) 0 (omega arith)
+        let here : getD (patternRows (l .bins) ps) j [] ≡ f p = at-map f ps j d [] h in
+        table-word l j c m (omega arith) (omega arith)
         ∙ row-at rowWords (replicate tableWords 0) (patternRows (l .bins) ps) j c
         (λ r i.
         let q = Memᴰ·of-map f ps i in
@@ -182,12 +143,25 @@ module _ (l : Library) (sound : SoundLibrary l) where
         ∙ ap (λ (r : List ℕ). getD r c 0) here
 
     pub row-told : Told (l .bins) (getD (patterns l) j d) (take m (drop (rowWords * j) (patternTable l)))
+    unfolding patternRow cellLaid
     row-told =
         let p = getD (patterns l) j d in
+        let n = p .cellNumber in
+        let c = cellLaid (l .bins) (p .cell) in
+        let x = p .drawing in
         let few = sound-pattern l sound (at-mem (patterns l) j d h) .drawing .size in
-        told (l .bins) p _
-        (length-take-le m (drop (rowWords * j) (patternTable l)) (omega (arith, length-drop (rowWords * j) (patternTable l), table-long)) ∙ e)
-        (λ c g. words c g (omega arith))
+        let at : (i : ℕ) → i < symbolsAt + size x → getD (take m (drop (rowWords * j) (patternTable l))) i 0 ≡ getD (patternRow (l .bins) p) i 0 = λ i g. words i g (omega arith) in
+        record {
+          long = length-take-le m (drop (rowWords * j) (patternTable l)) (omega (arith, length-drop (rowWords * j) (patternTable l), table-long)) ∙ e;
+          number = at 0 (omega arith) ∙ row-cell n c x;
+          held = at 1 (omega arith) ∙ row-held n c x;
+          area = at 2 (omega arith) ∙ row-area n c x;
+          highest = at 3 (omega arith) ∙ row-highest n c x;
+          pins = at 4 (omega arith) ∙ row-pins n c x;
+          figure = λ k q i o. at (figuresAt + pinWords * k + q) (omega arith) ∙ row-figure n c x k q i o;
+          nodes = at sizeAt (omega arith) ∙ row-size n c x;
+          symbol = λ k i. at (symbolsAt + k) (omega arith) ∙ row-symbol n c x k;
+        }
 
 -- ---- a pattern's cell, by the words of the whole table
 
@@ -228,15 +202,8 @@ module _ {l : Library} (sound : SoundLibrary l) (j : ℕ) (h : j < length (patte
   pub row-in : rowWords * j + rowWords ≤ length rows
   row-in = omega (arith, sound .few-patterns, all-words l)
 
-  word-of : (c : ℕ) → c < rowWords → getD rows (rowWords * j + c) 0 ≡ getD (take rowWords (drop (rowWords * j) (patternTable l))) c 0
-  unfolding patternTable
-  word-of c small =
-      sym (getD-take (rowWords * length ps) rows (rowWords * j + c) 0 (omega arith))
-      ∙ sym (getD-drop (rowWords * j) (patternTable l) c 0)
-      ∙ sym (getD-take rowWords (drop (rowWords * j) (patternTable l)) c 0 small)
-
   pub cell-told : getD rows (rowWords * j + numberAt) 0 ≡ cellOf l j
-  cell-told = word-of numberAt (omega arith) ∙ row-told l sound noPattern j rowWords h refl .number ∙ sym cell-of
+  cell-told = sym (table-word l j numberAt rowWords (omega arith) (omega arith)) ∙ row-told l sound noPattern j rowWords h refl .number ∙ sym cell-of
 
   pub area-told : getD rows (rowWords * j + areaAt) 0 ≡ areaOf l (cellOf l j)
-  area-told = word-of areaAt (omega arith) ∙ row-told l sound noPattern j rowWords h refl .area ∙ sym area-of
+  area-told = sym (table-word l j areaAt rowWords (omega arith) (omega arith)) ∙ row-told l sound noPattern j rowWords h refl .area ∙ sym area-of

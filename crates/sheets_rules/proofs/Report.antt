@@ -30,19 +30,13 @@ use Rattle.sheets_rules.specs.Report.{LibraryLimits, libraryNumber, tree
 -- The bytes that it takes up are there.
 pub tree-room : (last : Bool) (s : List ℕ) (c : Cursor) → treeTo last s start .1 ≡ At c → bytesTo (placeOf c) ≤ length s
 unfolding treeTo
-tree-room last s c e = go last (tailed-wanted (tailAt last s) (shape s treeRules (field s 24 (within 0 16777215) (field s 8 (within 0 255) start .1) .1) .1) c e)
-  where
-    go : (b : Bool) → tailAt b s (placeOf c) ≡ true → bytesTo (placeOf c) ≤ length s
-    go true f = omega (arith, ends-says s (placeOf c) f)
-    go false f = fills-says s (placeOf c) f
+tree-room last s c e =
+    (elim last as (λ b. tailAt b s (placeOf c) ≡ true → bytesTo (placeOf c) ≤ length s) [ true ↦ λ f. omega (arith, ends-says s (placeOf c) f) | false ↦ λ f. fills-says s (placeOf c) f ])
+    (tailed-wanted (tailAt last s) (shape s treeRules (field s 24 (within 0 16777215) (field s 8 (within 0 255) start .1) .1) .1) c e)
 
 pub number-bounds : (f : Fault) → (1 ≤ libraryNumber f) × (libraryNumber f ≤ 6)
 unfolding libraryNumber
-number-bounds Truncated = omega arith
-number-bounds Tail = omega arith
-number-bounds Range = omega arith
-number-bounds Drawing = omega arith
-number-bounds Size = omega arith
+number-bounds = elim [ Truncated ↦ omega arith | Tail ↦ omega arith | Range ↦ omega arith | Drawing ↦ omega arith | Size ↦ omega arith ]
 
 -- The numbers of both sheets fit a word.
 pub library-number-fits : (f : Fault) → (1 ≤ libraryNumber f) × (libraryNumber f < numbers)
@@ -55,14 +49,14 @@ tree-number-fits f = omega (arith, number-bounds f)
 -- What a caller reads from the word of an answer with counts is the answer.
 pub counts-read : (o : Answer LibraryCounts) → Bounded (onSuccess libraryWord o) → LibraryLimits o → onSuccess ofLibraryWord (ofWord (word (onSuccess libraryWord o))) ≡ o
 unfolding onSuccess libraryWord ofLibraryWord LibraryLimits
-counts-read o h limits = ap (onSuccess ofLibraryWord) (word-reads (onSuccess libraryWord o) h) ∙ go o limits
-  where
-    go : (o : Answer LibraryCounts) → LibraryLimits o → onSuccess ofLibraryWord (onSuccess libraryWord o) ≡ o
-    go (refusedIn item number place) g = refl
-    go (success n) g =
-        let cells : (n .cells * 256 + n .patterns) / 256 ≡ n .cells = omega (arith, g .1) in
-        let patterns : (n .cells * 256 + n .patterns) % 256 ≡ n .patterns = omega (arith, g .1) in
-        λ i. success (record { cells = cells i; patterns = patterns i })
+counts-read o h limits = ap (onSuccess ofLibraryWord) (word-reads (onSuccess libraryWord o) h) ∙
+    (elim o as (λ o. LibraryLimits o → onSuccess ofLibraryWord (onSuccess libraryWord o) ≡ o) [
+      | refusedIn item number place ↦ λ g. refl
+      | success n ↦ λ g.
+          let cells : (n .cells * 256 + n .patterns) / 256 ≡ n .cells = omega (arith, g .1) in
+          let patterns : (n .cells * 256 + n .patterns) % 256 ≡ n .patterns = omega (arith, g .1) in
+          λ i. success (record { cells = cells i; patterns = patterns i })
+    ]) limits
 
 -- ---- a tree is never misdrawn
 
@@ -86,16 +80,13 @@ within-of-tree least most x = range-of-tree (leb least x && leb x most)
 
 module _ (s : List ℕ) where
   field-of-tree : (w : ℕ) (verdict : ℕ → Verdict) → ((x : ℕ) → VerdictOfTree (verdict x)) → (c : Scan) → OfTree c → OfTree (field s w verdict c .1)
+  unfolding treeNumber libraryNumber
   field-of-tree w verdict h (Refused f p) g = g
-  field-of-tree w verdict h (At c) g = go (fieldAt s (placeOf c) w)
-    where
-      judged : (v : Verdict) (x : ℕ) (n : Cursor) → VerdictOfTree v → OfTree (settled (placeOf c) v x (At n) .1)
-      judged Sound x n k = tt
-      judged (Faulty f) x n k = k
-
-      go : (r : FieldRead.FieldRead) → OfTree (scanned (placeOf c) verdict r .1)
-      go FieldRead.the-variants.Truncated = unfold treeNumber libraryNumber in torn
-      go (FieldRead.the-variants.Value x n) = judged (verdict x) x n (h x)
+  field-of-tree w verdict h (At c) g = elim (fieldAt s (placeOf c) w) as (λ r. OfTree (scanned (placeOf c) verdict r .1)) [
+    | FieldRead.the-variants.Truncated ↦ torn
+    | FieldRead.the-variants.Value x n ↦
+        (elim (verdict x) as (λ v. VerdictOfTree v → OfTree (settled (placeOf c) v x (At n) .1)) [ Sound ↦ λ k. tt | Faulty f ↦ λ k. k ]) (h x)
+  ]
 
   leaf-of-tree : (seen : List ℕ) (c : Scan) → OfTree c → OfTree (field s 20 (leafVerdict treeRules seen) c .1)
   unfolding leafVerdict
@@ -115,23 +106,17 @@ module _ (s : List ℕ) where
   branch-of-tree d below seen (suc (suc (suc k))) c g = field-of-tree 8 free (λ x. tt) (field s 20 (leafVerdict treeRules seen) c .1) (leaf-of-tree seen c g)
 
   node-of-tree : (d : ℕ) → NodesOfTree d
-  unfolding node codeVerdict
+  unfolding node codeVerdict treeNumber libraryNumber
   node-of-tree zero seen c g = g
   node-of-tree (suc d) seen c g =
       let code = field s 2 (codeVerdict treeRules (length seen)) c in
-      branch-of-tree d (node-of-tree d) seen (code .0) (code .1) (field-of-tree 2 (codeVerdict treeRules (length seen)) (λ x. go (leb 64 (length seen))) c g)
-    where
-      go : (b : Bool) → VerdictOfTree (cond b (Faulty Size) Sound)
-      go true = unfold treeNumber libraryNumber in overgrown
-      go false = tt
+      let passes = elim (leb 64 (length seen)) as (λ b. VerdictOfTree (cond b (Faulty Size) Sound)) [ true ↦ overgrown | false ↦ tt ] in
+      branch-of-tree d (node-of-tree d) seen (code .0) (code .1) (field-of-tree 2 (codeVerdict treeRules (length seen)) (λ x. passes) c g)
 
   tailed-of-tree : (wanted : ℕ → Bool) (c : Scan) → OfTree c → OfTree (tailed wanted c)
+  unfolding treeNumber libraryNumber
   tailed-of-tree wanted (Refused f p) g = g
-  tailed-of-tree wanted (At c) g = go (wanted (placeOf c))
-    where
-      go : (b : Bool) → OfTree (cond b (At c) (Refused Tail (placeOf c)))
-      go true = tt
-      go false = unfold treeNumber libraryNumber in loose-tail
+  tailed-of-tree wanted (At c) g = elim (wanted (placeOf c)) as (λ b. OfTree (cond b (At c) (Refused Tail (placeOf c)))) [ true ↦ tt | false ↦ loose-tail ]
 
   pub tree-refusal : (last : Bool) {f : Fault} {p : ℕ} → treeTo last s start .1 ≡ Refused f p → TreeRefusal (treeNumber f)
   unfolding treeTo shape

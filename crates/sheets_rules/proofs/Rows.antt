@@ -1,7 +1,7 @@
 -- A pattern's row, written part by part and read back word by word.
 use Prim.Native.Nat.{ℕ, zero, suc, _+_, _*_, _<_}
-use mathlib.Core.Path.{_≡_, refl, sym, ap, ap₂, _∙_}
-use mathlib.Core.Logic.{_⊎_, inl, inr}
+use mathlib.Core.Path.{_≡_, refl, sym, ap, _∙_}
+use mathlib.Core.Logic.{⊎-elim}
 use mathlib.Core.Bool.{cond}
 use mathlib.Core.List.{List, [], _∷_, _++_}
 use native.Mathlib.Nat.{eq-or-lt-of-le, le-of-suc-le-suc}
@@ -27,20 +27,14 @@ length-figures cell (suc n) = omega (arith, length-append (figures cell n) (pinF
 pub figures-turn : (cell : CellRecord) (k : ℕ) (l l₁ l₂ : List ℕ) → l₁ ≡ sets l figuresAt (figures cell k) →
     l₂ ≡ sets l₁ (figuresAt + pinWords * k) (pinFigures cell k) → l₂ ≡ sets l figuresAt (figures cell (k + 1))
 unfolding figures
-figures-turn cell k l l₁ l₂ e₁ e₂ =
-    e₂
-    ∙ ap₂ (λ (l′ : List ℕ) (n : ℕ). sets l′ (figuresAt + n) (pinFigures cell k)) e₁ (sym (length-figures cell k))
-    ∙ sym (sets-append l figuresAt (figures cell k) (pinFigures cell k))
-    ∙ ap (λ (n : ℕ). sets l figuresAt (figures cell n)) (sym (add-one k))
+figures-turn cell k l l₁ l₂ e₁ e₂ = rw (add-one, e₂, e₁, ← length-figures cell k) (sym (sets-append l figuresAt (figures cell k) (pinFigures cell k)))
 
 -- A cell's number, its first four words, then its pins' figures.
 pub cell-written : (number mark : ℕ) (cell : CellRecord) (l l₁ l₂ : List ℕ) → mark ≡ cond (cell .held) 1 0 →
     l₁ ≡ sets (set l 0 number) 1 (mark ∷ (cell .area ∷ (cell .highest ∷ (cell .pins ∷ [])))) →
     l₂ ≡ sets l₁ figuresAt (figures cell pinsMost) → l₂ ≡ sets l 0 (number ∷ cellWords cell)
 unfolding cellWords
-cell-written number mark cell l l₁ l₂ em e₁ e₂ =
-    e₂ ∙ ap (λ (l′ : List ℕ). sets l′ figuresAt (figures cell pinsMost)) e₁
-    ∙ ap (λ (m : ℕ). sets (sets (set l 0 number) 1 (m ∷ (cell .area ∷ (cell .highest ∷ (cell .pins ∷ []))))) figuresAt (figures cell pinsMost)) em
+cell-written number mark cell l l₁ l₂ em e₁ e₂ = rw (e₂, e₁, em)
 
 length-words : (cell : CellRecord) → length (cellWords cell) ≡ 4 + pinWords * pinsMost
 unfolding cellWords
@@ -61,16 +55,12 @@ row-written number cell x l =
 figure-at : (cell : CellRecord) (n p q : ℕ) → p < n → q < pinWords → getD (figures cell n) (pinWords * p + q) 0 ≡ getD (pinFigures cell p) q 0
 unfolding figures pinFigures
 figure-at cell zero p q h g = absurd (omega arith)
-figure-at cell (suc n) p q h g = go (eq-or-lt-of-le (le-of-suc-le-suc h)) (λ k. figure-at cell n p q k g)
-  where
-    go : (p ≡ n) ⊎ (p < n) → (p < n → getD (figures cell n) (pinWords * p + q) 0 ≡ getD (pinFigures cell p) q 0) →
-        getD (figures cell n ++ pinFigures cell n) (pinWords * p + q) 0 ≡ getD (pinFigures cell p) q 0
-    go (inl e) rec =
-        ap (λ (k : ℕ). getD (figures cell n ++ pinFigures cell n) (k + q) 0) (ap (λ (k : ℕ). pinWords * k) e ∙ sym (length-figures cell n))
-        ∙ getD-append-add (figures cell n) (pinFigures cell n) q 0
-        ∙ ap (λ (k : ℕ). getD (pinFigures cell k) q 0) (sym e)
-    go (inr k) rec =
-        List·getD-append (figures cell n) (pinFigures cell n) 0 (pinWords * p + q) (omega (arith, length-figures cell n)) ∙ rec k
+figure-at cell (suc n) p q h g =
+    ⊎-elim
+    (λ e. ap (λ (k : ℕ). getD (figures cell n ++ pinFigures cell n) (k + q) 0) (ap (λ (k : ℕ). pinWords * k) e ∙ sym (length-figures cell n))
+    ∙ getD-append-add (figures cell n) (pinFigures cell n) q 0 ∙ ap (λ (k : ℕ). getD (pinFigures cell k) q 0) (sym e))
+    (λ k. List·getD-append (figures cell n) (pinFigures cell n) 0 (pinWords * p + q) (omega (arith, length-figures cell n)) ∙ figure-at cell n p q k g)
+    (eq-or-lt-of-le (le-of-suc-le-suc h))
 
 module _ (number : ℕ) (cell : CellRecord) (x : Shape) where
   pub length-row : length (row number cell x) ≡ symbolsAt + size x
@@ -102,9 +92,7 @@ module _ (number : ℕ) (cell : CellRecord) (x : Shape) where
   unfolding row cellWords
   row-figure p q h g =
       let at : figuresAt + pinWords * p + q ≡ suc (suc (suc (suc (suc (pinWords * p + q))))) = omega arith in
-      ap (λ (k : ℕ). getD (row number cell x) k 0) at
-      ∙ List·getD-append (figures cell pinsMost) (size x ∷ symbols x) 0 (pinWords * p + q) (omega (arith, length-figures cell pinsMost))
-      ∙ figure-at cell pinsMost p q h g
+      rw at (List·getD-append (figures cell pinsMost) (size x ∷ symbols x) 0 (pinWords * p + q) (omega (arith, length-figures cell pinsMost)) ∙ figure-at cell pinsMost p q h g)
 
   after-cell : (k : ℕ) → getD (row number cell x) (sizeAt + k) 0 ≡ getD (size x ∷ symbols x) k 0
   unfolding row
@@ -116,6 +104,4 @@ module _ (number : ℕ) (cell : CellRecord) (x : Shape) where
   row-size = after-cell 0
 
   pub row-symbol : (k : ℕ) → getD (row number cell x) (symbolsAt + k) 0 ≡ getD (symbols x) k 0
-  row-symbol k =
-      let at : symbolsAt + k ≡ sizeAt + suc k = omega arith in
-      ap (λ (i : ℕ). getD (row number cell x) i 0) at ∙ after-cell (suc k)
+  row-symbol k = let at : symbolsAt + k ≡ sizeAt + suc k = omega arith in rw at (after-cell (suc k))

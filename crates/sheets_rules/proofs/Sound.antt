@@ -16,7 +16,7 @@ use Rattle.shapes_rules.specs.Drawing.{hasAll, codeVerdict, leafVerdict, leafNo
 use Rattle.fields.proofs.Laws.{live-sound, free-small, range-least, range-passes, length-times, tailed-live}
 use Rattle.shapes_rules.proofs.Drawing.{code-room, plain-symbol, leaf-passes, length-symbols, leaves-nands, node-live}
 use Rattle.shapes_rules.proofs.Pins.{fresh, fresh-few, fresh-append, fresh-leaf}
-use Rattle.sheets_rules.specs.Model.{Leaf, Shape, size, leaves, Pin, Cell, Library, Tree, patternsFrom, patterns}
+use Rattle.sheets_rules.specs.Model.{Leaf, Shape, size, leaves, Pin, Library, Tree, patternsFrom, patterns}
 use Rattle.sheets_rules.specs.LibrarySheet.{Head, last, binLoad, head, pin, patternRules, pattern, countVerdict, drawings, cell, bins, cells, library, cellAfter}
 use Rattle.sheets_rules.specs.TreeSheet.{treeRules, tailAt, treeTo, tree}
 use Rattle.fields.specs.Answer.{success}
@@ -136,12 +136,9 @@ bin-keeps : (s before : List ℕ) → Keeps (λ x. x ≤ 255) (binLoad s before)
 unfolding binLoad
 bin-keeps s before c l = let h = field-keeps s 8 (suc (last before)) 255 c l in (h .0 .1, h .1)
 
-record SoundHead (h : Head) : Type 0 where
-  some-area : 1 ≤ h .area
-  area : h .area ≤ 65535
-  highest : h .highest ≤ 255
-  some-pin : 1 ≤ h .pins
-  few-pins : h .pins ≤ 6
+-- A head within its limits.
+abbrev SoundHead : Head → Type 0
+SoundHead h = (1 ≤ h .area) × (h .area ≤ 65535) × (h .highest ≤ 255) × (1 ≤ h .pins) × (h .pins ≤ 6)
 
 head-keeps : (s : List ℕ) → Keeps SoundHead (head s)
 unfolding head
@@ -152,8 +149,7 @@ head-keeps s c l =
     let pins-in = field-keeps s 3 1 6 (highest .1) l in
     let highest-in = field-keeps s 8 0 255 (area .1) (pins-in .1) in
     let area-in = field-keeps s 16 1 65535 (held .1) (highest-in .1) in
-    let stored-in = field-keeps s 1 0 1 c (area-in .1) in
-    (record { some-area = area-in .0 .0; area = area-in .0 .1; highest = highest-in .0 .1; some-pin = pins-in .0 .0; few-pins = pins-in .0 .1 }, stored-in .1)
+    ((area-in .0 .0, area-in .0 .1, highest-in .0 .1, pins-in .0 .0, pins-in .0 .1), field-keeps s 1 0 1 c (area-in .1) .1)
 
 pin-keeps : (s : List ℕ) (bins : ℕ) (before : List Pin) → Keeps (λ p. 1 ≤ bins → SoundPin bins p) (pin s bins before)
 unfolding pin
@@ -213,14 +209,14 @@ cell-keeps s bins total c l =
     let head-in = head-keeps s c (pins-in .1) in
     let few = length-times n (pin s bins) (h .1) in (
       (λ some. record {
-        some-area = head-in .0 .some-area;
-        area = head-in .0 .area;
-        highest = head-in .0 .highest;
-        some-pin = omega (arith, head-in .0 .some-pin);
-        few-pins = omega (arith, head-in .0 .few-pins);
+        some-area = head-in .0 .0;
+        area = head-in .0 .1;
+        highest = head-in .0 .2;
+        some-pin = omega (arith, head-in .0 .3);
+        few-pins = omega (arith, head-in .0 .4);
         pins = λ p m. pins-in .0 p m some;
         some-drawing = drawn-in .0 .0;
-        drawings = λ d m. rw few (drawn-in .0 .1 d m (head-in .0 .some-pin));
+        drawings = λ d m. rw few (drawn-in .0 .1 d m (head-in .0 .3));
       }),
       head-in .1,
     )
@@ -252,8 +248,7 @@ library-limits s l =
     let n = length (loads .0) in
     let number = field s 7 (within 1 64) (loads .1) in
     let cs = times (number .0) (cellAfter s n) (number .1) in
-    let each : (before : List Cell) → Keeps (λ c. 1 ≤ n → SoundCell n c) (cellAfter s n before) = λ before. cell-keeps s n (length (patternsFrom 0 before)) in
-    let cells-in = times-all (λ c. 1 ≤ n → SoundCell n c) (cellAfter s n) each (number .0) (number .1) (tailed-live (endsAt s) (cs .1) l) in
+    let cells-in = times-all (λ c. 1 ≤ n → SoundCell n c) (cellAfter s n) (λ before. cell-keeps s n (length (patternsFrom 0 before))) (number .0) (number .1) (tailed-live (endsAt s) (cs .1) l) in
     let number-in = field-keeps s 7 1 64 (loads .1) (cells-in .1) in
     let loads-in = times-all (λ x. x ≤ 255) (binLoad s) (bin-keeps s) (count .0) (count .1) (number-in .1) in
     let count-in = field-keeps s 3 1 4 start (loads-in .1) in

@@ -1,6 +1,6 @@
 -- A tree sheet that is written says its tree: the reader reads it back.
 use Prim.Native.Nat.{ℕ, zero, suc, _+_, _≤_, _<_}
-use mathlib.Core.Path.{_≡_, refl, sym, ap, ap₂, subst, _∙_}
+use mathlib.Core.Path.{_≡_, refl, sym, ap, ap₂, _∙_}
 use mathlib.Core.List.{List, [], _∷_, _++_, append-nil}
 use native.Mathlib.Omega.{arith}
 use lib.ListN.{length, length-append}
@@ -21,14 +21,6 @@ use Rattle.sheets_rules.specs.TreeSheet.{treeRules, treeTo, tree}
 use Rattle.sheets_rules.specs.TreeWritten.{CodedTree, code0, code1, code2, code3, codedFields, shapeOf, treeFields, treeSheet, Ranged, SoundCoded, plainly, Undriven, SameTree, SameWithPlain}
 
 -- A code passes while there is room for its node, and an arrival up to the latest.
-code-passes : (n code : ℕ) → n < 64 → codeVerdict treeRules n code ≡ Sound
-unfolding codeVerdict
-code-passes n code h = rw (lt-leb 64 n h) refl
-
-arrival-passes : (seen : List ℕ) (x : ℕ) → x ≤ 1000000 → leafVerdict treeRules seen x ≡ Sound
-unfolding leafVerdict
-arrival-passes seen x h = rw (le-leb x 1000000 h) refl
-
 passes-range : (most x : ℕ) → x ≤ most → within 0 most x ≡ Sound
 unfolding within
 passes-range most x h = rw (le-leb 0 x (omega arith), le-leb x most h) refl
@@ -40,35 +32,29 @@ module _ (all : List Field) where
   -- What follows a code says the rest of a node.
   coded : (d : ℕ) (seen : List ℕ) (k : ℕ) {fs rest : List Field} {x : Shape} → k < 4 → length seen < 64 → Says all (branch s treeRules (node s treeRules d) seen k) fs rest x →
       Says all (node s treeRules (suc d) seen) (record { value = k; width = 2 } ∷ fs) rest x
-  unfolding node
-  coded d seen k small room h = says-then (branch s treeRules (node s treeRules d) seen) (says-sound 2 (codeVerdict treeRules (length seen)) small (code-passes (length seen) k room)) h
+  unfolding node codeVerdict
+  coded d seen k small room h = says-then (branch s treeRules (node s treeRules d) seen) (says-sound 2 (codeVerdict treeRules (length seen)) small (rw (lt-leb 64 (length seen) room))) h
 
   arrival-says : (seen : List ℕ) {rest : List Field} {x : ℕ} → x ≤ 1000000 → Says all (field s 20 (leafVerdict treeRules seen)) (record { value = x; width = 20 } ∷ []) rest x
-  arrival-says seen {x = x} h = says-sound 20 (leafVerdict treeRules seen) (omega arith) (arrival-passes seen x h)
+  unfolding leafVerdict
+  arrival-says seen {x = x} h = says-sound 20 (leafVerdict treeRules seen) (omega arith) (rw (le-leb x 1000000 h))
 
   node-says : (x : CodedTree) (d : ℕ) (seen : List ℕ) (rest : List Field) → Ranged x → length seen + size (shapeOf x) ≤ 64 → size (shapeOf x) ≤ d → Says all (node s treeRules d seen) (codedFields x) rest (shapeOf x)
   unfolding codedFields shapeOf size branch leafNode drivenNode pair
-  node-says (code0 x) zero seen rest h room deep = absurd (omega arith)
+  node-says x zero seen rest h room deep = absurd ((elim x as (λ y. size (shapeOf y) ≤ 0 → ⊥) [ code0 n ↦ λ g. omega arith | code1 a ↦ λ g. omega arith | code2 a b ↦ λ g. omega arith | code3 n e ↦ λ g. omega arith ]) deep)
   node-says (code0 x) (suc d) seen rest h room deep = coded d seen 0 (omega arith) (omega arith) (says-then (λ y. done (plainLeaf y)) (arrival-says seen h) (says-done (plainLeaf x)))
-  node-says (code1 a) zero seen rest h room deep = absurd (omega arith)
   node-says (code1 a) (suc d) seen rest h room deep =
       coded d seen 1 (omega arith) (omega arith)
-      (subst (λ (fs : List Field). Says all (branch s treeRules (node s treeRules d) seen 1) fs rest (inv (shapeOf a))) (append-nil (codedFields a))
-      (says-then (λ y. done (inv y)) (node-says a d (seen ++ (0 ∷ [])) ([] ++ rest) h (omega (arith, length-append seen (0 ∷ []))) (omega arith)) (says-done (inv (shapeOf a)))))
-  node-says (code2 a b) zero seen rest h room deep = absurd (omega arith)
+      (simp append-nil at (says-then (λ y. done (inv y)) (node-says a d (seen ++ (0 ∷ [])) ([] ++ rest) h (omega (arith, length-append seen (0 ∷ []))) (omega arith)) (says-done (inv (shapeOf a)))))
   node-says (code2 a b) (suc d) seen rest h room deep =
       let first = seen ++ (1 ∷ []) in
       let second = first ++ symbols (shapeOf a) in
       let longer : length second ≡ length seen + 1 + size (shapeOf a) = omega (arith, length-append first (symbols (shapeOf a)), length-append seen (1 ∷ []), length-symbols (shapeOf a)) in
-      let whole : (codedFields a ++ (codedFields b ++ [])) ++ [] ≡ codedFields a ++ codedFields b =
-      append-nil (codedFields a ++ (codedFields b ++ [])) ∙ ap (λ (fs : List Field). codedFields a ++ fs) (append-nil (codedFields b)) in
       coded d seen 2 (omega arith) (omega arith)
-      (subst (λ (fs : List Field). Says all (branch s treeRules (node s treeRules d) seen 2) fs rest (nand (shapeOf a) (shapeOf b))) whole
-      (says-then (λ (ab : Shape × Shape). done (nand (ab .0) (ab .1)))
+      (simp append-nil at (says-then {rest = rest} (λ (ab : Shape × Shape). done (nand (ab .0) (ab .1)))
       (says-then (λ (y : Shape). node s treeRules d (first ++ symbols y) >>= (λ (z : Shape). done (y, z))) (node-says a d first _ (h .0) (omega (arith, length-append seen (1 ∷ []))) (omega arith))
       (says-then (λ (z : Shape). done (shapeOf a, z)) (node-says b d second _ (h .1) (omega arith) (omega arith)) (says-done (shapeOf a, shapeOf b))))
       (says-done (nand (shapeOf a) (shapeOf b)))))
-  node-says (code3 x e) zero seen rest h room deep = absurd (omega arith)
   node-says (code3 x e) (suc d) seen rest h room deep =
       coded d seen 3 (omega arith) (omega arith)
       (says-then (λ y. field s 8 free >>= (λ z. done (leaf (record { number = y; drive = z })))) (arrival-says seen (h .0))

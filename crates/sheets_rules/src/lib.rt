@@ -38,7 +38,7 @@ impl Limits {
     pub const TIME: u32 = 16777215;
 
     // How many times there are: a point's word is its area times this, plus its arrival.
-    pub const TIMES: u64 = 16777216;
+    pub const TIMES: u64 = Limits::TIME as u64 + 1;
 
     pub const POINTS: usize = 31;
 

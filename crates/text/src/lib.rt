@@ -7,6 +7,13 @@ ghost use lib.ListN.{length};
 ghost use Rattle.text.specs.Text.{decimal, signed, space, spaced};
 ghost use Rattle.text.specs.Inside.Promises.{Appended};
 
+// How many digits a number of 64 bits has at the most.
+struct Decimal {}
+
+impl Decimal {
+    const DIGITS: usize = 20;
+}
+
 // Puts a word, and answers the place after it.
 pub fn put_word(text: &mut [u8], at: usize, word: &[u8]) -> usize
     requires { ⌜ at + length (now word) ≤ length (now text) ⌝ }
@@ -25,7 +32,7 @@ pub fn put_number(text: &mut [u8], at: usize, n: u64) -> usize
     requires { ⌜ at + length (decimal n) ≤ length (now text) ⌝ }
     ensures { λ r. ⌜ Appended (decimal n) (now (text .entry)) at (now (text .exit)) r ⌝ }
 {
-    let mut digits = [0u8; 20];
+    let mut digits = [0u8; Decimal::DIGITS];
     let count = io::decimal(n, &mut digits);
     put_word(text, at, &digits[..count])
 }

@@ -157,9 +157,16 @@ pub fn judge_tree(s: &[u8]) -> TreeJudged
     }
 }
 
+// How far the numbers of a tree's faults stand above those of a library's.
+struct Numbers {}
+
+impl Numbers {
+    const TREE: u32 = 10;
+}
+
 // Document 01's number of a fault in a tree.
 pub fn tree_number(fault: Fault) -> u32
     ensures { λ r. ⌜ (r ≡ treeNumber fault) × (r ≤ 16) ⌝ }
 {
-    library::library_number(fault) + 10
+    library::library_number(fault) + Numbers::TREE
 }

@@ -10,13 +10,14 @@ use Rattle.fields.specs.declared.Scan.{Scan}
 use Rattle.fields.specs.declared.Scan.the-variants.{At, Refused}
 use Rattle.fields.specs.Reading.{Live, start}
 use Rattle.fields.specs.Answer.{Answer, refused, refusedIn, success, said, _>>=_, onSuccess}
+use Rattle.fields.proofs.Answer.{read-said}
 use Rattle.sheets_rules.specs.Model.{Library, Tree}
 use Rattle.sheets_rules.specs.LibrarySheet.{library as libraryOf}
 use Rattle.sheets_rules.specs.TreeSheet.{tree as treeOf}
 use Rattle.sheets_rules.specs.Inside.Layout.{libraryLaid}
 use Rattle.sheets_rules.specs.Report.{libraryNumber, treeNumber, librarySaid, treeSaid}
 use Rattle.sheets_rules.proofs.Sound.{library-limits, tree-limits}
-use Rattle.covers.specs.Capacity.{capacity, workWords, allowed}
+use Rattle.covers.specs.Capacity.{capacity, allowed}
 use Rattle.covers.specs.Cover.{Cover}
 use Rattle.covers.specs.CoverSheet.{coverSheet, CoverReads}
 use Rattle.covers.specs.Promise.{RootCover, BestCover}
@@ -34,7 +35,7 @@ use Rattle.result_sheets.specs.Public.{Written}
 use Rattle.frame.specs.Framed as Framed
 use Rattle.frame.specs.Framed.{spoiled, rest, refusalLine, outcomeText}
 use Rattle.frame.proofs.Laws.{text-whole, front-is}
-use Rattle.treecover_text.specs.Printed.{coverText, textAnswer, mapShown, ShownAlike, longestText, printed, printedWithin}
+use Rattle.treecover_text.specs.Printed.{coverText, textAnswer, wordsLent, mapShown, ShownAlike, longestText, printed, printedWithin}
 use Rattle.treecover_text.specs.Demands.{TextDemands, PrintedWhereWhole}
 use Rattle.treecover_text.specs.Inside.Rows.{coverIn, rowText, HaveRows}
 use Rattle.treecover_text.proofs.Reading.{cover-rows, cover-read, cover-short}
@@ -107,7 +108,7 @@ module _ (ls ts : List ℕ) where
       (omega (arith, length-append b (drop (length b) output)), subst (λ (s : List ℕ). Readable l q s (coverText l c)) (sym (take-at b (drop (length b) output) (length b) refl)) (readable live tree (h .best .legal)))
 
   abbrev outcome : Answer (List ℕ)
-  outcome = mapOutcome ls ts mapBytes (workWords capacity)
+  outcome = mapOutcome ls ts mapBytes wordsLent
 
   shown : Shown l t q w outcome (outcomeText (mapShown ls ts))
   unfolding mapOutcome mapShown operation lent allowed librarySaid treeSaid _>>=_
@@ -128,7 +129,9 @@ module _ (ls ts : List ℕ) where
     not-handed = λ item number place e. let n-is : n ≡ number = cc in let p-is : p ≡ place = cc in rw (n-is, p-is);
   }
   demands (sheet {c = c} live tree h) is = record {
-    handed = λ bytes e. let same : bytes ≡ coverSheet c = cc in (c, refl, same, rw same (back live tree (h .best .legal)), h, live, tree);
+    handed = λ bytes e.
+        let same : bytes ≡ coverSheet c = cc in
+        (l, t, c, (unfold librarySaid in read-said libraryNumber (libraryOf ls start) live), (unfold treeSaid in read-said treeNumber (treeOf ts start) tree), refl, same, rw same (back live tree (h .best .legal)), h);
     not-handed = λ item number place e. let z : _≡_ {A = ℕ} 0 1 = cc in absurd (omega arith);
   }
 
@@ -142,4 +145,4 @@ text-worth room input h long whole = text-demands (Framed.sheet input 1 0) (rest
 
 pub shown-alike : ShownAlike
 unfolding mapShown
-shown-alike ls ts ts′ s = operation-alike mapBytes textAnswer ls ts ts′ mapBytes (workWords capacity) (same-said s)
+shown-alike ls ts ts′ s = operation-alike mapBytes textAnswer ls ts ts′ mapBytes wordsLent (same-said s)

@@ -38,10 +38,14 @@ unfoldable pub textAnswer : ℕ → Library → Tree → Answer (List ℕ)
 unfolding onSuccess coverText mapped
 textAnswer most l t = onSuccess (coverText l) (mapped most l t)
 
+-- The work words that treecover lends.
+abbrev pub wordsLent : ℕ
+wordsLent = workWords capacity
+
 -- The outcome of map, with the cover's text, lent an output and a work area that are just long enough.
 unfoldable pub mapShown : (library tree : List ℕ) → Answer (List ℕ)
 unfolding operation textAnswer
-mapShown library tree = operation mapBytes textAnswer library tree mapBytes (workWords capacity)
+mapShown library tree = operation mapBytes textAnswer library tree mapBytes wordsLent
 
 -- Sheets that say the same tree are shown alike.
 abbrev pub ShownAlike : Type 0

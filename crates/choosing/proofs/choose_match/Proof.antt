@@ -1,19 +1,17 @@
 -- The match chosen at a gate. The laws are those of `Gate`.
 use borrow.Author.Needs.{needs}
 use native.Mathlib.Omega.{arith}
-use Prim.Native.Nat.{ℕ, _+_, _-_, _*_, _%_, _≤_, _<_}
-use mathlib.Core.Path.{_≡_, sym, ap, ap₂, subst, _∙_}
+use Prim.Native.Nat.{ℕ, _+_, _-_, _*_, _≤_}
+use mathlib.Core.Path.{_≡_}
 use mathlib.Core.List.{List}
 use lib.ListN.{length, getD, take, drop}
 use Rattle.sheets_rules.specs.Model.{Shape, Library, Tree}
 use Rattle.sheets_rules.specs.Inside.Layout.{rowWords}
-use Rattle.covers.specs.Match.{Match}
-use Rattle.covers.specs.Inside.Curve.{base}
 use Rattle.matching.specs.Inside.Found.{matchBytes, matchTable}
 use Rattle.curves.specs.Inside.Best.{hitAt, patternOf}
 use Rattle.curves.proofs.Laws.{part-word, part-length}
 use Rattle.filling.proofs.Node.{FoundIs, gate-here, hits-ready}
-use Rattle.choosing.specs.Inside.Promises.{HitHolds, InputsAre, Prepared, Driven}
+use Rattle.choosing.specs.Inside.Promises.{Prepared, Driven}
 use Rattle.choosing.proofs.Gate.{Limits, limits, ready, word-found, Picked, picked, picked-inputs}
 use Rattle.choosing.proofs.choose_match.Statement.{statement}
 use Rattle.choosing.proofs.choose_match.Tie as tie
@@ -83,13 +81,13 @@ the-pattern : (c : Reached) → let at = rowWords * getD (table (searched c)) (m
 the-pattern c =
     let at = rowWords * getD (table (searched c)) (matchBytes * place c + 0) 0 in
     let part : at + rowWords - at ≡ rowWords = omega arith in
-    ap₂ (λ m k. take m (drop (rowWords * k) (entry (searched c) .args .rows .now))) part (sym (pattern-is c))
+    rw (part, ← pattern-is c)
 
 the-match : (c : Reached) → let at = matchBytes * place c in take (at + matchBytes - at) (drop at (table (searched c))) ≡ hitAt (table (searched c)) (place c)
 the-match c =
     let at = matchBytes * place c in
     let part : at + matchBytes - at ≡ matchBytes = omega arith in
-    ap (λ m. take m (drop at (table (searched c)))) part
+    rw part
 
 mul-look-up : tie.Need-mul-look-up
 mul-look-up c = omega (arith, near (c .before .before .before .before .before .before) .node-small)
@@ -155,11 +153,7 @@ read-inputs-requires c κs =
 returns : tie.Need-returns
 returns c = λ l t s dec drv.
     let q = c .before .before .before .before .before in
-    let a = entry (searched q) .args in
-    let x = c .read-inputs .result in
-    picked-inputs (the-hit q l t s dec drv) x
-    (subst (λ hit. (l : Library) (m : Match) → HitHolds l (patternOf (a .rows .now) (hitAt (table (searched q)) (place q))) hit m → InputsAre l m (a .goal .load) (word q % base) x) (the-match q)
-    (subst (λ pattern. (l : Library) (m : Match) → HitHolds l pattern (take (matchBytes * place q + matchBytes - matchBytes * place q) (drop (matchBytes * place q) (table (searched q)))) m → InputsAre l m (a .goal .load) (word q % base) x) (the-pattern q) (c .read-inputs .ensures)))
+    picked-inputs (the-hit q l t s dec drv) (c .read-inputs .result) (rw (the-pattern q, the-match q) at (c .read-inputs .ensures))
 
 pub choose-match-spec : {M : Type 1} → statement M
 choose-match-spec = tie.close (tie.spec mul-look-up add-look-up (λ c. search needs) (λ c. search needs)

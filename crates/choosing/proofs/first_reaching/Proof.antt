@@ -1,8 +1,8 @@
 -- The loop over the hits, left with the first that reaches: none before it does.
 use native.Mathlib.Omega.{arith}
 use Prim.Native.Nat.{ℕ, _+_, _-_, _%_, _≤_, _<_}
-use mathlib.Core.Path.{_≡_, subst}
-use mathlib.Core.Logic.{_⊎_, inl, inr}
+use mathlib.Core.Path.{_≡_}
+use mathlib.Core.Logic.{⊎-elim}
 use Rattle.covers.proofs.Basics.{lt-or-le}
 use Rattle.covers.specs.Inside.Curve.{base}
 use Rattle.curves.specs.Inside.Best.{hitAt}
@@ -29,16 +29,9 @@ match-best-requires c κs =
 loop-again : tie.Need-loop-again Inv-loop μ-loop
 loop-again c =
     let i = c .before .before .before .loop in
-    (omega arith, λ k h. go k (lt-or-le k (i .j)) h)
-  where
-    go : (k : ℕ) → (k < c .before .before .before .loop .j) ⊎ (c .before .before .before .loop .j ≤ k) → k < c .before .before .before .loop .j + 1 →
-        let a = c .before .before .before .before .before .before .before .before .args in Reaches (a .most) (a .symbols .now) (a .work .now) (a .rows .now) (a .load) (a .w) (hitAt (a .found .now) k) → ⊥
-    go k (inl l) h = c .before .before .before .loop .inv .1 k l
-    go k (inr l) h =
-        let a = c .before .before .before .before .before .before .before .before .args in
-        let e : c .before .before .before .loop .j ≡ k = omega arith in
-        subst (λ (q : ℕ). Reaches (a .most) (a .symbols .now) (a .work .now) (a .rows .now) (a .load) (a .w) (hitAt (a .found .now) q) → ⊥) e
-        (unreached (a .w) (c .before .match-best .result) (a .w % base + 1) _ (omega arith) (c .before .match-best .ensures) (c .if1 .left))
+    let a = c .before .before .before .before .before .before .before .before .args in
+    let not-here = unreached (a .w) (c .before .match-best .result) (a .w % base + 1) _ (omega arith) (c .before .match-best .ensures) (c .if1 .left) in
+    (omega arith, λ k h. ⊎-elim (i .inv .1 k) (λ l. let e : k ≡ i .j = omega arith in rw e not-here) (lt-or-le k (i .j)))
 
 returns : tie.Need-returns Inv-loop μ-loop
 returns c =

@@ -3,11 +3,10 @@ use native.Mathlib.Nat.{le-refl}
 use native.Mathlib.Omega.{arith}
 use Prim.Native.Nat.{ℕ, _+_, _-_, _≤_, _<_}
 use mathlib.Core.Path.{_≡_, refl, subst, _∙_}
-use mathlib.Core.Bool.{Bool}
 use lib.ListN.{length}
 use Rattle.sheets_rules.specs.Model.{Library, Tree}
-use Rattle.filling.specs.Inside.Promises.{Exceeds, FillStart}
-use Rattle.filling.proofs.Progress.{Progress, below, atRoot, begun, some-node, few-bins, ready-below, ready-root, turn-below, turn-root}
+use Rattle.filling.specs.Inside.Promises.{FillStart}
+use Rattle.filling.proofs.Progress.{Progress, begun, some-node, few-bins, ready-below, ready-root, turn-below, turn-root}
 use Rattle.filling.proofs.fill.Statement.{statement}
 use Rattle.filling.proofs.fill.Tie as tie
 
@@ -68,7 +67,7 @@ returns c = λ l t g.
     let i = loop-of d .loop in
     let call = c .before .before .before .before .before .before .before .before .fill-at in
     turn-below g (i .inv .1) (i .inv .2) (i .node - 1) (omega arith) (omega (arith, i .inv .0 .1)) (so-far d l t g) (call .ensures l t) .0
-    (subst (λ (q : Bool). Exceeds (below (start-of (loop-of d) .args .bins) (start-of (loop-of d) .args .most) (i .node - 1)) q (call .result)) (c .if1 .taken) (c .before .too-many .ensures))
+    (rw (c .if1 .taken) at (c .before .too-many .ensures))
 
 loop-again : tie.Need-loop-again Inv-loop μ-loop
 loop-again c =
@@ -81,7 +80,7 @@ loop-again c =
       call .kept .1 .1 .1 .1 .1 .1 .0 ∙ i .inv .3,
       λ l t g.
           turn-below g (i .inv .1) (i .inv .2) (i .node - 1) (omega arith) (omega (arith, i .inv .0 .1)) (so-far d l t g) (call .ensures l t) .1
-          (subst (λ (q : Bool). Exceeds (below (start-of (loop-of d) .args .bins) (start-of (loop-of d) .args .most) (i .node - 1)) q (call .result)) (c .if1 .left) (c .before .too-many .ensures)),
+          (rw (c .if1 .left) at (c .before .too-many .ensures)),
     )
 
 fill-at-requires-2 : tie.Need-fill-at-requires-2 Inv-loop μ-loop
@@ -94,17 +93,15 @@ returns-2 : tie.Need-returns-2 Inv-loop μ-loop
 returns-2 c = λ l t g.
     let d = c .before .before .before .before .before .before .before .before .before in
     let i = loop-before d .loop in
-    let a = start-of (loop-before d) .args in
     let call = c .before .before .before .before .before .before .before .before .fill-at2 in
-    turn-root g (i .inv .1) (i .inv .2) (to-root d l t g) (call .ensures l t) .0 (subst (λ (q : Bool). Exceeds (atRoot (a .t3) (a .most)) q (call .result)) (c .if2 .taken) (c .before .too-many2 .ensures))
+    turn-root g (i .inv .1) (i .inv .2) (to-root d l t g) (call .ensures l t) .0 (rw (c .if2 .taken) at (c .before .too-many2 .ensures))
 
 returns-3 : tie.Need-returns-3 Inv-loop μ-loop
 returns-3 c = λ l t g.
     let d = c .before .before .before .before .before .before .before .before .before in
     let i = loop-before d .loop in
-    let a = start-of (loop-before d) .args in
     let call = c .before .before .before .before .before .before .before .before .fill-at2 in
-    turn-root g (i .inv .1) (i .inv .2) (to-root d l t g) (call .ensures l t) .1 (subst (λ (q : Bool). Exceeds (atRoot (a .t3) (a .most)) q (call .result)) (c .if2 .left) (c .before .too-many2 .ensures))
+    turn-root g (i .inv .1) (i .inv .2) (to-root d l t g) (call .ensures l t) .1 (rw (c .if2 .left) at (c .before .too-many2 .ensures))
 
 pub fill-spec : {M : Type 1} → statement M
 fill-spec = tie.close (tie.spec Inv-loop μ-loop loop-holds (omega arith) fill-at-requires too-many-requires

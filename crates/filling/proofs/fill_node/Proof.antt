@@ -1,7 +1,7 @@
 use borrow.Author.Needs.{needs}
 use native.Mathlib.Omega.{arith}
 use Prim.Native.Nat.{ℕ, _+_, _-_, _≤_}
-use mathlib.Core.Path.{_≡_, refl, subst, _∙_}
+use mathlib.Core.Path.{_≡_, refl, _∙_}
 use lib.ListN.{length}
 use mir.Syntax.{w8}
 use mir.Val.{Fits}
@@ -31,10 +31,9 @@ load-byte c b = search needs
 so-far : (c : tie.In-loop Inv-loop μ-loop) → let a = start-of (c .before) .args in let i = c .before .loop in
     Done (a .symbols .now) (a .work .now) (a .rows .now) (a .found .now) (a .count) (a .turn) (i .b - 1 + 1) (i .work) (i .points)
 so-far c =
-    let a = start-of (c .before) .args in
     let i = c .before .loop in
     let up : i .b ≡ i .b - 1 + 1 = omega (arith, c .loop-test .taken) in
-    subst (λ (k : ℕ). Done (a .symbols .now) (a .work .now) (a .rows .now) (a .found .now) (a .count) (a .turn) k (i .work) (i .points)) up (i .inv .2)
+    rw up at (i .inv .2)
 
 loop-holds : tie.Need-loop-holds Inv-loop μ-loop
 loop-holds c = (omega arith, refl, done-start (c .before .before .before .before .before .before .before .pre .0) _ refl)
@@ -90,10 +89,9 @@ same-length-2 c = c .before .loop .inv .1
 
 returns : tie.Need-returns Inv-loop μ-loop
 returns c =
-    let a = start-of (c .before) .args in
     let i = c .before .loop in
     let none-left : i .b ≡ 0 = omega arith in
-    done-all (start-of (c .before) .pre .0) (subst (λ (k : ℕ). Done (a .symbols .now) (a .work .now) (a .rows .now) (a .found .now) (a .count) (a .turn) k (i .work) (i .points)) none-left (i .inv .2))
+    done-all (start-of (c .before) .pre .0) (rw none-left at (i .inv .2))
 
 pub fill-node-spec : {M : Type 1} → statement M
 fill-node-spec = tie.close (tie.spec Inv-loop μ-loop loop-holds (omega arith) mul-t14 add-t15 array-read-t18

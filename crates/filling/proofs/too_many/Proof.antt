@@ -1,7 +1,7 @@
 use borrow.Author.Needs.{needs}
 use native.Mathlib.Omega.{arith}
 use Prim.Native.Nat.{ℕ, _-_, _≤_, _<_}
-use mathlib.Core.Path.{_≡_, sym, subst}
+use mathlib.Core.Path.{_≡_}
 use mathlib.Core.Logic.{⊎-elim}
 use lib.ListN.{getD}
 use Rattle.covers.proofs.Basics.{lt-or-le}
@@ -23,8 +23,7 @@ returns c = (c .before .before .loop .b, omega arith, omega arith)
 loop-again : tie.Need-loop-again Inv-loop μ-loop
 loop-again c =
     let i = c .before .before .loop in
-    let a = c .before .before .before .before .args in
-    (omega arith, λ k l. ⊎-elim (i .inv .1 k) (λ m. let e : k ≡ i .b = omega arith in subst (λ (j : ℕ). getD (a .counts .points) j 0 ≤ a .turn .most) (sym e) (omega arith)) (lt-or-le k (i .b)))
+    (omega arith, λ k l. ⊎-elim (i .inv .1 k) (λ m. let e : k ≡ i .b = omega arith in rw e (omega arith)) (lt-or-le k (i .b)))
 
 returns-2 : tie.Need-returns-2 Inv-loop μ-loop
 returns-2 c = λ b l. c .before .loop .inv .1 b (omega arith)

@@ -1,7 +1,6 @@
 use borrow.Author.Needs.{needs}
-use Prim.Native.Nat.{ℕ}
 use mathlib.Core.Path.{sym, ap, subst, _∙_}
-use Rattle.fields.specs.Answer.{Answer, ofWord}
+use Rattle.fields.specs.Answer.{ofWord}
 use Rattle.fields.proofs.Answer.{word-reads}
 use Rattle.map_rules.specs.Public.{Maps}
 use Rattle.map_rules.specs.Public.{ofReply}

@@ -1,6 +1,5 @@
 use borrow.Author.Needs.{needs}
-use Prim.Native.Nat.{ℕ}
-use mathlib.Core.Path.{_≡_, sym, subst, _∙_}
+use mathlib.Core.Path.{subst}
 use Rattle.fields.specs.declared.Finding.{Finding}
 use Rattle.fields.specs.Inside.Promises.{Says}
 use Rattle.sheets_rules.specs.Model.{Library}

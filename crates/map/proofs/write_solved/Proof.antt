@@ -6,7 +6,7 @@ use lib.ListN.{length}
 use Rattle.map_core.specs.declared.Task.{Task}
 use Rattle.map_core.specs.declared.Task.the-variants as Task
 use Rattle.map_core.specs.Inside.Promises.{SolvedIs}
-use Rattle.fields.specs.Answer.{Answer, success}
+use Rattle.fields.specs.Answer.{success}
 use Rattle.map_rules.specs.Public.{ofReply}
 use Rattle.map.specs.Inside.Promises.{leastOutput, taskAnswer, Replied}
 use Rattle.map.proofs.Laws.{solved-refused, map-found, list-found}

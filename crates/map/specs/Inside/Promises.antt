@@ -12,7 +12,7 @@ use Rattle.sheets_rules.specs.Report.{librarySaid, treeSaid}
 use Rattle.covers.specs.Answer.{mapAnswer, listAnswer}
 use Rattle.covers.specs.Capacity.{allowed}
 use Rattle.covers.specs.Lending.{told, outputAfter}
-use Rattle.covers.specs.Outcome.{mapBytes, listBytes}
+use Rattle.covers.specs.Outcome.{mapBytes, listBytes, operation}
 use Rattle.covers.specs.Inside.Allowed.{Allowed}
 use Rattle.overlay.specs.Inside.Promises.{LibraryStored, SheetsStored}
 use Rattle.matching.specs.Inside.Found.{matchTable}
@@ -65,3 +65,7 @@ RepliesStored task library tree most output output′ a = (l : Library) (t : Tre
 abbrev pub OperatesAny : Task → LibraryRecord → (ts : List ℕ) → (most : ℕ) → (output output′ work work′ : List ℕ) → Answer ℕ → Type 0
 OperatesAny task library ts most output output′ work work′ a =
     (l : Library) → LibraryStored l library → most ≡ allowed (length work) → Operated (treeAnswer task most l ts) output output′ work work′ a
+
+-- A task with any library and any tree, lent anything.
+abbrev pub Operates : Task → (ls ts output output′ work work′ : List ℕ) → Answer ℕ → Type 0
+Operates task ls ts output output′ work work′ = Operated (operation (leastOutput task) (taskAnswer task) ls ts (length output) (length work)) output output′ work work′

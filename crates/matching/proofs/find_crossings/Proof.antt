@@ -1,11 +1,11 @@
 -- The matches of one pattern. When the loop stands before a crossing, the hits of the matches under all lower crossings are written.
-use Prim.Native.Nat.{ℕ, _+_, _-_, _*_, _/_, _^_, _≤_, _<_}
-use mathlib.Core.Path.{_≡_, refl, sym, ap, _∙_}
+use Prim.Native.Nat.{ℕ, _+_, _-_, _*_, _≤_, _<_}
+use mathlib.Core.Path.{_≡_, refl, _∙_}
 use mathlib.Core.Bool.{true}
 use mathlib.Core.List.{List, map}
 use native.Mathlib.Nat.{zero-mod}
 use native.Mathlib.Omega.{arith}
-use lib.ListN.{length, getD, take, drop, length-drop}
+use lib.ListN.{length, getD, drop, length-drop}
 use lib.Seq.{length-take-le}
 use borrow.Author.Needs.{needs}
 use borrow.Rule.Slice.PartMut.{same-len-mid}
@@ -178,7 +178,7 @@ returns c = λ p s t.
     let done : i .crossing ≡ 32 = omega (arith, i .inv .0, c .loop-test .left) in
     let all : matchesBelow (a .n) s (a .pattern) p (i .crossing) ≡ fittingUnder (a .n) s (a .pattern) p (crossings (p .drawing)) = all-below (a .n) s (a .pattern) p done in
     let r = i .inv .3 p s t in
-    (r .1 ∙ ap (λ ms. a .count + length ms) all, r .2 ∙ ap (λ ms. tableFrom matchBytes (a .table .now) (a .count) (map hitOf ms)) all)
+    (rw all at (r .1), rw all at (r .2))
 
 pub find-crossings-spec : {M : Type 1} → statement M
 find-crossings-spec = tie.close (tie.spec Inv-loop μ-loop measure-requires (omega arith) cast-nands loop-holds

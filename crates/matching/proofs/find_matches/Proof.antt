@@ -1,6 +1,6 @@
 -- The matches of a node. After p turns the hits of the matches of the first p patterns are written.
 use Prim.Native.Nat.{ℕ, _+_, _*_, _-_, _/_, _≤_, _<_}
-use mathlib.Core.Path.{_≡_, refl, sym, ap, subst, _∙_}
+use mathlib.Core.Path.{_≡_, refl, _∙_}
 use mathlib.Core.List.{List, map}
 use native.Mathlib.Omega.{arith}
 use lib.ListN.{length, take, drop}
@@ -54,12 +54,8 @@ tried : (c : tie.In-loop Inv-loop μ-loop) (l : Library) (t : Tree) (s : Shape) 
     let i = c .before .loop in
     Trying (take (rowWords * i .p + rowWords - rowWords * i .p) (drop (rowWords * i .p) (a .rows .now))) (a .symbols .now) (a .sizes .now) (a .n) (i .p) (length (i .table)) (i .count) (patternAt l (i .p)) s
 tried c l t s h =
-    let a = c .before .before .before .before .before .before .args in
     let i = c .before .loop in
-    let p = i .p in
-    let m = rowWords * p + rowWords - rowWords * p in
-    subst (λ room. Trying (take m (drop (rowWords * p) (a .rows .now))) (a .symbols .now) (a .sizes .now) (a .n) p room (i .count) (patternAt l p) s) (sym (i .inv .2))
-    (trying h p (at-pattern c l t s h) m (omega arith) (i .inv .1))
+    rw (i .inv .2) (trying h (i .p) (at-pattern c l t s h) (rowWords * i .p + rowWords - rowWords * i .p) (omega arith) (i .inv .1))
 
 loop-holds : tie.Need-loop-holds Inv-loop μ-loop
 unfolding fittingFrom tableFrom
@@ -114,15 +110,10 @@ same-length c = c .before .loop .inv .2
 
 returns : tie.Need-returns Inv-loop μ-loop
 unfolding fitting
-returns c =
-    let start = c .before .before .before .before .before .before in
+returns c = λ l t s h.
     let i = c .before .loop in
-    λ l t s h.
     let done : i .p ≡ length (patterns l) = omega (arith, rows-all h, i .inv .0, c .loop-test .left) in
-    let all : matchesBefore l (start .args .n) s (i .p) ≡ fitting l (start .args .n) s =
-    ap (fittingFrom (start .args .n) s 0) (ap (λ k. take k (patterns l)) done ∙ take-length (patterns l)) in
-    let r = i .inv .3 l t s h in
-    (r .0 ∙ ap length all, r .1 ∙ ap (λ ms. tableFrom matchBytes (start .args .table .now) 0 (map hitOf ms)) all)
+    rw (done, take-length (patterns l)) at (i .inv .3 l t s h)
 
 pub find-matches-spec : {M : Type 1} → statement M
 find-matches-spec =

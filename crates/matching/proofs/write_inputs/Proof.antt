@@ -1,6 +1,6 @@
 -- The bytes of a match's inputs. After k turns those of the first k inputs stand in the hit.
-use Prim.Native.Nat.{_+_, _*_, _-_, _≤_, _<_}
-use mathlib.Core.Path.{_≡_, refl, sym, ap, _∙_}
+use Prim.Native.Nat.{_-_, _≤_, _<_}
+use mathlib.Core.Path.{_≡_, refl, sym, _∙_}
 use mathlib.Core.List.{List}
 use native.Mathlib.Omega.{arith}
 use lib.ListN.{length, take, length-set}
@@ -70,7 +70,7 @@ returns : tie.Need-returns Inv-loop μ-loop
 returns c = λ is w h.
     let i = c .before .loop in
     let done : i .k ≡ length is = omega (arith, w .count-is, i .inv .0, c .loop-test .left) in
-    i .inv .2 is w h ∙ ap (λ js. sets (c .before .before .args .table .now) inputsAt (inputsBytes js)) (ap (λ j. take j is) done ∙ take-length is)
+    rw (done, take-length is) at (i .inv .2 is w h)
 
 pub write-inputs-spec : {M : Type 1} → statement M
 write-inputs-spec =

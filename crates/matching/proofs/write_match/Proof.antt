@@ -1,10 +1,9 @@
 -- The hit of a match.
 use borrow.Author.Needs.{needs}
-use mathlib.Core.Path.{_≡_, refl, sym, ap, ap₂, _∙_}
-use mathlib.Core.List.{List}
+use mathlib.Core.Path.{_∙_}
 use native.Mathlib.Omega.{arith}
 use borrow.Author.Tests.{not-true, not-false}
-use lib.ListN.{length, length-set}
+use lib.ListN.{length-set}
 use Rattle.matching.proofs.Patterns.{missing, there, wrote-none, wrote-one}
 use Rattle.matching.proofs.write_match.Statement.{statement}
 use Rattle.matching.proofs.write_match.Tie as tie

@@ -13,7 +13,7 @@ abbrev pub matchBytes : ℕ
 matchBytes = 16
 
 abbrev pub matchTable : ℕ
-matchTable = 65536
+matchTable = matchBytes * matchMost
 
 -- Where a hit's inputs begin, how many bytes each has, and where input k stands.
 abbrev pub inputsAt : ℕ

@@ -5,7 +5,7 @@ use mathlib.Core.List.{List, [], map, List·Memᴰ}
 use mathlib.Core.Option.{Option, none, some}
 use lib.ListN.{length}
 use lib.Seq.{sets}
-use Rattle.sheets_rules.specs.Model.{Shape, size, nands, Library, Pattern, Tree}
+use Rattle.sheets_rules.specs.Model.{Shape, Library, Pattern, Tree}
 use Rattle.sheets_rules.specs.Inside.Layout.{tableFrom}
 use Rattle.sheets_rules.specs.Inside.Sound.{SoundDrawing}
 use Rattle.covers.specs.Crossing.{crossings}

@@ -42,22 +42,22 @@ shared-slice-read-extent-from c = omega (arith, c .before .before .before .befor
 
 extent-from-requires : tie.Need-extent-from-requires Inv-loop μ-loop
 extent-from-requires c κs =
-    let p = c .before .before .before .before .before .pre in
-    let f = next (c .before) (p .0) (p .1 .0) (p .1 .1) in
+    let p = c .before .before .before .before .before .before .pre in
+    let f = next (c .before .before) (p .0) (p .1 .0) (p .1 .1) in
     (f .0, f .1)
 
 cast-words : tie.Need-cast-words Inv-loop μ-loop
 cast-words c =
-    let p = c .before .before .before .before .before .before .pre in
-    let f = next (c .before .before) (p .0) (p .1 .0) (p .1 .1) in
+    let p = c .before .before .before .before .before .before .before .pre in
+    let f = next (c .before .before .before) (p .0) (p .1 .0) (p .1 .1) in
     omega (arith, c .extent-from .ensures (f .0) (f .1), f .2)
 
 loop-again : tie.Need-loop-again Inv-loop μ-loop
 loop-again c =
-    let i = c .before .before .before .loop in (
+    let i = c .before .before .before .before .loop in (
       omega arith,
       length-set (i .words) (i .k - 1) (c .extent-from .result) ∙ i .inv .1,
-      λ d h g. let f = next (c .before .before) d h g in (omega (arith, i .inv .2 d h g .0), f .3 (c .extent-from .result) (c .extent-from .ensures (f .0) (f .1))),
+      λ d h g. let f = next (c .before .before .before) d h g in (omega (arith, i .inv .2 d h g .0), f .3 (c .extent-from .result) (c .extent-from .ensures (f .0) (f .1))),
     )
 
 returns : tie.Need-returns Inv-loop μ-loop

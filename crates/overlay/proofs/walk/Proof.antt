@@ -32,9 +32,9 @@ record Near (row words symbols sizes : List ℕ) (count : ℕ) (left : Left) (at
   passes : getD row (symbolsAt + left .spot % 32) 0 < 2 → Passable left (getD row (symbolsAt + left .spot % 32) 0) words
 
 near : (c : tie.At-loop Inv-loop μ-loop) →
-    let a = c .before .before .before .before .args in let i = c .loop in Near (a .row .now) (a .extents .words) (a .symbols .now) (a .sizes .now) (i .count) (i .left) (i .at)
+    let a = c .before .before .before .before .before .args in let i = c .loop in Near (a .row .now) (a .extents .words) (a .symbols .now) (a .sizes .now) (i .count) (i .left) (i .at)
 near c =
-    let p = c .before .before .before .before .pre .1 in
+    let p = c .before .before .before .before .before .pre .1 in
     let w = p .1 .1 in
     let g = c .loop .inv (p .0) (p .1 .0) w in
     let b = within _ _ _ _ _ _ _ _ w g in
@@ -51,7 +51,7 @@ near c =
     }
 
 loop-holds : tie.Need-loop-holds Inv-loop μ-loop
-loop-holds c = λ d s w. going-start _ _ _ _ _ _ _ _ w
+loop-holds c = λ d s w. going-start _ _ _ _ _ _ _ _ w (c .at-root .ensures)
 
 add-symbol : tie.Need-add-symbol Inv-loop μ-loop
 add-symbol c = let b = near (c .before) in omega arith
@@ -79,7 +79,7 @@ add-at c = let b = near (c .before .before .before .before .before) in omega ari
 pass-gate-requires : tie.Need-pass-gate-requires Inv-loop μ-loop
 pass-gate-requires c κs =
     let b = near (c .before .before .before .before .before) in
-    (b .passes (c .before .before .if1 .taken), c .before .before .before .before .before .before .before .before .before .pre .0)
+    (b .passes (c .before .before .if1 .taken), c .before .before .before .before .before .before .before .before .before .before .pre .0)
 
 loop-less : tie.Need-loop-less Inv-loop μ-loop
 loop-less c = let b = near (c .before .before .before .before .before .before) in omega arith
@@ -136,6 +136,7 @@ walk-spec =
     (tie.spec
     Inv-loop
     μ-loop
+    (λ c κs. tt)
     loop-holds
     add-symbol
     mul-symbol

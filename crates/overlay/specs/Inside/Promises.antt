@@ -5,7 +5,7 @@ use mathlib.Core.Logic.{_≢_}
 use mathlib.Core.Bool.{Bool, true, false, cond}
 use mathlib.Core.List.{List, map, List·Memᴰ}
 use mathlib.Core.Option.{Option, none, some}
-use lib.ListN.{getD, length, set}
+use lib.ListN.{getD, length, set, replicate}
 use lib.Dec.{eqb}
 use Rattle.shapes_rules.specs.Shape.{symbols, sizes}
 use Rattle.sheets_rules.specs.declared.LibraryRecord.{LibraryRecord}
@@ -29,6 +29,10 @@ pub record PatternStored (l : Library) (row : List ℕ) (p : Pattern) : Type 0 w
   pub cell : CellStored l row (p .cell)
 
 -- ---- a walk
+
+-- Where it begins.
+abbrev pub atRoot : Left
+atRoot = record { spot = 0; depth = 0; waiting = replicate 6 0; used = 0 }
 
 -- A walk may pass the gate that it stands at: there is room for what waits, and the numbers are small.
 pub record Passable (left : Left) (symbol : ℕ) (words : List ℕ) : Type 0 where

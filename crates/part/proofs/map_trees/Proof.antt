@@ -47,11 +47,11 @@ array-copy-out-tree c = omega (arith, c .before .loop .inv .1)
 mul-first : tie.Need-mul-first Inv-loop μ-loop
 mul-first c = omega (arith, c .before .before .loop .inv .1)
 
-add-map-linked : tie.Need-add-map-linked Inv-loop μ-loop
-add-map-linked c = omega (arith, c .before .before .loop .inv .1)
+add-own : tie.Need-add-own Inv-loop μ-loop
+add-own c = omega (arith, c .before .before .loop .inv .1)
 
-part-map-linked-end : tie.Need-part-map-linked-end Inv-loop μ-loop
-part-map-linked-end c = omega (arith, c .before .before .before .loop .inv .1, c .before .before .before .before .before .before .before .before .before .before .before .before .before .pre .2 .1 .2 .drivers-are .long)
+part-own-end : tie.Need-part-own-end Inv-loop μ-loop
+part-own-end c = omega (arith, c .before .before .before .loop .inv .1, c .before .before .before .before .before .before .before .before .before .before .before .before .before .pre .2 .1 .2 .drivers-are .long)
 
 slice-aggregate-map-linked : tie.Need-slice-aggregate-map-linked Inv-loop μ-loop
 slice-aggregate-map-linked c = sym (c .before .before .before .before .before .loop .inv .4)
@@ -159,7 +159,7 @@ returns-2 c =
 
 pub map-trees-spec : {M : Type 1} → statement M
 map-trees-spec = tie.close (tie.spec Inv-loop μ-loop (λ c κs. search needs) clear-requires loop-holds mul-tree
-    array-copy-out-tree mul-first add-map-linked (omega arith) (omega arith) part-map-linked-end
+    array-copy-out-tree mul-first add-own (omega arith) (omega arith) part-own-end
     slice-aggregate-map-linked map-linked-requires (λ c. search needs) cast-tree same-length returns
     (λ c. search needs) mul-covers array-set-from-covers mul-arrivals array-write-arrivals add-k (omega arith)
     loop-again (λ c. search needs) returns-2)

@@ -1,8 +1,8 @@
 -- What the functions inside promise each other.
-use Prim.Native.Nat.{ℕ, _+_, _*_, _≤_}
+use Prim.Native.Nat.{ℕ, _+_, _*_, _^_, _≤_, _<_}
 use mathlib.Core.Path.{_≡_}
 use mathlib.Core.List.{List, [], map, reverse}
-use lib.ListN.{take}
+use lib.ListN.{length, take, getD}
 use Rattle.fields.specs.declared.Scan.{Scan}
 use Rattle.fields.specs.Reading.{place, times}
 use Rattle.sheets_rules.specs.Inside.Layout.{padded}
@@ -40,3 +40,9 @@ pointsOf count words = reverse (map pointOf (take count words))
 -- How many bits the list sheet takes by its points.
 abbrev pub listBits : ℕ → ℕ
 listBits count = pointCountWidth + (arrivalWidth + areaWidth) * count
+
+-- The first `count` words are points, and the output has room for their list.
+abbrev pub Listable : (count : ℕ) → (points output : List ℕ) → Type 0
+Listable count points output =
+    (count < 2 ^ pointCountWidth) × (count ≤ length points) × (listBits count ≤ 8 * length output)
+    × ((k : ℕ) → k < count → getD points k 0 < 2 ^ (arrivalWidth + areaWidth))

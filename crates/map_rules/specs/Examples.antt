@@ -1,0 +1,2 @@
+-- What replies say, as examples.
+pub mod Replies
