@@ -11,10 +11,9 @@ use sheets_rules::Slots;
 ghost use mathlib.Core.Path.{_≡_};
 ghost use Prim.Native.Nat.{_≤_, _<_};
 ghost use lib.ListN.{length, take};
-ghost use Rattle.fields.specs.Answer.{onSuccess, Bounded};
 ghost use Rattle.sheets_rules.specs.Model.{Shape, Library, Pattern};
 ghost use Rattle.sheets_rules.specs.Inside.Sound.{LibraryStored};
-ghost use Rattle.sheets_rules.specs.Report.{ofLibraryJudged, LibraryLimits, libraryWord};
+ghost use Rattle.sheets_rules.specs.Report.{ofLibraryJudged, LibraryBounded};
 ghost use Rattle.functions_rules.specs.Function.{settings as settingsOf, pinIn};
 ghost use Rattle.functions_rules.specs.Report.{functionsReport};
 ghost use Rattle.functions_rules.specs.Demands.{FunctionDemands};
@@ -170,7 +169,7 @@ fn judge_drawings(rows: &[u32], total: usize, functions: &[u64], cells: usize) -
 fn with_library(library: LibraryRecord, s: &[u8]) -> LibraryJudged
     requires { ⌜ ((l : Library) × LibraryStored l library) ⌝ }
     ensures { λ r. ⌜ SheetJudged library (now (s .entry)) r ⌝ }
-    ensures { λ r. ⌜ Bounded (onSuccess libraryWord (ofLibraryJudged r)) × LibraryLimits (ofLibraryJudged r) ⌝ }
+    ensures { λ r. ⌜ LibraryBounded (ofLibraryJudged r) ⌝ }
 {
     let rows = library.rows;
     let total = library.total;
@@ -197,7 +196,7 @@ fn with_library(library: LibraryRecord, s: &[u8]) -> LibraryJudged
 pub fn judge_functions(library: &[u8], functions: &[u8]) -> LibraryJudged
     ensures { λ r. ⌜ ofLibraryJudged r ≡ functionsReport (now (library .entry)) (now (functions .entry)) ⌝ }
     ensures { λ r. ⌜ FunctionDemands (now (library .entry)) (now (functions .entry)) (ofLibraryJudged r) ⌝ }
-    ensures { λ r. ⌜ Bounded (onSuccess libraryWord (ofLibraryJudged r)) × LibraryLimits (ofLibraryJudged r) ⌝ }
+    ensures { λ r. ⌜ LibraryBounded (ofLibraryJudged r) ⌝ }
 {
     let read = library::read_library(library);
     let finding = read.finding;

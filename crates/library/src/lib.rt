@@ -20,7 +20,6 @@ ghost use mathlib.Core.List.{[], _∷_};
 ghost use Prim.Native.Nat.{_+_, _-_, _*_, _≤_, _<_};
 ghost use lib.ListN.{length, take};
 ghost use lib.Seq.{sets};
-ghost use Rattle.fields.specs.Answer.{onSuccess, Bounded};
 ghost use Rattle.fields.specs.Inside.Promises.{findingOf};
 ghost use Rattle.sheets_rules.specs.LibrarySheet.{complete, countVerdict};
 ghost use Rattle.sheets_rules.specs.Inside.Layout.{rowWords, figuresAt, figures, cellWords};
@@ -28,7 +27,7 @@ ghost use Rattle.sheets_rules.specs.Model.{pinsMost};
 ghost use Rattle.library.specs.Inside.Promises.{InReach, Tabled, BinsAre, HeadIs, PinIs, PinsAre, PatternIs, RowIs, RowKept, RowsAre, DrawingsAre, CountIs, CellIs, CellsAre, SheetIs};
 ghost use Rattle.sheets_rules.specs.Reach.{binBits, headBits, pinBits, patternBits, countBits, drawingsBits, cellBits};
 ghost use Rattle.sheets_rules.specs.Inside.Readers.{LibraryIs};
-ghost use Rattle.sheets_rules.specs.Report.{ofLibraryJudged, LibraryLimits, libraryWord, libraryReport, libraryNumber};
+ghost use Rattle.sheets_rules.specs.Report.{ofLibraryJudged, LibraryBounded, libraryReport, libraryNumber};
 
 // The widths of the library sheet's fields.
 struct Width {}
@@ -531,7 +530,7 @@ pub fn read_library(s: &[u8]) -> LibraryRead
 // Judges a library: its cell count and its pattern count, or what is wrong with it and where. No rows are kept.
 pub fn judge_library(s: &[u8]) -> LibraryJudged
     ensures { λ r. ⌜ ofLibraryJudged r ≡ libraryReport (now (s .entry)) ⌝ }
-    ensures { λ r. ⌜ Bounded (onSuccess libraryWord (ofLibraryJudged r)) × LibraryLimits (ofLibraryJudged r) ⌝ }
+    ensures { λ r. ⌜ LibraryBounded (ofLibraryJudged r) ⌝ }
 {
     let mut none = [0u32; 0];
     let read = read_sheet(s, &mut none);

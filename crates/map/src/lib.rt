@@ -11,11 +11,11 @@ ghost use mathlib.Core.Path.{_≡_};
 ghost use Prim.Native.Nat.{_≤_};
 ghost use lib.ListN.{length};
 ghost use Rattle.sheets_rules.specs.Model.{Library, Tree};
-ghost use Rattle.covers.specs.Capacity.{workWords, allowed};
+ghost use Rattle.covers.specs.Capacity.{workWords};
 ghost use Rattle.covers.specs.Lending.{cleared};
 ghost use Rattle.overlay.specs.Inside.Promises.{LibraryStored, SheetsStored};
-ghost use Rattle.map_rules.specs.Public.{ofReply, Operated, Maps, Lists};
-ghost use Rattle.map.specs.Inside.Promises.{leastOutput, sheetsAnswer, Allows, Starts, RepliesStarted, RepliesStored, OperatesAny, Operates};
+ghost use Rattle.map_rules.specs.Public.{ofReply, Maps, Lists};
+ghost use Rattle.map.specs.Inside.Promises.{leastOutput, Allows, Starts, RepliesStarted, RepliesStored, OperatesAny, OperatesLent, Operates};
 
 // The least output that is lent for a task.
 fn least_output(task: Task) -> usize
@@ -117,8 +117,7 @@ fn with_lent(
     work: &mut [u64],
 ) -> Reply
     requires { ⌜ Allows task most (length (now output)) × (workWords most ≤ length (now work)) ⌝ }
-    ensures { λ r. ⌜ (most ≡ allowed (length (now (work .entry))) →
-        Operated (sheetsAnswer task most (now (library .entry)) (now (tree .entry))) (now (output .entry)) (now (output .exit)) (now (work .entry)) (now (work .exit)) (ofReply r)) ⌝ }
+    ensures { λ r. ⌜ OperatesLent task most (now (library .entry)) (now (tree .entry)) (now (output .entry)) (now (output .exit)) (now (work .entry)) (now (work .exit)) (ofReply r) ⌝ }
 {
     let read = library::read_library(library);
     let finding = read.finding;

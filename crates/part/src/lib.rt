@@ -20,18 +20,18 @@ ghost use lib.ListN.{length, getD, take};
 ghost use Rattle.sheets_rules.specs.Model.{Library, Tree};
 ghost use Rattle.sheets_rules.specs.Inside.Sound.{SoundTree, LibraryStored};
 ghost use Rattle.sheets_rules.specs.Inside.Layout.{treeLaid};
-ghost use Rattle.covers.specs.Capacity.{workWords, allowed};
+ghost use Rattle.covers.specs.Capacity.{workWords};
 ghost use Rattle.covers.specs.CoverSheet.{coverSheet};
 ghost use Rattle.covers.specs.Lending.{cleared};
 ghost use Rattle.covers.specs.Inside.Allowed.{Allowed};
 ghost use Rattle.result_sheets.specs.Public.{coverOf, Written};
-ghost use Rattle.map_rules.specs.Public.{ofReply, Operated};
+ghost use Rattle.map_rules.specs.Public.{ofReply};
 ghost use Rattle.part_rules.specs.Part.{Part};
 ghost use Rattle.part_rules.specs.PartSheet.{treesMost};
 ghost use Rattle.part_rules.specs.Outcome.{partBytes};
 ghost use Rattle.part_rules.specs.Public.{MapsPart};
 ghost use Rattle.part_read.specs.Inside.Decoded.{PartStored};
-ghost use Rattle.part.specs.Inside.Promises.{RowsStored, Zeros, Few, sheetsAnswer, MapsOne, MapsLinked, MapsTrees, MapsStored, MapsAny};
+ghost use Rattle.part.specs.Inside.Promises.{RowsStored, Zeros, Few, MapsOne, MapsLinked, MapsTrees, MapsStored, MapsAny, MapsLent};
 
 // The covers of a part's trees, if every tree is mapped.
 pub struct Covers {
@@ -192,8 +192,7 @@ fn with_library(
 // The sheets of any part by any library's cells, lent enough.
 fn with_lent(library: &[u8], part: &[u8], most: usize, output: &mut [u8], work: &mut [u64]) -> Reply
     requires { ⌜ Allowed most × (partBytes ≤ length (now output)) × (workWords most ≤ length (now work)) ⌝ }
-    ensures { λ r. ⌜ (most ≡ allowed (length (now (work .entry))) →
-        Operated (sheetsAnswer most (now (library .entry)) (now (part .entry))) (now (output .entry)) (now (output .exit)) (now (work .entry)) (now (work .exit)) (ofReply r)) ⌝ }
+    ensures { λ r. ⌜ MapsLent most (now (library .entry)) (now (part .entry)) (now (output .entry)) (now (output .exit)) (now (work .entry)) (now (work .exit)) (ofReply r) ⌝ }
 {
     let read = library::read_library(library);
     let finding = read.finding;

@@ -3,13 +3,10 @@ use shapes_rules::Packed;
 use sheets_rules::Limits;
 use sheets_rules::TreeRecord;
 ghost use mathlib.Core.Path.{_≡_};
-ghost use Prim.Native.Nat.{ℕ, _≤_};
-ghost use lib.ListN.{length, getD};
-ghost use Rattle.sheets_rules.specs.Model.{Tree};
-ghost use Rattle.sheets_rules.specs.Inside.Sound.{SoundTree};
-ghost use Rattle.sheets_rules.specs.Inside.Layout.{treeLaid};
+ghost use Prim.Native.Nat.{_≤_};
+ghost use lib.ListN.{length};
 ghost use Rattle.leaves.specs.Inside.Leaf.{symbolLimit};
-ghost use Rattle.part_link.specs.Inside.Promises.{brought, LinksTree, symbolLinked};
+ghost use Rattle.part_link.specs.Inside.Promises.{brought, Linkable, LinksTree, symbolLinked};
 
 // A node's symbol with the arrival that a link brings, or that this arrival is too late.
 pub enum Symbol {
@@ -49,7 +46,7 @@ fn link_symbol(symbol: u32, driver: u8, arrivals: &[u32]) -> Symbol
 
 // A tree with the arrivals that the drivers of its nodes bring; or the lowest leaf at which one is too late.
 pub fn link_tree(tree: TreeRecord, drivers: &[u8], arrivals: &[u32]) -> Linked
-    requires { ⌜ (length (now drivers) ≡ 64) × ((j : ℕ) → getD (now drivers) j 0 ≤ length (now arrivals)) × ((t : Tree) × SoundTree t × (tree ≡ treeLaid t)) ⌝ }
+    requires { ⌜ Linkable tree (now drivers) (now arrivals) ⌝ }
     ensures { λ r. ⌜ LinksTree tree (now (drivers .entry)) (now (arrivals .entry)) r ⌝ }
 {
     let count = tree.count;

@@ -6,17 +6,15 @@ use shapes_rules::Packed;
 use sheets_rules::Limits;
 use sheets_rules::TreeRecord;
 ghost use mathlib.Core.Path.{_≡_};
-ghost use mathlib.Core.List.{List, []};
+ghost use mathlib.Core.List.{[]};
 ghost use Prim.Native.Nat.{_+_, _*_, _<_, _≤_, _^_};
 ghost use lib.ListN.{length};
 ghost use Rattle.fields.specs.Reading.{place};
-ghost use Rattle.sheets_rules.specs.Model.{Tree};
-ghost use Rattle.part_rules.specs.Part.{Link};
 ghost use Rattle.fields.specs.Inside.Promises.{Says};
 ghost use Rattle.part_rules.specs.PartSheet.{linksAt, treesMost};
-ghost use Rattle.part_rules.specs.PartRead.{treesFrom, linkJudged, linksJudged, afterCounts, part as partOf};
-ghost use Rattle.part_read.specs.Inside.Decoded.{noTree, TreesStored, Marks, PartStored};
-ghost use Rattle.part_read.specs.Inside.Promises.{linksLaid, SmallLink, SmallLinks, LinkIs, LinksAre, CountsAre, answerFound, FindingBounded, LinkAt};
+ghost use Rattle.part_rules.specs.PartRead.{treesFrom, part as partOf};
+ghost use Rattle.part_read.specs.Inside.Decoded.{noTree, TreesStored, PartStored};
+ghost use Rattle.part_read.specs.Inside.Promises.{SmallLink, SmallLinks, LinkIs, LinksAre, CountsAre, FindingBounded, JudgesLink, JudgesLinks, ReadsRest};
 
 // A link as decoded.
 pub struct LinkRecord {
@@ -224,7 +222,7 @@ fn read_trees(s: &[u8], count: usize) -> TreesRead
 // One link against its reading tree, after whose nodes zeros stand, and its leaf's driver among the links before: its leaf field, then its own driver.
 fn judge_link(tree: TreeRecord, link: LinkRecord, driver: u8, position: usize) -> Finding
     requires { ⌜ SmallLink link × (position ≤ 255) ⌝ }
-    ensures { λ r. ⌜ ((trees : List Tree) (before : List Link) (x : Link) → LinkAt trees before x tree link driver position → r ≡ answerFound (linkJudged trees before x)) ⌝ }
+    ensures { λ r. ⌜ JudgesLink tree link driver position r ⌝ }
     ensures { λ r. ⌜ FindingBounded r ⌝ }
 {
     let symbols = tree.symbols;
@@ -261,7 +259,7 @@ fn judge_links(
     count: usize,
 ) -> DriversRead
     requires { ⌜ SmallLinks links × (count ≤ 255) ⌝ }
-    ensures { λ r. ⌜ ((ts : List Tree) (xs : List Link) → TreesStored ts trees → links ≡ linksLaid xs → count ≡ length xs → Says Marks (linksJudged ts [] xs) (r .finding) (r .drivers)) ⌝ }
+    ensures { λ r. ⌜ JudgesLinks trees links count r ⌝ }
 {
     let mut drivers = [0u8; Drivers::ALL];
     let mut k = 0;
@@ -286,7 +284,7 @@ fn judge_links(
 // What stands after the counts and the links: the trees, and then the links against them.
 fn read_rest(s: &[u8], counts: CountsRead) -> PartRead
     requires { ⌜ SmallLinks (counts .links) × (counts .trees ≤ treesMost) × (counts .count ≤ 255) ⌝ }
-    ensures { λ r. ⌜ ((xs : List Link) → counts .links ≡ linksLaid xs → counts .count ≡ length xs → Says PartStored (afterCounts (counts .trees) xs (now (s .entry))) (r .finding) (r .part)) ⌝ }
+    ensures { λ r. ⌜ ReadsRest counts (now (s .entry)) r ⌝ }
 {
     let count = counts.trees;
     let read = read_trees(s, count);

@@ -2,7 +2,7 @@
 use Prim.Native.Nat.{ℕ, _+_, _*_, _/_, _%_, _≤_}
 use mathlib.Core.List.{List}
 use lib.ListN.{length}
-use Rattle.fields.specs.Answer.{Answer, refusedIn, refusal, success, onSuccess, said}
+use Rattle.fields.specs.Answer.{Answer, refusedIn, refusal, success, onSuccess, said, Bounded}
 use Rattle.fields.specs.Reading.{start}
 use Rattle.fields.specs.declared.Fault.{Fault}
 use Rattle.fields.specs.declared.Fault.the-variants.{Truncated, Tail, Range, Drawing, Size}
@@ -62,6 +62,10 @@ treeReport s = onSuccess (λ t. size (t .shape)) (treeSaid s)
 unfoldable pub LibraryLimits : Answer LibraryCounts → Type 0
 LibraryLimits (refusedIn item number place) = place ≤ libraryBits
 LibraryLimits (success n) = (n .cells ≤ 64) × (n .patterns ≤ 128)
+
+-- Within them, and in one word.
+abbrev pub LibraryBounded : Answer LibraryCounts → Type 0
+LibraryBounded a = Bounded (onSuccess libraryWord a) × LibraryLimits a
 
 -- The numbers of a tree's refusals. Patterns alone are misdrawn, so 15 is never said.
 pub data TreeRefusal : ℕ → Type 0 where

@@ -66,6 +66,10 @@ abbrev pub OperatesAny : Task → LibraryRecord → (ts : List ℕ) → (most : 
 OperatesAny task library ts most output output′ work work′ a =
     (l : Library) → LibraryStored l library → most ≡ allowed (length work) → Operated (treeAnswer task most l ts) output output′ work work′ a
 
--- A task with any library and any tree, lent anything.
+-- A task with any library and any tree, lent what allows so many trade-offs.
+abbrev pub OperatesLent : Task → (most : ℕ) → (ls ts output output′ work work′ : List ℕ) → Answer ℕ → Type 0
+OperatesLent task most ls ts output output′ work work′ a = most ≡ allowed (length work) → Operated (sheetsAnswer task most ls ts) output output′ work work′ a
+
+-- The same, lent anything.
 abbrev pub Operates : Task → (ls ts output output′ work work′ : List ℕ) → Answer ℕ → Type 0
 Operates task ls ts output output′ work work′ = Operated (operation (leastOutput task) (taskAnswer task) ls ts (length output) (length work)) output output′ work work′

@@ -94,3 +94,7 @@ MapsStored library trees most output output′ work work′ a =
 abbrev pub MapsAny : LibraryRecord → (ps : List ℕ) → (most : ℕ) → (output output′ work work′ : List ℕ) → Answer ℕ → Type 0
 MapsAny library ps most output output′ work work′ a =
     (l : Library) → LibraryStored l library → most ≡ allowed (length work) → Operated (partAnswer most l ps) output output′ work work′ a
+
+-- The sheets of any part by any library's cells, lent what allows so many trade-offs.
+abbrev pub MapsLent : (most : ℕ) → (ls ps output output′ work work′ : List ℕ) → Answer ℕ → Type 0
+MapsLent most ls ps output output′ work work′ a = most ≡ allowed (length work) → Operated (sheetsAnswer most ls ps) output output′ work work′ a

@@ -1,9 +1,9 @@
 -- The arrivals that links bring to a tree, and what is said of a tree with them.
-use Prim.Native.Nat.{ℕ, zero, suc, _<_}
+use Prim.Native.Nat.{ℕ, zero, suc, _≤_, _<_}
 use mathlib.Core.Path.{_≡_}
 use mathlib.Core.List.{List}
 use mathlib.Core.Option.{Option, none, some, Option·map}
-use lib.ListN.{getD}
+use lib.ListN.{length, getD}
 use mathlib.Core.Bool.{cond}
 use lib.Dec.{ltb}
 use Rattle.sheets_rules.specs.declared.TreeRecord.{TreeRecord}
@@ -44,3 +44,7 @@ symbolLinked none symbol = Symbol.the-variants.Is symbol
 symbolLinked (some arrival) symbol =
     cond (ltb symbol 2) (Symbol.the-variants.Is symbol)
     (cond (ltb latestLinked arrival) Symbol.the-variants.Late (Symbol.the-variants.Is (leafSymbol (record { number = arrival; drive = leafOf symbol .drive }))))
+
+-- The record holds a sound tree, and the drivers of its nodes are among the trees that have arrivals.
+abbrev pub Linkable : TreeRecord → (drivers arrivals : List ℕ) → Type 0
+Linkable tree drivers arrivals = (length drivers ≡ 64) × ((j : ℕ) → getD drivers j 0 ≤ length arrivals) × ((t : Tree) × SoundTree t × (tree ≡ treeLaid t))

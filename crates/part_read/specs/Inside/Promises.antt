@@ -16,11 +16,15 @@ use Rattle.sheets_rules.specs.Inside.Layout.{padded, treeLaid}
 use Rattle.part_rules.specs.Part.{Link, driverOf}
 use Rattle.part_rules.specs.PartSheet.{treesMost, linksAt, linkWidth, link, counts}
 use Rattle.part_read.specs.declared.LinkRecord.{LinkRecord}
-use Rattle.part_read.specs.Inside.Decoded.{noTree}
+use Rattle.fields.specs.Inside.Promises.{Says}
+use Rattle.part_rules.specs.PartRead.{linkJudged, linksJudged, afterCounts}
+use Rattle.part_read.specs.Inside.Decoded.{noTree, TreesStored, Marks, PartStored}
 use Rattle.part_link.specs.Inside.Promises.{driverNamed}
 use Rattle.part_read.specs.declared.LinkRead.{LinkRead}
 use Rattle.part_read.specs.declared.LinksRead.{LinksRead}
 use Rattle.part_read.specs.declared.CountsRead.{CountsRead}
+use Rattle.part_read.specs.declared.DriversRead.{DriversRead}
+use Rattle.part_read.specs.declared.PartRead.{PartRead}
 
 -- A link in its record, and links at the front of an array of 255.
 abbrev pub linkLaid : Link → LinkRecord
@@ -86,3 +90,13 @@ pub record LinkAt (trees : List Tree) (before : List Link) (x : Link) (tree : Tr
   pub link-is : link ≡ linkLaid x
   pub driver-is : driverOf before (x .reading) (x .node) ≡ driverNamed driver
   pub position-is : position ≡ length before
+
+-- What is said of whichever link the records hold, of all links of whichever part, and of all that stands after its counts and links.
+abbrev pub JudgesLink : TreeRecord → LinkRecord → (driver position : ℕ) → Finding → Type 0
+JudgesLink tree link driver position r = (trees : List Tree) (before : List Link) (x : Link) → LinkAt trees before x tree link driver position → r ≡ answerFound (linkJudged trees before x)
+
+abbrev pub JudgesLinks : List TreeRecord → List LinkRecord → (count : ℕ) → DriversRead → Type 0
+JudgesLinks trees links count r = (ts : List Tree) (xs : List Link) → TreesStored ts trees → links ≡ linksLaid xs → count ≡ length xs → Says Marks (linksJudged ts [] xs) (r .finding) (r .drivers)
+
+abbrev pub ReadsRest : CountsRead → (s : List ℕ) → PartRead → Type 0
+ReadsRest counts s r = (xs : List Link) → counts .links ≡ linksLaid xs → counts .count ≡ length xs → Says PartStored (afterCounts (counts .trees) xs s) (r .finding) (r .part)
