@@ -1,11 +1,12 @@
 -- The judge's answers meet the demands, from the bytes of the three sheets; and a word says its answer.
-use Prim.Native.Nat.{ℕ, _+_, _*_, _/_, _%_, _^_}
+use Prim.Native.Nat.{ℕ, _+_, _*_, _/_, _%_, _^_, _≤_, _<_}
 use mathlib.Core.Path.{_≡_, refl, sym, ap, subst, _∙_}
 use mathlib.Core.Logic.{_⊎_}
 use mathlib.Core.Bool.{false≢true}
 use mathlib.Core.List.{List, _∷_}
 use native.Mathlib.Omega.{arith}
-use lib.ListN.{take, drop, take-append-drop, length-drop}
+use native.Mathlib.Nat.{zero-add}
+use lib.ListN.{length, take, drop, take-append-drop, length-drop}
 use lib.Seq.{length-take-le}
 use borrow.Table.Steps.{cases}
 use borrow.Author.Tests.{lt-ltb, le-ltb}
@@ -18,7 +19,7 @@ use Rattle.fields.proofs.Answer.{answer-cases, after-success}
 use Rattle.sheets_rules.specs.Model.{Library, Tree}
 use Rattle.sheets_rules.specs.Report.{librarySaid, treeSaid}
 use Rattle.sheets_rules.proofs.Sound.{library-sound, tree-sound}
-use Rattle.covers.specs.Cover.{Point, Cover}
+use Rattle.covers.specs.Cover.{Point, Placed, Cover}
 use Rattle.covers.specs.Tradeoff.{same}
 use Rattle.covers.specs.CoverSheet.{arrivalWidth, coverRead, CoverReads}
 use Rattle.covers.specs.Promise.{RootCover}
@@ -141,13 +142,18 @@ module _ (ls ts cs : List ℕ) (l : Library) (t : Tree) (sheets : (ds : List ℕ
     | Refused f p ↦ λ g. let there : refused sheetNumber p ≡ refused sheetNumber k = sym (unread-said g) ∙ e in let same : p ≡ k = cc in refused-place cs (g ∙ ap (Refused f) same)
   ]) refl
 
+  -- Where a list is cut before its end. The bound of a list that ends late is met through this, and can be no other.
+  cut : (k : ℕ) (xs : List Placed) → k < length xs → (0 < length (drop k xs)) × (k ≤ length xs)
+  cut k xs h = (omega (arith, length-drop k xs), omega arith)
+
   said-where : SaidExactly cs l t (judgement ls ts cs) → SaidWhere ls ts cs l t (judgement ls ts cs)
   said-where said = record {
     sheet-place = λ k. (unread-at said, λ r. unread-said (place-refused cs r .1));
-    match-place = λ c k h e. omega (arith, walk-refused l 0 (c .placed) (started t) (stopped h e) .place-in);
+    match-place = λ c k h e. rw zero-add at (walk-refused l 0 (c .placed) (started t) (stopped h e) .place-in);
     ends-late = λ c d k h m less.
-        let late = walked-late l t (take k (c .placed)) (drop k (c .placed)) (listing-walked l t d m) (omega (arith, length-drop k (c .placed))) in
-        stops-at h (ap (walked l t) (sym (take-append-drop k (c .placed))) ∙ late ∙ ap (refused matchNumber) (length-take-le k (c .placed) (omega arith)));
+        let parts = cut k (c .placed) less in
+        let late = walked-late l t (take k (c .placed)) (drop k (c .placed)) (listing-walked l t d m) (parts .0) in
+        stops-at h (ap (walked l t) (sym (take-append-drop k (c .placed))) ∙ late ∙ ap (refused matchNumber) (length-take-le k (c .placed) (parts .1)));
     ends-early = λ c d x xs h m. stops-at h (walked-early l t (c .placed) (x ∷ xs) (listing-walked l t d m) (omega arith));
     match-wrong = λ c d k h e less legal alike. answer-none (sym (walked-alike l t (c .placed) (d .placed) k (stopped h e) less alike) ∙ listing-walked l t d (legal, refl));
     match-first = λ c d k ds h e less g alike. stops-at g (walked-alike l t (c .placed) (d .placed) k (stopped h e) less alike);

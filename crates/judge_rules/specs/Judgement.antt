@@ -56,7 +56,7 @@ pointWord (success p) = accepted + p .area * 2 ^ arrivalWidth + p .arrival
 unfoldable pub ofPointWord : ℕ → Answer Point
 ofPointWord w = cond (ltb w accepted) (refusedIn (w / places / numbers) (w / places % numbers) (w % places)) (success (record { area = (w - accepted) / 2 ^ arrivalWidth; arrival = (w - accepted) % 2 ^ arrivalWidth }))
 
--- The bounds that make a word say its answer: a refusal is about no item, and an accepted cover's figures are within the limits of any legal cover.
+-- Bounds within which a word says its answer: a refusal is about no item, and an accepted cover has figures that a legal cover can have.
 unfoldable pub PointBounded : Answer Point → Type 0
 PointBounded (refusedIn item number place) = (item ≡ 0) × (number < numbers) × (place < places)
 PointBounded (success p) = (p .area ≤ largestArea) × (p .arrival ≤ latestArrival)

@@ -15,10 +15,10 @@ use Rattle.covers.specs.Lending.{lent}
 use Rattle.covers.proofs.Basics.{at-in}
 use Rattle.map_rules.specs.Public.{Operated}
 use Rattle.map_rules.proofs.Laws.{seen}
-use Rattle.part_rules.specs.Part.{Part, known, knownTree}
+use Rattle.part_rules.specs.Part.{Link, Part, known, knownTree}
 use Rattle.part_rules.specs.PartRead.{part}
 use Rattle.part_rules.specs.Outcome.{coversFrom, partBytes, partSheets, partOutcome}
-use Rattle.part_rules.specs.Demands.{LinkNumber, of-leaf, of-driver, SoundLinks, IsMapped, late, overfull, no-cover, IsAccepted, PartDemands, PartWhereSound, LinksWhereRead}
+use Rattle.part_rules.specs.Demands.{LinkFault, no-leaf, leaf-taken, not-lower, LinkNumber, of-leaf, of-driver, SoundLinks, IsMapped, late, overfull, no-cover, IsAccepted, PartDemands, PartWhereSound, LinksWhereRead}
 use Rattle.part_rules.specs.Public.{MapsPart}
 use Rattle.part_rules.proofs.Trees.{trees-sound}
 use Rattle.part_rules.proofs.Links.{sound-or-fault, first-same, all-read, one-refused, links-read, part-links, links-bring}
@@ -74,14 +74,21 @@ not-links most l p {number} {place} n e =
           (elim (h .fails) as (λ m q x. (41 ≤ m) × (m ≤ 42) → ⊥) [ late h ↦ λ a. omega arith | overfull h k ↦ λ a. omega arith | no-cover h k i ↦ λ a. omega arith ]) (rw same said)
     ]) e
 
+link-number : {trees : List Tree} {before : List Link} {k : ℕ} {x : Link} {number place : ℕ} → LinkFault trees before k x number place → LinkNumber number
+link-number (no-leaf h) = of-leaf
+link-number (leaf-taken m h) = of-leaf
+link-number (not-lower h g f) = of-driver
+
 pub links-demands : (ls ps : List ℕ) (output work : ℕ) → LinksWhereRead ls ps output work (partOutcome ls ps output work)
 links-demands ls ps output work most l head trees h e e′ e″ = rw (opened ls ps output work h e) (elim (links-read ps head trees e′ e″) [
   | all-read sound is ↦ record {
     sound-exactly = (λ x. sound, λ x. is);
+    numbered = λ number place f. link-number (f .fault);
     refused-exactly = λ number place n. (λ x. absurd (not-links most l (record { trees = trees; links = head .0 .links }) n (sym (after-success (partSheets most l) is) ∙ x)), λ f. absurd (sound-or-fault sound f));
   }
   | one-refused {number = number} {place = place} f is ↦ record {
     sound-exactly = (λ x. absurd (answer-apart (sym x ∙ is)), λ sound. absurd (sound-or-fault sound f));
+    numbered = λ number place f. link-number (f .fault);
     refused-exactly = λ number′ place′ n.
         let said = after-refused (partSheets most l) is in
         (λ x. let both = sym said ∙ x in let i : number ≡ number′ = cc in let q : place ≡ place′ = cc in rw (← i, ← q) f, λ k. let same = first-same f k in said ∙ ap₂ (λ (a b : ℕ). refused a b) (same .0) (same .1));

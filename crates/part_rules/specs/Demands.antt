@@ -61,6 +61,7 @@ pub data LinkNumber : ℕ → Type 0 where
 pub record LinkDemands (ps : List ℕ) (head : Counts × ℕ) (trees : List Tree) (o : Answer (List ℕ)) : Type 0 where
   pub sound-exactly : (part ps ≡ success (record { trees = trees; links = head .0 .links })) ↔ SoundLinks trees (head .0 .links)
   pub refused-exactly : (number place : ℕ) → LinkNumber number → (o ≡ refused number place) ↔ FirstFault trees (head .0 .links) number place
+  pub numbered : (number place : ℕ) → FirstFault trees (head .0 .links) number place → LinkNumber number
 
 abbrev pub LinksWhereRead : (ls ps : List ℕ) → (output work : ℕ) → Answer (List ℕ) → Type 0
 LinksWhereRead ls ps output work o = (most : ℕ) (l : Library) (head : Counts × ℕ) (trees : List Tree) → lent partBytes output work ≡ success most → librarySaid ls ≡ success l → sheetRead (λ f. linkNumber) (counts ps start) ≡ success head → treesFrom [] (head .0 .trees) (drop (head .1) ps) ≡ success trees → LinkDemands ps head trees o
