@@ -5,7 +5,6 @@ set -euo pipefail
 log=$1
 features=product
 mappers="product plain plain_kept merging"
-longer_mappers=$mappers
 judges="product reference wordwise"
 cover_judges="judge judge_reference"
 parts="product maps plain_kept merging"
@@ -13,14 +12,12 @@ parts="product maps plain_kept merging"
     features=before mappers="$mappers before" judges="$judges before" cover_judges="$cover_judges judge_before" parts="$parts before"
 }
 rows="typical chain comb deep full crosscomb driven"
-growing="chain chain64 chain96 chain127 comb127"
 sheets="longest_library longest_tree longest_plain_tree longest_functions"
 scratch=$(mktemp -d)
 trap 'rm -rf "$scratch"' EXIT
 
 rt staticlib interface >"$scratch/staticlib" 2>&1
 rt check test_cases >"$scratch/test_cases" 2>&1
-rt check treecover >"$scratch/treecover" 2>&1
 export TREECOVER_LIB_DIR=$PWD/target/staticlib TREECOVER_LIB_NAME=interface TREECOVER_CASES=$PWD/target/bin/test_cases
 cargo build -q --release --offline --manifest-path reference/Cargo.toml --features "$features" --bins --target-dir target/reference
 bench=$PWD/target/reference/release/bench
@@ -39,18 +36,9 @@ table() { # WHO ROWS: the instructions of each on each row
     for row in $2; do printf '| %s |' "$row"; for w in $1; do printf ' %s |' "$(instructions "$w" "$row")"; done; echo; done
 }
 
-greatest() { # COMMAND: its greatest stack, in bytes
-    valgrind --tool=massif --stacks=yes --heap=no --massif-out-file="$scratch/ms" "$@" >/dev/null 2>&1
+stack() { # WHO ROW: the greatest stack of a map, or of a judgement, in bytes
+    valgrind --tool=massif --stacks=yes --heap=no --massif-out-file="$scratch/ms" "$bench" repeat 2 "$1" "$2" >/dev/null 2>&1
     awk -F= '/^mem_stacks_B/ && $2 > m { m = $2 } END { print m }' "$scratch/ms"
-}
-
-stack() { # WHO ROW: that of a map, or of a judgement
-    greatest "$bench" repeat 2 "$1" "$2"
-}
-
-program_stack() { # ROW: that of the program treecover on the row
-    "$bench" input "$1" >"$scratch/input"
-    greatest target/bin/treecover <"$scratch/input"
 }
 
 cat <<TEXT
@@ -72,10 +60,7 @@ A ratio is the product's time over the other's. \`typical\` is a usual problem; 
 the worst that were found before inputs could be exchanged; \`deep\` has nearly nothing to find and the
 deepest choice; \`full\` and \`crosscomb\` have many crossings; \`driven\` is \`typical\` with all leaves
 driven; \`part\` has 16 trees of the kind of \`typical\`, and \`deep_part\` 16 of the kind of \`deep\`,
-linked. These are lent 8,192 words; \`product_longer\` lends them 32,768, all of which are then made zero.
-\`chain64\`, \`chain96\` and \`chain127\` are \`chain\` with more grades of cells, so that curves have up to
-66, 96 and 126 points in place of 31, and \`comb127\` is a comb whose curves have up to 127: everyone is lent
-32,768 words for them$([ "$features" = product ] || echo ', and the delivery before refuses them').
+linked.
 
 The judges are timed on the longest sound library, the longest sound tree, whose leaves are all driven,
 and the same tree with plain leaves; the judge of functions on a library as long and its function sheet,
@@ -87,26 +72,18 @@ must not (\`reference/src/wordwise.rs\`, \`wordwise\`).
 
 The bars that we set: on chain and comb no more instructions than before inputs could be exchanged; on
 full and crosscomb at most 1.25 times plain Rust with all savings (crossings that are ruled out together,
-points that are kept, matches that are passed over: \`plain_kept\`); with 8,192 words, faster than merging
-on every row but deep; for the judges of sheets half of the time that they took while a field was read bit
-by bit, and a quarter as the goal; for a part of 16 typical trees at most 1.1 of the time of 16 calls of map.
+points that are kept, matches that are passed over: \`plain_kept\`); faster than merging on every row but
+deep; for the judges of sheets half of the time that they took while a field was read bit by bit, and a
+quarter as the goal; for a part of 16 typical trees at most 1.1 of the time of 16 calls of map.
 
 \`\`\`
 $("$bench")
 \`\`\`
 
 Instructions for one map, by callgrind. Bytes made zero by one repeated instruction count once for each
-byte: for the product some 250,000 in every row, and some 640,000 with the longer work area.
+byte: for the product some 250,000 in every row.
 
 $(table "$mappers" "$rows")
-
-Instructions for one map of the rows with longer curves, by callgrind, beside \`chain\`.
-
-$(table "$longer_mappers" "$growing")
-
-Instructions for one map with 8,192 and with 32,768 words lent, by callgrind, where 8,192 are enough.
-
-$(table "product product_longer" "$rows part deep_part")
 
 Instructions for the parts of 16 trees, by callgrind: the part operation, the same trees mapped by 16
 calls of map with the arrivals put in (\`maps\`), and plain Rust and merging with the part.
@@ -122,22 +99,19 @@ Instructions for one judgement of the row's cover, by callgrind.
 $(table "$cover_judges" "$rows")
 
 The greatest stack, by massif, in bytes, of which main and the benchmark have a small part. The bar that
-we set is 512 KB; for the whole program treecover, whose work area of 262,144 bytes is on it, 640 KB.
+we set is 512 KB.
 
 | row | map | judge of its cover |
 |---|---|---|
 $(for row in $rows; do echo "| $row | $(stack product "$row") | $(stack judge "$row") |"; done)
 
 The judge of functions, on \`longest_functions\`: $(stack product longest_functions). The part operation, on \`part\` and \`deep_part\`:
-$(stack product part), $(stack product deep_part). Map of \`chain127\`: $(stack product chain127).
-The program treecover, on \`deep\` and \`chain127\`: $(program_stack deep), $(program_stack chain127).
+$(stack product part), $(stack product deep_part).
 
 ## Agreement on fresh cases
 
 Number and place or length, every byte of the output and every word of the work area, both filled with
-random values before. Fresh sheets are judged by \`wordwise\` too. Of maps and parts one in four is also run
-with both work areas: what becomes of 7 is counted, and how many trade-offs the longest curves have, if 31,
-32, 127 or 128.
+random values before. Fresh sheets are judged by \`wordwise\` too.
 
 \`\`\`
 $ fresh map 200000 31

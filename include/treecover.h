@@ -23,8 +23,7 @@ extern "C" {
  *    6  a pattern's 17th node, or a pattern count past 128 in all; place: that field
  *   12, 13, 14  as 2, 3 and 4, in the tree; in a part bytes may follow any tree except the last
  *   16  the tree's 65th node; place: its code
- *    7  more trade-offs at a node under a load considered there than are carried: 31, or 127 by map and map of parts, lent
- *       TREECOVER_LONGER_WORK words or more; place: the highest-numbered such node
+ *    7  more than 31 trade-offs at a node under a load considered there; place: the highest-numbered such node
  *    8  map: no cover arrives by the required time; list: the root has no cover; place 0
  *   22  the cover sheet ends before or inside a field, or has a bad tail; place as for 2 or 3
  *   23  a match is misplaced or not legal, or its crossing is wrong; place: its position from 0; or the list ends early; place: the
@@ -40,12 +39,11 @@ extern "C" {
  *   43  a linked arrival is over 1000000; place: the lowest-numbered such leaf of the tree
  */
 
-/* The least lengths of an output in bytes and of a work area in words, and the words with which map and map of parts carry longer curves. */
+/* The least lengths of an output in bytes and of a work area in words. */
 #define TREECOVER_MAP_OUTPUT 149
 #define TREECOVER_LIST_OUTPUT 179
 #define TREECOVER_PART_OUTPUT 2384
 #define TREECOVER_WORK 8192
-#define TREECOVER_LONGER_WORK 32768
 
 /* Set in the answer to a cover that is accepted. */
 #define TREECOVER_ACCEPTED (UINT64_C(1) << 63)
@@ -68,18 +66,13 @@ uint64_t treecover_judge_tree(const uint8_t *tree, size_t tree_len);
  * NANDs may be exchanged, and a match's crossing says which are. Answers how many bytes of the output the cover sheet takes; the
  * bytes after them are as they were. A refusal leaves the whole output as it was.
  *
- * A work area of TREECOVER_LONGER_WORK words or more lets it carry 127 trade-offs at a node, a shorter one 31; where 31 are enough, the
- * answer is the same. After a success and after refusals 7 and 8 the first TREECOVER_LONGER_WORK words of such a work area are zero, of a
- * shorter one the first TREECOVER_WORK; words beyond are as they were, and other refusals touch none. What output and work area hold
- * before the call does not matter.
+ * The first TREECOVER_WORK words of the work area are zero after a success and after refusals 7 and 8, words beyond are as
+ * they were, and other refusals touch none. What output and work area hold before the call does not matter.
  */
 uint64_t treecover_map(const uint8_t *library, size_t library_len, const uint8_t *tree, size_t tree_len,
                        uint8_t *output, size_t output_len, uint64_t *work, size_t work_len);
 
-/*
- * Lists every trade-off of the tree's root between arrival and area, earliest first; the rest is as for treecover_map. But 31 trade-offs are
- * carried at a node, and the first TREECOVER_WORK words are used, however many are lent.
- */
+/* Lists every trade-off of the tree's root between arrival and area, earliest first; the rest is as for treecover_map. */
 uint64_t treecover_list(const uint8_t *library, size_t library_len, const uint8_t *tree, size_t tree_len,
                         uint8_t *output, size_t output_len, uint64_t *work, size_t work_len);
 

@@ -3,6 +3,7 @@
 use crate::cover::{Cover, Pair, Placed};
 use crate::library::Library;
 use crate::matching::{matches_by_node, redrawings, Match};
+use crate::merging::MOST_TRADE_OFFS;
 use crate::refusal::{Refusal, NO_COVER, OVERFULL};
 use crate::shape::Node;
 use crate::tree::Tree;
@@ -34,14 +35,13 @@ impl<'a> Listing<'a> {
         Some(listing)
     }
 
-    /// Map where a node may have at most so many trade-offs under one load.
-    pub fn map(&self, most: usize) -> Result<Cover, Refusal> {
-        self.refuse_overfull(most)?;
+    pub fn map(&self) -> Result<Cover, Refusal> {
+        self.refuse_overfull()?;
         self.choose(0, 0, self.tree.required).ok_or(Refusal::new(NO_COVER, 0))
     }
 
-    pub fn list(&self, most: usize) -> Result<Vec<Pair>, Refusal> {
-        self.refuse_overfull(most)?;
+    pub fn list(&self) -> Result<Vec<Pair>, Refusal> {
+        self.refuse_overfull()?;
         match trade_offs(&self.covers[0][0]) {
             pairs if pairs.is_empty() => Err(Refusal::new(NO_COVER, 0)),
             pairs => Ok(pairs),
@@ -110,8 +110,9 @@ impl<'a> Listing<'a> {
         covers
     }
 
-    fn refuse_overfull(&self, most: usize) -> Result<(), Refusal> {
-        let overfull = |&node: &usize| self.covers[node].iter().any(|covers| trade_offs(covers).len() > most);
+    fn refuse_overfull(&self) -> Result<(), Refusal> {
+        let overfull =
+            |&node: &usize| self.covers[node].iter().any(|covers| trade_offs(covers).len() > MOST_TRADE_OFFS);
         match (0..self.covers.len()).rev().find(overfull) {
             Some(node) => Err(Refusal::new(OVERFULL, node)),
             None => Ok(()),

@@ -8,14 +8,16 @@ use crate::refusal::{Refusal, NO_COVER, OVERFULL};
 use crate::shape::{Node, Shape};
 use crate::tree::{Tree, TreeLeaf};
 
-/// Map where a node may have at most so many trade-offs under one load.
-pub fn map(library: &Library, tree: &Tree, most: usize) -> Result<Cover, Refusal> {
-    map_among(&redrawings(library), library, tree, most)
+/// The most trade-offs of a node under one load.
+pub const MOST_TRADE_OFFS: usize = 31;
+
+pub fn map(library: &Library, tree: &Tree) -> Result<Cover, Refusal> {
+    map_among(&redrawings(library), library, tree)
 }
 
 /// Map as it is if only some redrawings may be matched.
-pub fn map_among(redrawings: &[Redrawing], library: &Library, tree: &Tree, most: usize) -> Result<Cover, Refusal> {
-    let curves = Curves::of(redrawings, library, tree, most)?;
+pub fn map_among(redrawings: &[Redrawing], library: &Library, tree: &Tree) -> Result<Cover, Refusal> {
+    let curves = Curves::of(redrawings, library, tree)?;
     let Some(point) = curves.root.at(tree.required) else {
         return Err(Refusal::new(NO_COVER, 0));
     };
@@ -25,8 +27,8 @@ pub fn map_among(redrawings: &[Redrawing], library: &Library, tree: &Tree, most:
     Ok(Cover { area: point.pair.area, arrival: point.pair.arrival, matches })
 }
 
-pub fn list(library: &Library, tree: &Tree, most: usize) -> Result<Vec<Pair>, Refusal> {
-    match Curves::of(&redrawings(library), library, tree, most)?.root.pairs() {
+pub fn list(library: &Library, tree: &Tree) -> Result<Vec<Pair>, Refusal> {
+    match Curves::of(&redrawings(library), library, tree)?.root.pairs() {
         pairs if pairs.is_empty() => Err(Refusal::new(NO_COVER, 0)),
         pairs => Ok(pairs),
     }
@@ -37,22 +39,15 @@ pub fn list(library: &Library, tree: &Tree, most: usize) -> Result<Vec<Pair>, Re
 pub struct Extent {
     /// Over all nodes.
     pub matches: usize,
-    /// The most trade-offs of a node but the root under a load considered there, and those of the root.
-    pub below: usize,
-    pub root: usize,
+    /// Of a node under a load considered there.
+    pub most_trade_offs: usize,
 }
 
-impl Extent {
-    pub fn most_trade_offs(&self) -> usize {
-        self.below.max(self.root)
-    }
-}
-
-pub fn extent(library: &Library, tree: &Tree, most: usize) -> Result<Extent, Refusal> {
-    let curves = Curves::of(&redrawings(library), library, tree, most)?;
-    let below = curves.below.iter().flatten().map(|curve| curve.points.len()).max().unwrap_or(0);
-    let matches = curves.matches.iter().map(Vec::len).sum();
-    Ok(Extent { matches, below, root: curves.root.points.len() })
+pub fn extent(library: &Library, tree: &Tree) -> Result<Extent, Refusal> {
+    let curves = Curves::of(&redrawings(library), library, tree)?;
+    let every = curves.below.iter().flatten().chain([&curves.root]);
+    let most_trade_offs = every.map(|curve| curve.points.len()).max().unwrap_or(0);
+    Ok(Extent { matches: curves.matches.iter().map(Vec::len).sum(), most_trade_offs })
 }
 
 /// The curves of every node below the root by bin, and the root's.
@@ -64,17 +59,14 @@ struct Curves<'a> {
     /// By node and bin; filled from the highest node down.
     below: Vec<Vec<Curve>>,
     root: Curve,
-    /// The most points of a curve.
-    most: usize,
 }
 
 impl<'a> Curves<'a> {
-    fn of(redrawings: &[Redrawing<'a>], library: &'a Library, tree: &'a Tree, most: usize) -> Result<Self, Refusal> {
+    fn of(redrawings: &[Redrawing<'a>], library: &'a Library, tree: &'a Tree) -> Result<Self, Refusal> {
         let shape = &tree.shape;
         let count = shape.nodes.len();
         let matches = matches_by_node(redrawings, shape);
-        let (below, root) = (vec![Vec::new(); count], Curve::default());
-        let mut curves = Curves { library, shape, matches, below, root, most };
+        let mut curves = Curves { library, shape, matches, below: vec![Vec::new(); count], root: Curve::default() };
         for node in (1..count).rev() {
             let by_bin = |&load: &u32| curves.checked(node, load);
             curves.below[node] = library.bins.iter().map(by_bin).collect::<Result<_, _>>()?;
@@ -85,7 +77,7 @@ impl<'a> Curves<'a> {
 
     fn checked(&self, node: usize, load: u32) -> Result<Curve, Refusal> {
         let curve = self.curve(node, load);
-        if curve.points.len() > self.most {
+        if curve.points.len() > MOST_TRADE_OFFS {
             return Err(Refusal::new(OVERFULL, node));
         }
         Ok(curve)

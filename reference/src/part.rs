@@ -4,7 +4,7 @@ use crate::cover::Cover;
 use crate::library::{self, Library};
 use crate::matching::redrawings;
 use crate::merging;
-use crate::operation::{Lent, Operation, LEAST_WORK, LONGER_WORK};
+use crate::operation::{Lent, Operation, LEAST_WORK};
 use crate::refusal::{
     Refusal, LINKED_LATE, NO_COVER, OVERFULL, PART_DRIVER, PART_FIELD, RANGE, SHORT, TAIL, TRUNCATED,
 };
@@ -19,9 +19,8 @@ pub const MOST_LINKS: usize = 255;
 /// The least length of the output, in bytes: room for a cover sheet of every tree that there may be.
 pub const LEAST_OUTPUT: usize = MOST_TREES * Operation::Map.least_output();
 
-/// Just enough for a part, and for longer curves.
+/// Just enough for a part.
 pub const ENOUGH: Lent = Lent { output: LEAST_OUTPUT, work: LEAST_WORK };
-pub const LONGER: Lent = Lent { work: LONGER_WORK, ..ENOUGH };
 
 /// A leaf of the reading tree arrives when the driving tree's cover does.
 #[derive(Clone, Copy, PartialEq, Eq, PartialOrd, Ord, Hash, Debug)]
@@ -141,7 +140,7 @@ pub fn run(lent: Lent, library: &[u8], part: &[u8]) -> Result<Vec<u8>, Fault> {
         return Err(Fault::Short);
     }
     let library = library::decode(library).map_err(Fault::Library)?;
-    let covers = map(&library, &decode(part)?, Operation::Map.most_trade_offs(lent.work))?;
+    let covers = map(&library, &decode(part)?)?;
     Ok(covers.iter().flat_map(Cover::sheet).collect())
 }
 
@@ -242,10 +241,10 @@ impl Part {
     }
 }
 
-/// The covers of the trees, mapped in their order, where a node may have at most so many trade-offs under one load.
-pub fn map(library: &Library, part: &Part, most: usize) -> Result<Vec<Cover>, Fault> {
+/// The covers of the trees, mapped in their order.
+pub fn map(library: &Library, part: &Part) -> Result<Vec<Cover>, Fault> {
     let redrawings = redrawings(library);
-    map_each(part, |tree| merging::map_among(&redrawings, library, tree, most))
+    map_each(part, |tree| merging::map_among(&redrawings, library, tree))
 }
 
 /// The same by any map of one tree.

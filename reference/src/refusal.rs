@@ -12,7 +12,7 @@ pub const RANGE: u32 = 4;
 pub const DRAWING: u32 = 5;
 /// Too many nodes or patterns (overgrown).
 pub const SIZE: u32 = 6;
-/// More trade-offs at a node than are carried (crowded).
+/// More than 31 trade-offs (crowded).
 pub const OVERFULL: u32 = 7;
 /// No cover (arrives in time).
 pub const NO_COVER: u32 = 8;

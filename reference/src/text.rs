@@ -2,15 +2,11 @@
 
 use crate::cover::{Cover, Placed};
 use crate::library::{self, Library};
-use crate::operation::{Operation, LONGER_WORK};
 use crate::refusal::Refusal;
 use crate::{merging, tree};
 
 /// The longest input.
 pub const MOST_INPUT: usize = 4096;
-
-/// The most trade-offs of a node under one load: the program lends map the longer work area.
-const MOST_TRADE_OFFS: usize = Operation::Map.most_trade_offs(LONGER_WORK);
 
 /// The library's length in two bytes, high byte first, the library and the tree.
 pub fn input(library: &[u8], tree: &[u8]) -> Vec<u8> {
@@ -45,7 +41,7 @@ pub fn parts(input: &[u8]) -> Option<(&[u8], &[u8])> {
 
 fn mapped(library: &[u8], tree: &[u8]) -> Result<String, Refusal> {
     let library = library::decode(library)?;
-    let cover = merging::map(&library, &tree::decode(tree)?, MOST_TRADE_OFFS)?;
+    let cover = merging::map(&library, &tree::decode(tree)?)?;
     Ok(cover_text(&library, &cover))
 }
 

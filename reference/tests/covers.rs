@@ -13,7 +13,7 @@ use reference::generate::specimen;
 use reference::judging::{check, judge, name, Fault};
 use reference::library::Library;
 use reference::merging;
-use reference::operation::{Lent, Operation, MOST_TRADE_OFFS};
+use reference::operation::{Lent, Operation};
 use reference::rng::Rng;
 use reference::shape::Node;
 use reference::shape::Step::{Inv, Leaf, Nand};
@@ -357,7 +357,7 @@ fn what_map_hands_over_is_accepted() {
         let problem = problem(&mut rng, style);
         let (library, tree) = (problem.library_sheet(), problem.tree_sheet());
         let Ok(sheet) = Operation::Map.run(Lent::ENOUGH, &library, &tree) else { continue };
-        let Cover { area, arrival, .. } = merging::map(&problem.library, &problem.tree, MOST_TRADE_OFFS).unwrap();
+        let Cover { area, arrival, .. } = merging::map(&problem.library, &problem.tree).unwrap();
         assert_eq!(judge(&library, &tree, &sheet), Ok(Pair { area, arrival }));
         handed_over += 1;
     }
@@ -374,7 +374,7 @@ fn drawn_covers_are_accepted() {
         let Some(cover) = Draw::new(&problem).cover(&mut rng) else { continue };
         let pair = Pair { area: cover.area, arrival: cover.arrival };
         late += (cover.arrival > problem.tree.required) as usize;
-        others += (merging::map(&problem.library, &problem.tree, MOST_TRADE_OFFS).as_ref() != Ok(&cover)) as usize;
+        others += (merging::map(&problem.library, &problem.tree).as_ref() != Ok(&cover)) as usize;
         assert_eq!(Draft::new(problem, cover).case().judged(), Ok(pair));
     }
     println!("{late} late, {others} not map's");

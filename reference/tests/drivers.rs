@@ -12,7 +12,7 @@ use reference::generate::problem::{any_style, problem, small_style, Problem};
 use reference::generate::{longest, sound, specimen};
 use reference::judging;
 use reference::library::Library;
-use reference::operation::{Lent, Operation, MOST_TRADE_OFFS};
+use reference::operation::{Lent, Operation};
 use reference::refusal::Refusal;
 use reference::rng::Rng;
 use reference::shape::Step::{self, Inv, Nand};
@@ -24,8 +24,8 @@ use reference::{bill, merging, text};
 const LATEST_ARRIVAL: u32 = 9_290_305;
 
 fn listed(library: &Library, tree: &Tree) -> Vec<(u32, u32)> {
-    let pairs = merging::list(library, tree, MOST_TRADE_OFFS).expect("a list");
-    assert_eq!(Listing::new(library, tree, 9_999).expect("few covers").list(MOST_TRADE_OFFS).as_ref(), Ok(&pairs));
+    let pairs = merging::list(library, tree).expect("a list");
+    assert_eq!(Listing::new(library, tree, 9_999).expect("few covers").list().as_ref(), Ok(&pairs));
     pairs.iter().map(|pair| (pair.arrival, pair.area)).collect()
 }
 
@@ -57,7 +57,7 @@ fn a_driver_tells_through_other_cells() {
     // Small over small: 38 + 3 + 8 + 7 = 56; small over large: 17 + 8 + 4 + 7 = 36; large over small: 38 + 3 + 2 + 10 =
     // 53; large over large: 17 + 8 + 1 + 10 = 36, and larger than small over large.
     assert_eq!(listed(&library, &below), [(36, 6), (56, 2)]);
-    let in_time = |required| merging::map(&library, &Tree { required, ..below.clone() }, MOST_TRADE_OFFS);
+    let in_time = |required| merging::map(&library, &Tree { required, ..below.clone() });
     assert_eq!(in_time(35), Err(Refusal { number: 8, place: 0 }));
     let matches = |cover: Cover| cover.matches;
     assert_eq!(in_time(55).map(matches), Ok(vec![Placed::new(0, 0, 0), Placed::new(1, 1, 0)]));
@@ -68,7 +68,7 @@ fn a_driver_tells_through_other_cells() {
 fn a_driven_root_drives_the_root_load() {
     let library = two_inverters();
     for (load, arrival) in [(0, 100), (1, 103), (4, 112), (255, 865)] {
-        let of = |required| merging::map(&library, &tree(load, required, &[driven(100, 3)]), MOST_TRADE_OFFS);
+        let of = |required| merging::map(&library, &tree(load, required, &[driven(100, 3)]));
         assert_eq!(of(arrival), Ok(Cover { area: 0, arrival, matches: vec![] }));
         assert!(of(arrival + 1).is_ok());
         assert_eq!(of(arrival - 1), Err(Refusal { number: 8, place: 0 }));
@@ -87,7 +87,7 @@ fn the_latest_arrival_is_9290305() {
     assert_eq!(LATEST_ARRIVAL, 9_225_280 + 255 * 255);
     let of = |required| {
         let Problem { library, tree } = latest_problem(required);
-        merging::map(&library, &tree, MOST_TRADE_OFFS).map(|cover| (cover.arrival, cover.area))
+        merging::map(&library, &tree).map(|cover| (cover.arrival, cover.area))
     };
     assert_eq!(of(LATEST_ARRIVAL - 1), Err(Refusal { number: 8, place: 0 }));
     assert_eq!(of(LATEST_ARRIVAL), Ok((LATEST_ARRIVAL, 4_128_705)));
@@ -96,7 +96,7 @@ fn the_latest_arrival_is_9290305() {
     for _ in 0..3_000 {
         let style = any_style(&mut rng);
         let problem = problem(&mut rng, style);
-        let pairs = merging::list(&problem.library, &problem.tree, MOST_TRADE_OFFS).unwrap_or_default();
+        let pairs = merging::list(&problem.library, &problem.tree).unwrap_or_default();
         assert!(pairs.iter().all(|pair| pair.arrival <= LATEST_ARRIVAL));
     }
 }
@@ -134,7 +134,7 @@ fn a_crossing_gives_a_driver_another_load() {
     nand.pins[0].bin = 1;
     let library = Library { bins: vec![1, 4], cells: vec![nand] };
     let tree = tree(1, LATEST_REQUIRED, &[Nand, driven(0, 10), driven(3, 1)]);
-    let cover = merging::map(&library, &tree, MOST_TRADE_OFFS).expect("a cover");
+    let cover = merging::map(&library, &tree).expect("a cover");
     assert_eq!(cover, Cover { area: 2, arrival: 15, matches: vec![Placed::new(0, 0, 16)] });
     let problem = Problem { library, tree };
     assert_eq!(judged(&problem, &[(0, 0)], 2, 45), "accepted 2 45");
@@ -196,8 +196,8 @@ fn single_leaves_of_drive_0_are_plain() {
         let mut plain = tree.clone();
         plain.shape.leaves_mut().for_each(|leaf| leaf.drive = leaf.drive.filter(|&drive| drive > 0));
         changed += (plain != tree && plain.has_driven_leaves()) as usize;
-        assert_eq!(merging::map(&library, &tree, MOST_TRADE_OFFS), merging::map(&library, &plain, MOST_TRADE_OFFS));
-        assert_eq!(merging::list(&library, &tree, MOST_TRADE_OFFS), merging::list(&library, &plain, MOST_TRADE_OFFS));
+        assert_eq!(merging::map(&library, &tree), merging::map(&library, &plain));
+        assert_eq!(merging::list(&library, &tree), merging::list(&library, &plain));
     }
     assert!(changed > 500, "{changed}");
 }
@@ -215,8 +215,8 @@ fn under_one_load_a_driver_is_a_delay() {
         library.cells.iter_mut().flat_map(|cell| &mut cell.pins).for_each(|pin| pin.bin = 0);
         let load = if tree.shape.is_leaf(0) { tree.root_load } else { library.bins[0] };
         let later = tree.charged(load);
-        assert_eq!(merging::map(&library, &tree, MOST_TRADE_OFFS), merging::map(&library, &later, MOST_TRADE_OFFS));
-        assert_eq!(merging::list(&library, &tree, MOST_TRADE_OFFS), merging::list(&library, &later, MOST_TRADE_OFFS));
+        assert_eq!(merging::map(&library, &tree), merging::map(&library, &later));
+        assert_eq!(merging::list(&library, &tree), merging::list(&library, &later));
         let problem = Problem { library, tree };
         let Some(cover) = Draw::new(&problem).cover(&mut rng) else { continue };
         let Problem { library, tree } = problem;
@@ -247,7 +247,7 @@ fn the_longest_tree_sheet_has_1056_bits() {
 #[test]
 fn the_longest_tree_is_mapped() {
     let problem = Problem { library: specimen::library(), tree: longest::tree() };
-    let cover = merging::map(&problem.library, &problem.tree, MOST_TRADE_OFFS).expect("a cover");
+    let cover = merging::map(&problem.library, &problem.tree).expect("a cover");
     // The last leaf, 1,000,000 + 255 × 1, five NANDs, of which the first four drive 1 and the last 2, and the fast
     // inverter, which drives 5.
     assert_eq!((cover.arrival, cover.area), (1_000_255 + 4 * 8 + 10 + 9, 31 * 2 + 2));

@@ -10,7 +10,7 @@ use reference::generate::problem::{any_style, problem, small_style, Problem};
 use reference::generate::specimen;
 use reference::library::Library;
 use reference::merging;
-use reference::operation::{Lent, Operation, LEAST_WORK, MOST_TRADE_OFFS};
+use reference::operation::{Lent, Operation, LEAST_WORK};
 use reference::refusal::Refusal;
 use reference::rng::Rng;
 use reference::text;
@@ -40,8 +40,8 @@ fn the_specimens_map_as_stated() {
     let trees = specimen::trees();
     assert_eq!(trees.len(), SPECIMENS.len());
     for (tree, expected) in trees.iter().zip(SPECIMENS) {
-        let result = merging::map(&library, tree, MOST_TRADE_OFFS);
-        assert_eq!(result, Listing::new(&library, tree, 99).unwrap().map(MOST_TRADE_OFFS));
+        let result = merging::map(&library, tree);
+        assert_eq!(result, Listing::new(&library, tree, 99).unwrap().map());
         let patterns = |cover: &Cover| cover.matches.iter().map(|placed| placed.pattern).collect::<Vec<_>>();
         match expected {
             None => assert_eq!(result, Err(Refusal { number: 8, place: 0 })),
@@ -65,14 +65,11 @@ fn case_b_has_the_stated_bytes() {
 #[test]
 fn the_example_of_document_003_arrives_at_39() {
     let library = specimen::example_library();
-    let pairs = merging::list(&library, &specimen::example_tree(0), MOST_TRADE_OFFS).unwrap();
+    let pairs = merging::list(&library, &specimen::example_tree(0)).unwrap();
     assert_eq!(pairs[0].arrival, 39);
-    assert_eq!(Listing::new(&library, &specimen::example_tree(0), 9_999).unwrap().list(MOST_TRADE_OFFS), Ok(pairs));
-    assert!(merging::map(&library, &specimen::example_tree(39), MOST_TRADE_OFFS).is_ok());
-    assert_eq!(
-        merging::map(&library, &specimen::example_tree(38), MOST_TRADE_OFFS),
-        Err(Refusal { number: 8, place: 0 })
-    );
+    assert_eq!(Listing::new(&library, &specimen::example_tree(0), 9_999).unwrap().list(), Ok(pairs));
+    assert!(merging::map(&library, &specimen::example_tree(39)).is_ok());
+    assert_eq!(merging::map(&library, &specimen::example_tree(38)), Err(Refusal { number: 8, place: 0 }));
 }
 
 #[test]
@@ -102,7 +99,7 @@ impl Seen {
     fn count(&mut self, problem: &Problem, listing: &Listing, map: &Result<Cover, Refusal>) {
         let Problem { library, tree } = problem;
         self.driven += tree.has_driven_leaves() as usize;
-        self.told_by_drivers += (merging::map(library, &tree.with_drive(None), MOST_TRADE_OFFS) != *map) as usize;
+        self.told_by_drivers += (merging::map(library, &tree.with_drive(None)) != *map) as usize;
         let cover = match map {
             Err(refusal) => {
                 self.overfull += (refusal.number == 7) as usize;
@@ -143,9 +140,9 @@ fn compare_with_listing(count: usize, seed: u64) -> Seen {
         let problem = problem(&mut rng, style);
         let (library, tree) = (&problem.library, &problem.tree);
         let Some(listing) = Listing::new(library, tree, 2_000) else { continue };
-        let map = merging::map(library, tree, MOST_TRADE_OFFS);
-        assert_eq!(map, listing.map(MOST_TRADE_OFFS), "{problem:?}");
-        assert_eq!(merging::list(library, tree, MOST_TRADE_OFFS), listing.list(MOST_TRADE_OFFS), "{problem:?}");
+        let map = merging::map(library, tree);
+        assert_eq!(map, listing.map(), "{problem:?}");
+        assert_eq!(merging::list(library, tree), listing.list(), "{problem:?}");
         seen.count(&problem, &listing, &map);
         compared += 1;
     }
@@ -173,8 +170,7 @@ fn chosen_problems_end_as_stated() {
     for chosen in chosen::all() {
         let Problem { library, tree } = &chosen.problem;
         let tree = Tree { required: LATEST_REQUIRED, ..tree.clone() };
-        let (list, map) =
-            (merging::list(library, &tree, MOST_TRADE_OFFS), merging::map(library, &tree, MOST_TRADE_OFFS));
+        let (list, map) = (merging::list(library, &tree), merging::map(library, &tree));
         let outcome = match &list {
             Err(refusal) => Outcome::Refused(refusal.number, refusal.place),
             Ok(pairs) => match chosen.outcome {
@@ -187,7 +183,7 @@ fn chosen_problems_end_as_stated() {
             assert_eq!(map.as_ref().unwrap().matches, matches, "{}", chosen.name);
         }
         if let Some(listing) = Listing::new(library, &tree, 3_000) {
-            assert_eq!((list, map), (listing.list(MOST_TRADE_OFFS), listing.map(MOST_TRADE_OFFS)), "{}", chosen.name);
+            assert_eq!((list, map), (listing.list(), listing.map()), "{}", chosen.name);
         }
     }
 }

@@ -13,7 +13,7 @@ use reference::generate::parts::{leaf, tree};
 use reference::generate::problem::{any_style, problem};
 use reference::generate::specimen;
 use reference::hex::hex;
-use reference::operation::{Operation, LEAST_WORK, MOST_TRADE_OFFS};
+use reference::operation::{Operation, LEAST_WORK};
 use reference::part::{self, Fault, Link, Part, Wrong, LEAST_OUTPUT};
 use reference::refusal::Refusal;
 use reference::rng::Rng;
@@ -22,13 +22,27 @@ use reference::shape::Step::Inv;
 use reference::tree::{Tree, LATEST_LEAF};
 use std::collections::BTreeMap;
 
+/// What is said of a case, in the form of the chosen rows.
+fn outcome(case: &Case) -> Outcome {
+    match case.answer() {
+        Ok(sheets) => {
+            let covers = cover::decode_row(&sheets).expect("cover sheets");
+            Outcome::Mapped(covers.iter().map(|(cover, _)| (cover.area, cover.arrival)).collect())
+        }
+        Err(fault) => {
+            let Refusal { number, place } = fault.refusal();
+            Outcome::Refused { number, place: place as usize, tree: fault.tree() }
+        }
+    }
+}
+
 #[test]
 fn chosen_parts_are_answered_as_stated() {
     let rows = chosen::all();
     assert!(rows.len() > 1_000);
     for row in rows {
         let Case { library, part, .. } = &row.case;
-        assert_eq!(Outcome::of(&row.case), row.outcome, "{}: {} {}", row.name, hex(library), hex(part));
+        assert_eq!(outcome(&row.case), row.outcome, "{}: {} {}", row.name, hex(library), hex(part));
     }
 }
 
@@ -168,7 +182,7 @@ fn a_part_begins_with_its_first_trees() {
         let mut first = whole.clone();
         first.part.trees.truncate(count);
         first.part.links.retain(|link| link.reading < count);
-        let sheets = |draft: &Draft| part::map(&draft.library, &draft.part, MOST_TRADE_OFFS);
+        let sheets = |draft: &Draft| part::map(&draft.library, &draft.part);
         match (sheets(&first), sheets(&whole)) {
             (Err(fault), answer) => {
                 assert_eq!(answer, Err(fault));
@@ -205,7 +219,7 @@ fn merging_agrees_with_listing_every_cover() {
     let (mut mapped, mut refused) = (0, BTreeMap::new());
     for _ in 0..2_000 {
         let Draft { library, part } = small_draft(&mut rng);
-        let by_listing = |tree: &Tree| Listing::new(&library, tree, 3_000).map(|listing| listing.map(MOST_TRADE_OFFS));
+        let by_listing = |tree: &Tree| Listing::new(&library, tree, 3_000).map(|listing| listing.map());
         let mut is_listed = true;
         let listed = part::map_each(&part, |tree| {
             by_listing(tree).unwrap_or_else(|| {
@@ -214,7 +228,7 @@ fn merging_agrees_with_listing_every_cover() {
             })
         });
         if is_listed {
-            let merged = part::map(&library, &part, MOST_TRADE_OFFS);
+            let merged = part::map(&library, &part);
             assert_eq!(merged, listed);
             mapped += (merged.is_ok() && !part.links.is_empty()) as usize;
             merged.err().into_iter().for_each(|fault| *refused.entry(fault.refusal().number).or_insert(0) += 1);
@@ -257,8 +271,8 @@ fn only_linked_leaves_are_late() {
     let late = tree(9, 2_000_000, &[leaf(LATEST_LEAF)]);
     let reader = tree(1, 2_000_000, &[Inv, leaf(LATEST_LEAF)]);
     let part = Part { trees: vec![late, reader.clone(), reader], links: vec![Link::new(2, 1, 1)] };
-    assert_eq!(part::map(&specimen::library(), &part, MOST_TRADE_OFFS), Err(Fault::Late { tree: 2, leaf: 1 }));
+    assert_eq!(part::map(&specimen::library(), &part), Err(Fault::Late { tree: 2, leaf: 1 }));
     let part = Part { links: vec![Link::new(2, 1, 0)], ..part };
-    let covers = part::map(&specimen::library(), &part, MOST_TRADE_OFFS).expect("covers");
+    let covers = part::map(&specimen::library(), &part).expect("covers");
     assert_eq!(covers.iter().map(|cover| cover.arrival).collect::<Vec<u32>>(), [LATEST_LEAF, 1_000_006, 1_000_006]);
 }

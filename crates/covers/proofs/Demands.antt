@@ -12,17 +12,16 @@ use Rattle.fields.proofs.Answer.{both_succeed, after_success}
 use Rattle.sheets_rules.specs.Model.{Library, Tree}
 use Rattle.sheets_rules.specs.Report.{library_said, tree_said}
 use Rattle.sheets_rules.proofs.Sound.{library_sound, tree_sound}
-use Rattle.covers.specs.declared.Terms.{Terms}
 use Rattle.covers.specs.Cover.{Point, Cover}
 use Rattle.covers.specs.Tradeoff.{considered}
 use Rattle.covers.specs.CoverSheet.{cover_sheet, list_sheet, CoverReads, ListReads}
 use Rattle.covers.specs.Answer.{overfull_number, map_answer, list_answer}
 use Rattle.covers.specs.Lending.{lent, told, output_after, observed}
-use Rattle.covers.specs.Outcome.{operation, map_terms, list_terms, map_outcome, list_outcome}
+use Rattle.covers.specs.Outcome.{operation, map_bytes, list_bytes, map_outcome, list_outcome}
 use Rattle.covers.specs.Promise.{HighestTooMany, NoneTooMany, RootTradeoffs}
 use Rattle.covers.specs.Demands.{Demands, MapDemands, ListDemands, WhereSound}
 use Rattle.covers.proofs.Basics.{lt_or_le}
-use Rattle.covers.proofs.Lent.{capacity_carried, allowed_up_to, enough_lent}
+use Rattle.covers.proofs.Lent.{allowed_is, enough_lent}
 use Rattle.covers.proofs.Nodes.{root_in}
 use Rattle.covers.proofs.ReadBack.{cover_reads, list_reads}
 use Rattle.covers.proofs.FromSheets.{cover_fits, list_fits}
@@ -81,26 +80,26 @@ observed_is (refused_in i n p) output = refl
 observed_is (success s) output = ap success (take_at s (drop (length s) output) (length s) refl)
 
 -- A sound library and a sound tree are answered, if what is lent is enough.
-pub answers : {A : Type 0} (terms : Terms) (f : ℕ → Library → Tree → Answer A) (ls ts : List ℕ) (output work : ℕ) {most : ℕ} {l : Library} {t : Tree} → lent terms output work ≡ success most → library_said ls ≡ success l → tree_said ts ≡ success t → operation terms f ls ts output work ≡ f most l t
+pub answers : {A : Type 0} (least : ℕ) (f : ℕ → Library → Tree → Answer A) (ls ts : List ℕ) (output work : ℕ) {most : ℕ} {l : Library} {t : Tree} → lent least output work ≡ success most → library_said ls ≡ success l → tree_said ts ≡ success t → operation least f ls ts output work ≡ f most l t
 unfolding operation
-answers terms f ls ts output work {most} {l} {t} h e e' =
+answers least f ls ts output work {most} {l} {t} h e e' =
     after_success (λ most. library_said ls >>= (λ l. tree_said ts >>= (λ t. f most l t))) h ∙ after_success (λ l. tree_said ts >>= (λ t. f most l t)) e ∙ after_success (λ t. f most l t) e'
 
 -- Sheets that say the same tree are answered alike.
-pub operation_alike : {A : Type 0} (terms : Terms) (f : ℕ → Library → Tree → Answer A) (ls ts ts' : List ℕ) (output work : ℕ) → tree_said ts ≡ tree_said ts' → operation terms f ls ts output work ≡ operation terms f ls ts' output work
+pub operation_alike : {A : Type 0} (least : ℕ) (f : ℕ → Library → Tree → Answer A) (ls ts ts' : List ℕ) (output work : ℕ) → tree_said ts ≡ tree_said ts' → operation least f ls ts output work ≡ operation least f ls ts' output work
 unfolding operation
-operation_alike terms f ls ts ts' output work e = ap (λ (o : Answer Tree). lent terms output work >>= (λ most. library_said ls >>= (λ l. o >>= (λ t. f most l t)))) e
+operation_alike least f ls ts ts' output work e = ap (λ (o : Answer Tree). lent least output work >>= (λ most. library_said ls >>= (λ l. o >>= (λ t. f most l t)))) e
 
-pub map_demands : (ls ts : List ℕ) (output work : ℕ) → WhereSound MapDemands map_terms ls ts output work (map_outcome ls ts output work)
+pub map_demands : (ls ts : List ℕ) (output work : ℕ) → WhereSound MapDemands map_bytes ls ts output work (map_outcome ls ts output work)
 unfolding map_outcome map_answer
-map_demands ls ts output work most l t h e e' = rw (answers map_terms map_answer ls ts output work h e e') (meets cover_sheet CoverReads (λ c r. (c, (r.best.legal, r.best.intime))) (λ c n r. cover_reads (cover_fits (library_sound ls e) (tree_sound ts e') r.best.legal)) (map_promise most l t))
+map_demands ls ts output work most l t h e e' = rw (answers map_bytes map_answer ls ts output work h e e') (meets cover_sheet CoverReads (λ c r. (c, (r.best.legal, r.best.intime))) (λ c n r. cover_reads (cover_fits (library_sound ls e) (tree_sound ts e') r.best.legal)) (map_promise most l t))
 
 -- What map handed over was lent enough.
-pub map_lent : (ls ts : List ℕ) (output work : ℕ) {bytes : List ℕ} → map_outcome ls ts output work ≡ success bytes → (most : ℕ) × (lent map_terms output work ≡ success most)
+pub map_lent : (ls ts : List ℕ) (output work : ℕ) {bytes : List ℕ} → map_outcome ls ts output work ≡ success bytes → (most : ℕ) × (lent map_bytes output work ≡ success most)
 unfolding map_outcome operation
 map_lent ls ts output work e =
-    let h = both_succeed (lent map_terms output work) (λ most. library_said ls >>= (λ l. tree_said ts >>= (λ t. map_answer most l t))) e in (h.0, h.1)
+    let h = both_succeed (lent map_bytes output work) (λ most. library_said ls >>= (λ l. tree_said ts >>= (λ t. map_answer most l t))) e in (h.0, h.1)
 
-pub list_demands : (ls ts : List ℕ) (output work : ℕ) → WhereSound ListDemands list_terms ls ts output work (list_outcome ls ts output work)
+pub list_demands : (ls ts : List ℕ) (output work : ℕ) → WhereSound ListDemands list_bytes ls ts output work (list_outcome ls ts output work)
 unfolding list_outcome list_answer
-list_demands ls ts output work most l t h e e' = rw (answers list_terms list_answer ls ts output work h e e') (meets list_sheet ListReads (λ ps r. let p = (r.all r.one.0).0 r.one.1 in (p.cover, p.among)) (λ ps n r. list_reads (list_fits (library_sound ls e) (tree_sound ts e') (omega (arith, few n r, (enough_lent list_terms output work h).2, allowed_up_to work capacity_carried)) (λ p. (r.all p).0))) (list_promise most l t))
+list_demands ls ts output work most l t h e e' = rw (answers list_bytes list_answer ls ts output work h e e') (meets list_sheet ListReads (λ ps r. let p = (r.all r.one.0).0 r.one.1 in (p.cover, p.among)) (λ ps n r. list_reads (list_fits (library_sound ls e) (tree_sound ts e') (omega (arith, few n r, (enough_lent list_bytes output work h).2, (allowed_is work).listed)) (λ p. (r.all p).0))) (list_promise most l t))

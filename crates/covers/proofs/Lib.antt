@@ -1,7 +1,6 @@
 -- The theorems about covers, in reading order.
 pub mod SpecimenTable
 pub mod Reached
-pub mod Longer
 pub mod Basics
 pub mod Points
 pub mod Least

@@ -4,7 +4,6 @@ use mathlib.Core.List.{List, Memᴰ}
 use Rattle.fields.specs.Answer.{Answer, refused, success}
 use Rattle.sheets_rules.specs.Model.{Library, Tree}
 use Rattle.sheets_rules.specs.Report.{library_said, tree_said}
-use Rattle.covers.specs.declared.Terms.{Terms}
 use Rattle.covers.specs.Cover.{Cover}
 use Rattle.covers.specs.Tradeoff.{Node, nodes, TooMany}
 use Rattle.covers.specs.CoverSheet.{cover_sheet, list_sheet, CoverReads, ListReads}
@@ -34,5 +33,5 @@ abbrev pub ListDemands : ℕ → Library → Tree → Answer (List ℕ) → Type
 ListDemands most l t = Demands (RootCover l t) (RootTradeoffs l t) list_sheet ListReads most l t
 
 -- An outcome meets the demands of the library and the tree on the two sheets, if enough is lent and both sheets are sound.
-abbrev pub WhereSound : (ℕ → Library → Tree → Answer (List ℕ) → Type 0) → Terms → (ls ts : List ℕ) → (output work : ℕ) → Answer (List ℕ) → Type 0
-WhereSound Demanded terms ls ts output work o = (most : ℕ) (l : Library) (t : Tree) → lent terms output work ≡ success most → library_said ls ≡ success l → tree_said ts ≡ success t → Demanded most l t o
+abbrev pub WhereSound : (ℕ → Library → Tree → Answer (List ℕ) → Type 0) → ℕ → List ℕ → List ℕ → ℕ → ℕ → Answer (List ℕ) → Type 0
+WhereSound Demanded least ls ts output work o = (most : ℕ) (l : Library) (t : Tree) → lent least output work ≡ success most → library_said ls ≡ success l → tree_said ts ≡ success t → Demanded most l t o

@@ -1,6 +1,5 @@
--- Document 01's specimens, and examples of exchanged inputs, of driven leaves, of the greatest figures, and of longer curves.
+-- Document 01's specimens, and examples of exchanged inputs, of driven leaves, and of the greatest figures.
 pub mod Specimens
 pub mod Exchanges
 pub mod Drivers
 pub mod Reached
-pub mod Longer

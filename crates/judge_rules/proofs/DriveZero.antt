@@ -7,7 +7,7 @@ use Rattle.sheets_rules.specs.Report.{library_said, tree_report}
 use Rattle.sheets_rules.specs.TreeWritten.{tree_sheet, plainly}
 use Rattle.sheets_rules.proofs.TreeWritten.{same_with_plain, same_said}
 use Rattle.covers.specs.CoverSheet.{cover_read}
-use Rattle.covers.specs.Outcome.{map_terms, list_terms, map_outcome, list_outcome}
+use Rattle.covers.specs.Outcome.{map_bytes, list_bytes, map_outcome, list_outcome}
 use Rattle.covers.specs.Answer.{map_answer, list_answer}
 use Rattle.covers.proofs.Demands.{operation_alike}
 use Rattle.judge_rules.specs.Judgement.{cover_judged, judgement}
@@ -17,8 +17,8 @@ pub same_tree_alike : SameTreeAlike
 unfolding tree_report map_outcome list_outcome judgement
 same_tree_alike ls ts ts' s = record {
   tree_alike = ap (on_success (λ (t : Tree). size t.shape)) (same_said s);
-  map_alike = λ output work. operation_alike map_terms map_answer ls ts ts' output work (same_said s);
-  list_alike = λ output work. operation_alike list_terms list_answer ls ts ts' output work (same_said s);
+  map_alike = λ output work. operation_alike map_bytes map_answer ls ts ts' output work (same_said s);
+  list_alike = λ output work. operation_alike list_bytes list_answer ls ts ts' output work (same_said s);
   judge_alike = λ cs. ap (λ (o : Answer Tree). library_said ls >>= (λ l. o >>= (λ t. cover_judged (cover_read cs start) l t))) (same_said s);
 }
 

@@ -2,10 +2,9 @@
 ghost use Rattle.std.specs.Prelude.{◌≡◌, ℕ, ◌≤◌, length};
 ghost use Rattle.fields.specs.declared.Finding.TheVariants.{Refused};
 ghost use Rattle.fields.specs.Inside.Promises.{Says};
-ghost use Rattle.covers.specs.Capacity.{work_words, allowed};
+ghost use Rattle.covers.specs.Capacity.{work_words};
 ghost use Rattle.covers.specs.Lending.{lent, cleared};
 
-use covers::Terms;
 use fields::{Finding, Refusal};
 use sheets_rules::Limits;
 
@@ -38,6 +37,22 @@ fn short() -> Lent
     }
 }
 
+// What an output and a work area of some lengths allow an operation that needs an output of `least` bytes.
+pub fn lend(least: usize, output: usize, work: usize) -> Lent
+    ensures { Says (λ (m n : ℕ). m ≡ n) (lent least output work) result.finding result.most }
+{
+    if output < least {
+        return short();
+    }
+    if work < Limits::WORK {
+        return short();
+    }
+    Lent {
+        finding: Finding::Found,
+        most: Limits::POINTS,
+    }
+}
+
 // How many work words so many trade-offs take.
 pub fn words(most: usize) -> usize
     requires { most ≤ 254 }
@@ -46,35 +61,7 @@ pub fn words(most: usize) -> usize
     Limits::CURVES * (most + 1)
 }
 
-// How many trade-offs a work area of so many words allows an operation that carries up to `most`.
-fn allow(most: usize, work: usize) -> usize
-    requires { most ≤ 254 }
-    ensures { result ≡ allowed most work }
-{
-    if work < words(most) {
-        return Limits::POINTS;
-    }
-    most
-}
-
-// What an output and a work area of some lengths allow an operation by its terms.
-pub fn lend(terms: Terms, output: usize, work: usize) -> Lent
-    requires { terms.most ≤ 254 }
-    ensures { Says (λ (m n : ℕ). m ≡ n) (lent terms output work) result.finding result.most }
-{
-    if output < terms.bytes {
-        return short();
-    }
-    if work < Limits::WORK {
-        return short();
-    }
-    Lent {
-        finding: Finding::Found,
-        most: allow(terms.most, work),
-    }
-}
-
-// Makes the words zero that so many trade-offs take.
+// Makes these words zero.
 pub fn clear(work: &mut [u64], most: usize)
     requires { (most ≤ 254) × (work_words most ≤ length work.old) }
     ensures { work.new ≡ cleared (work_words most) work.old }

@@ -16,11 +16,11 @@ use Rattle.sheets_rules.specs.Inside.Sound.{SoundTree}
 use Rattle.covers.specs.Tradeoff.{overfull_node, tradeoffs}
 use Rattle.covers.specs.Choice.{choice}
 use Rattle.covers.specs.CoverSheet.{cover_sheet, list_sheet}
-use Rattle.covers.specs.Capacity.{capacity, work_words}
+use Rattle.covers.specs.Capacity.{work_words, allowed}
 use Rattle.covers.specs.Answer.{nonempty, mapped, listed, map_answer, list_answer}
-use Rattle.covers.specs.Lending.{told, output_after, cleared, work_after}
+use Rattle.covers.specs.Lending.{lent, told, output_after, cleared, work_cleared, work_after}
 use Rattle.covers.specs.Inside.Allowed.{Allowed}
-use Rattle.covers.proofs.Lent.{Carried, capacity_carried, longer_carried}
+use Rattle.covers.proofs.Lent.{allowed_is, allowed_fits, enough_lent}
 use Rattle.covers.proofs.SheetLengths.{list_sheet_fits}
 use Rattle.overlay.specs.Inside.Promises.{SheetsStored}
 use Rattle.overlay.proofs.Sheets.{decoded_of}
@@ -35,14 +35,15 @@ use Rattle.map_core.specs.Inside.Found.{of_finding, of_mapped, of_listed}
 use Rattle.map_core.specs.Inside.Promises.{SolvedIs}
 use Rattle.map_rules.specs.Public.{Operated}
 use Rattle.map_rules.proofs.Laws.{cleared_zeros, node_small, refused_bounded, mapped_fits, worked}
-use Rattle.map.specs.Inside.Promises.{task_terms, task_answer, Starts, Replied}
+use Rattle.map.specs.Inside.Promises.{least_output, task_answer, Allows, Starts, Replied}
 
 -- ---- what is lent
 
-pub task_carried : (task : Task) → Carried (task_terms task).most
-unfolding task_terms
-task_carried Task.Cover = longer_carried
-task_carried Task.Tradeoffs = capacity_carried
+pub lent_known : (task : Task) (output work : ℕ) {m most : ℕ} → lent (least_output task) output work ≡ success m → m ≡ most → (Allows task most output × (work_words most ≤ work)) × (most ≡ allowed work)
+lent_known task output work {m} {most} e same =
+    let h = enough_lent (least_output task) output work e in
+    let is : most ≡ allowed work = sym same ∙ h.2 in
+    ((record { long = h.0; allowed = subst Allowed (sym is) (allowed_is work) }, subst (λ (n : ℕ). work_words n ≤ work) (sym is) (allowed_fits work h.1)), is)
 
 -- ---- what the core starts from
 
@@ -86,15 +87,16 @@ module _ (most : ℕ) (l : Library) (t : Tree) (work : List ℕ) {entry exit : L
   unfolding task_answer map_answer of_mapped of_finding
   map_found h e w = sheet_replied cover_sheet (ap (of_finding (cover_of r.cover)) (sym e) ∙ h.answer_is) w (omega (arith, w.bytes, sheet_short r.cover h.few))
 
-  pub list_found : {n : ℕ} → most ≤ capacity → SolvedIs Task.Tradeoffs most l t work r → r.finding ≡ Finding.Found → Written (list_sheet (points_of r.count work)) entry exit n → Replied (task_answer Task.Tradeoffs most l t) entry exit (success n)
+  pub list_found : {n : ℕ} → Allowed most → SolvedIs Task.Tradeoffs most l t work r → r.finding ≡ Finding.Found → Written (list_sheet (points_of r.count work)) entry exit n → Replied (task_answer Task.Tradeoffs most l t) entry exit (success n)
   unfolding task_answer list_answer of_listed of_finding
-  list_found few h e w = sheet_replied list_sheet (ap (of_finding (points_of r.count work)) (sym e) ∙ h.answer_is) w (omega (arith, w.bytes, list_sheet_fits (points_of r.count work) (omega (arith, h.few, few, points_few r.count work))))
+  list_found few h e w = sheet_replied list_sheet (ap (of_finding (points_of r.count work)) (sym e) ∙ h.answer_is) w (omega (arith, w.bytes, list_sheet_fits (points_of r.count work) (omega (arith, h.few, few.listed, points_few r.count work))))
 
 -- ---- the work area afterwards
 
-pub task_operated : {most : ℕ} (task : Task) (l : Library) (t : Tree) {output output' work work' : List ℕ} {a : Answer ℕ} → Replied (task_answer task most l t) output output' a → work' ≡ cleared (work_words most) work → Operated most (task_answer task most l t) output output' work work' a
-task_operated {most} task l t {work = work} p w = record { told_is = p.told_is; output_is = p.output_is; work_is = w ∙ sym (task_worked task); bounded = p.bounded }
+pub task_operated : {most : ℕ} (task : Task) (l : Library) (t : Tree) {output output' work work' : List ℕ} {a : Answer ℕ} → most ≡ allowed (length work) → Replied (task_answer task most l t) output output' a → work' ≡ cleared (work_words most) work → Operated (task_answer task most l t) output output' work work' a
+unfolding work_cleared
+task_operated {most} task l t {work = work} e p w = record { told_is = p.told_is; output_is = p.output_is; work_is = w ∙ ap (λ (n : ℕ). cleared (work_words n) work) e ∙ sym (task_worked task); bounded = p.bounded }
   where
-    task_worked : (task : Task) → work_after most (task_answer task most l t) work ≡ cleared (work_words most) work
-    task_worked Task.Cover = unfold task_answer map_answer mapped in worked most cover_sheet (overfull_node most l t) (choice l t.load 0 t.shape t.required) work
-    task_worked Task.Tradeoffs = unfold task_answer list_answer listed in worked most list_sheet (overfull_node most l t) (nonempty (tradeoffs l t.load 0 t.shape)) work
+    task_worked : (task : Task) → work_after (task_answer task most l t) work ≡ work_cleared work
+    task_worked Task.Cover = unfold task_answer map_answer mapped in worked cover_sheet (overfull_node most l t) (choice l t.load 0 t.shape t.required) work
+    task_worked Task.Tradeoffs = unfold task_answer list_answer listed in worked list_sheet (overfull_node most l t) (nonempty (tradeoffs l t.load 0 t.shape)) work

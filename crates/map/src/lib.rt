@@ -5,27 +5,20 @@ ghost use Rattle.covers.specs.Capacity.{work_words};
 ghost use Rattle.covers.specs.Lending.{cleared};
 ghost use Rattle.overlay.specs.Inside.Promises.{LibraryStored, SheetsStored};
 ghost use Rattle.map_rules.specs.Public.{of_reply, Maps, Lists};
-ghost use Rattle.map.specs.Inside.Promises.{task_terms, Allows, Starts, RepliesStarted, RepliesStored, OperatesAny, OperatesLent, Operates};
+ghost use Rattle.map.specs.Inside.Promises.{least_output, Allows, Starts, RepliesStarted, RepliesStored, OperatesAny, OperatesLent, Operates};
 
-use covers::Terms;
 use fields::Finding;
 use map_core::Task;
 use map_rules::Reply;
 use sheets_rules::{Bins, LibraryRecord, Limits, PatternRow, TreeRecord};
 
-// What is asked for a task.
-fn terms(task: Task) -> Terms
-    ensures { result ≡ task_terms task }
+// The least output that is lent for a task.
+fn least_output(task: Task) -> usize
+    ensures { result ≡ least_output task }
 {
     match task {
-        Task::Cover => Terms {
-            bytes: Limits::OUTPUT_MAP,
-            most: Limits::LONGER_POINTS,
-        },
-        Task::Tradeoffs => Terms {
-            bytes: Limits::OUTPUT_LIST,
-            most: Limits::POINTS,
-        },
+        Task::Cover => Limits::OUTPUT_MAP,
+        Task::Tradeoffs => Limits::OUTPUT_LIST,
     }
 }
 
@@ -133,7 +126,7 @@ fn with_lent(
 fn operate(task: Task, library: &[u8], tree: &[u8], output: &mut [u8], work: &mut [u64]) -> Reply
     ensures { Operates task library.now tree.now output.old output.new work.old work.new (of_reply result) }
 {
-    let lent = lending::lend(terms(task), output.len(), work.len());
+    let lent = lending::lend(least_output(task), output.len(), work.len());
     let finding = lent.finding;
     match finding {
         Finding::Refused(refusal) => Reply::Refused(refusal),

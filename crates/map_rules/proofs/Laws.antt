@@ -23,14 +23,13 @@ use Rattle.sheets_rules.specs.LibrarySheet.{library}
 use Rattle.sheets_rules.specs.TreeSheet.{tree}
 use Rattle.sheets_rules.specs.Report.{library_number, tree_number, library_said, tree_said}
 use Rattle.sheets_rules.specs.Inside.Sound.{SoundTree}
-use Rattle.covers.specs.declared.Terms.{Terms}
 use Rattle.covers.specs.Tradeoff.{nodes, tradeoffs, overfull, overfull_node}
 use Rattle.covers.specs.Choice.{choice}
 use Rattle.covers.specs.CoverSheet.{cover_sheet, list_sheet}
-use Rattle.covers.specs.Capacity.{capacity, work_words, allowed}
+use Rattle.covers.specs.Capacity.{capacity, work_words}
 use Rattle.covers.specs.Answer.{short_number, answered, mapped, nonempty, listed, map_answer, list_answer}
-use Rattle.covers.specs.Lending.{lent, told, output_after, observed, cleared, leaves_zero, work_after}
-use Rattle.covers.specs.Outcome.{operation, map_terms, list_terms, map_outcome, list_outcome}
+use Rattle.covers.specs.Lending.{lent, told, output_after, observed, cleared, work_cleared, leaves_zero, work_after}
+use Rattle.covers.specs.Outcome.{operation, map_bytes, list_bytes, map_outcome, list_outcome}
 use Rattle.covers.proofs.Ascending.{ascending_range}
 use Rattle.covers.proofs.Overfull.{LastOf, at, nodes_ascend, overfull_named}
 use Rattle.covers.proofs.Demands.{observed_is, map_demands, list_demands}
@@ -73,40 +72,29 @@ unfolding mapped
 mapped_fits most l t g = refused_bounded (overfull_node most l t) (choice l t.load 0 t.shape t.required) (λ j f. node_small most l g f)
 
 -- And the work area is cleared after the core, whatever it answered.
-pub worked : {A : Type 0} (most : ℕ) (f : A → List ℕ) (o : Option ℕ) (a : Option A) (work : List ℕ) → work_after most (on_success f (answered o a)) work ≡ cleared (work_words most) work
+pub worked : {A : Type 0} (f : A → List ℕ) (o : Option ℕ) (a : Option A) (work : List ℕ) → work_after (on_success f (answered o a)) work ≡ work_cleared work
 unfolding work_after leaves_zero on_success answered
-worked most f (some n) a work = refl
-worked most f none none work = refl
-worked most f none (some a) work = refl
+worked f (some n) a work = refl
+worked f none none work = refl
+worked f none (some a) work = refl
 
 -- ---- what all refusals of an answer have
 
 module _ (P : ℕ → ℕ → Type 0) where
-  pub refuses_both : {A B : Type 0} (r : Answer A) (f : A → Answer B) → Refuses P r → ((a : A) → r ≡ success a → Refuses P (f a)) → Refuses P (r >>= f)
+  refuses_both : {A B : Type 0} (r : Answer A) (f : A → Answer B) → Refuses P r → ((a : A) → Refuses P (f a)) → Refuses P (r >>= f)
   unfolding ◌>>=◌
   refuses_both (refused_in i n p) f h g = h
-  refuses_both (success a) f h g = g a refl
-
-  -- Seen in another way, and of an item.
-  pub refuses_seen : {A B : Type 0} (f : A → B) (r : Answer A) → Refuses P r → Refuses P (on_success f r)
-  unfolding on_success
-  refuses_seen f (refused_in i n p) h = h
-  refuses_seen f (success a) h = tt
-
-  pub refuses_item : {A : Type 0} (k : ℕ) (r : Answer A) → Refuses (λ i n. P k n) r → Refuses P (in_item k r)
-  unfolding in_item
-  refuses_item k (refused_in i n p) h = h
-  refuses_item k (success a) h = tt
+  refuses_both (success a) f h g = g a
 
   -- Those of a sheet, and of too little lent.
-  pub refuses_said : {A : Type 0} (number : Fault → ℕ) (x : A × Scan) → ((f : Fault) → P 0 (number f)) → Refuses P (said number x)
+  refuses_said : {A : Type 0} (number : Fault → ℕ) (x : A × Scan) → ((f : Fault) → P 0 (number f)) → Refuses P (said number x)
   unfolding said
   refuses_said number (a, At c) h = tt
   refuses_said number (a, Refused f p) h = h f
 
-  pub refuses_lent : (terms : Terms) (output work : ℕ) → P 0 short_number → Refuses P (lent terms output work)
+  refuses_lent : (least output work : ℕ) → P 0 short_number → Refuses P (lent least output work)
   unfolding lent
-  refuses_lent terms output work h = cases (leb terms.bytes output && leb (work_words capacity) work) (λ e. rw e tt) (λ e. rw e h)
+  refuses_lent least output work h = cases (leb least output && leb (work_words capacity) work) (λ e. rw e tt) (λ e. rw e h)
 
 -- ---- refusals that spare the work area
 
@@ -115,6 +103,14 @@ Spares n = leaves_zero n ≡ false
 
 abbrev pub Sparing : {A : Type 0} → Answer A → Type 0
 Sparing = Refuses (λ i n. Spares n)
+
+pub sparing_both : {A B : Type 0} (r : Answer A) (f : A → Answer B) → Sparing r → ((a : A) → Sparing (f a)) → Sparing (r >>= f)
+sparing_both = refuses_both (λ i n. Spares n)
+
+pub sparing_item : {A : Type 0} (k : ℕ) (r : Answer A) → Sparing r → Sparing (in_item k r)
+unfolding in_item
+sparing_item k (refused_in i n p) h = h
+sparing_item k (success a) h = tt
 
 pub library_spares : (f : Fault) → Spares (library_number f)
 unfolding leaves_zero library_number
@@ -141,60 +137,60 @@ unfolding tree_said
 sparing_tree ts = refuses_said (λ i n. Spares n) tree_number (tree ts start) tree_spares
 
 -- Too little lent.
-pub sparing_lent : (terms : Terms) (output work : ℕ) → Sparing (lent terms output work)
+pub sparing_lent : (least output work : ℕ) → Sparing (lent least output work)
 unfolding leaves_zero
-sparing_lent terms output work = refuses_lent (λ i n. Spares n) terms output work refl
+sparing_lent least output work = refuses_lent (λ i n. Spares n) least output work refl
 
 -- ---- what follows, or not
 
 -- After a success, what follows is the outcome.
-pub followed : {A : Type 0} (most : ℕ) (f : A → Answer (List ℕ)) {r : Answer A} {x : A} {output output' work work' : List ℕ} {a : Answer ℕ} → r ≡ success x → Operated most (f x) output output' work work' a → Operated most (r >>= f) output output' work work' a
-followed most f {output = output} {output'} {work} {work'} {a} e = subst (λ (o : Answer (List ℕ)). Operated most o output output' work work' a) (sym (after_success f e))
+pub followed : {A : Type 0} (f : A → Answer (List ℕ)) {r : Answer A} {x : A} {output output' work work' : List ℕ} {a : Answer ℕ} → r ≡ success x → Operated (f x) output output' work work' a → Operated (r >>= f) output output' work work' a
+followed f {output = output} {output'} {work} {work'} {a} e = subst (λ (o : Answer (List ℕ)). Operated o output output' work work' a) (sym (after_success f e))
 
 -- A refusal that spares the work area leaves all as it was.
-pub stopped : {A : Type 0} (most : ℕ) (f : A → Answer (List ℕ)) {r : Answer A} (q : Refusal) (output work : List ℕ) → Sparing r → r ≡ refusal q → Bounded (refusal q) → Operated most (r >>= f) output output work work (refusal q)
+pub stopped : {A : Type 0} (f : A → Answer (List ℕ)) {r : Answer A} (q : Refusal) (output work : List ℕ) → Sparing r → r ≡ refusal q → Bounded (refusal q) → Operated (r >>= f) output output work work (refusal q)
 unfolding told on_success output_after work_after
-stopped most f q output work spared e fits =
+stopped f q output work spared e fits =
     let spares : Spares q.number = subst Sparing e spared in
-    subst (λ (o : Answer (List ℕ)). Operated most o output output work work (refusal q)) (sym (after_refused f e)) (record { told_is = refl; output_is = refl; work_is = rw spares refl; bounded = fits })
+    subst (λ (o : Answer (List ℕ)). Operated o output output work work (refusal q)) (sym (after_refused f e)) (record { told_is = refl; output_is = refl; work_is = rw spares refl; bounded = fits })
 
 -- ---- what it is worth
 
 -- The caller sees the outcome, and so what is demanded of it.
-pub seen : {most : ℕ} {o : Answer (List ℕ)} {output output' work work' : List ℕ} {a : Answer ℕ} → Operated most o output output' work work' a → observed a output' ≡ o
-seen {o = o} {output} h = ap₂ observed h.told_is h.output_is ∙ observed_is o output
-
--- What it is told is refused as the outcome is.
-pub refuses_told : (P : ℕ → ℕ → Type 0) (o : Answer (List ℕ)) → Refuses P o → Refuses P (told o)
-unfolding told
-refuses_told P = refuses_seen P length
+pub seen : {o : Answer (List ℕ)} {output output' work work' : List ℕ} {a : Answer ℕ} → Operated o output output' work work' a → observed a output' ≡ o
+seen {o} {output} h = ap₂ observed h.told_is h.output_is ∙ observed_is o output
 
 -- It is about no item.
+none_told : (o : Answer (List ℕ)) → AboutNone o → AboutNone (told o)
+unfolding told on_success
+none_told (refused_in i n p) h = h
+none_told (success s) h = tt
+
 none_answered : {A B : Type 0} (f : A → B) (o : Option ℕ) (a : Option A) → AboutNone (on_success f (answered o a))
 unfolding on_success answered
 none_answered f (some n) a = refl
 none_answered f none none = refl
 none_answered f none (some a) = tt
 
-none_operation : {A : Type 0} (terms : Terms) (f : ℕ → Library → Tree → Answer A) (ls ts : List ℕ) (output work : ℕ) → ((most : ℕ) (l : Library) (t : Tree) → AboutNone (f most l t)) → AboutNone (operation terms f ls ts output work)
+none_operation : {A : Type 0} (least : ℕ) (f : ℕ → Library → Tree → Answer A) (ls ts : List ℕ) (output work : ℕ) → ((most : ℕ) (l : Library) (t : Tree) → AboutNone (f most l t)) → AboutNone (operation least f ls ts output work)
 unfolding operation library_said tree_said
-none_operation terms f ls ts output work h =
+none_operation least f ls ts output work h =
     let none : ℕ → ℕ → Type 0 = λ i n. i ≡ 0 in
-    refuses_both none (lent terms output work) _ (refuses_lent none terms output work refl) (λ most e.
-    refuses_both none (library_said ls) _ (refuses_said none library_number (library ls start) (λ g. refl)) (λ l e.
-    refuses_both none (tree_said ts) _ (refuses_said none tree_number (tree ts start) (λ g. refl)) (λ t e. h most l t)))
+    refuses_both none (lent least output work) _ (refuses_lent none least output work refl) (λ most.
+    refuses_both none (library_said ls) _ (refuses_said none library_number (library ls start) (λ g. refl)) (λ l.
+    refuses_both none (tree_said ts) _ (refuses_said none tree_number (tree ts start) (λ g. refl)) (h most l)))
 
 none_mapped : (ls ts : List ℕ) (output work : ℕ) → AboutNone (map_outcome ls ts output work)
 unfolding map_outcome map_answer mapped
-none_mapped ls ts output work = none_operation map_terms map_answer ls ts output work (λ most l t. none_answered cover_sheet (overfull_node most l t) (choice l t.load 0 t.shape t.required))
+none_mapped ls ts output work = none_operation map_bytes map_answer ls ts output work (λ most l t. none_answered cover_sheet (overfull_node most l t) (choice l t.load 0 t.shape t.required))
 
 none_listed : (ls ts : List ℕ) (output work : ℕ) → AboutNone (list_outcome ls ts output work)
 unfolding list_outcome list_answer listed
-none_listed ls ts output work = none_operation list_terms list_answer ls ts output work (λ most l t. none_answered list_sheet (overfull_node most l t) (nonempty (tradeoffs l t.load 0 t.shape)))
+none_listed ls ts output work = none_operation list_bytes list_answer ls ts output work (λ most l t. none_answered list_sheet (overfull_node most l t) (nonempty (tradeoffs l t.load 0 t.shape)))
 
 module _ (ls ts output : List ℕ) {output' : List ℕ} (work : List ℕ) {work' : List ℕ} {a : Answer ℕ} where
-  pub maps : Operated (allowed map_terms.most (length work)) (map_outcome ls ts (length output) (length work)) output output' work work' a → Maps ls ts output output' work work' a
-  maps h = record { operated = h; about_none = rw h.told_is (refuses_told (λ i n. i ≡ 0) _ (none_mapped ls ts (length output) (length work))); demands = rw (seen h) (map_demands ls ts (length output) (length work)) }
+  pub maps : Operated (map_outcome ls ts (length output) (length work)) output output' work work' a → Maps ls ts output output' work work' a
+  maps h = record { operated = h; about_none = rw h.told_is (none_told _ (none_mapped ls ts (length output) (length work))); demands = rw (seen h) (map_demands ls ts (length output) (length work)) }
 
-  pub lists : Operated (allowed list_terms.most (length work)) (list_outcome ls ts (length output) (length work)) output output' work work' a → Lists ls ts output output' work work' a
-  lists h = record { operated = h; about_none = rw h.told_is (refuses_told (λ i n. i ≡ 0) _ (none_listed ls ts (length output) (length work))); demands = rw (seen h) (list_demands ls ts (length output) (length work)) }
+  pub lists : Operated (list_outcome ls ts (length output) (length work)) output output' work work' a → Lists ls ts output output' work work' a
+  lists h = record { operated = h; about_none = rw h.told_is (none_told _ (none_listed ls ts (length output) (length work))); demands = rw (seen h) (list_demands ls ts (length output) (length work)) }

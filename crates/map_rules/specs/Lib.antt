@@ -1,4 +1,3 @@
 -- What map and list reply, and how it is tied to an outcome.
 pub mod Public
-pub mod LentMore
 pub mod Examples

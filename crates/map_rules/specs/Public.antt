@@ -1,9 +1,8 @@
 -- What an operation replies, what it leaves in what it is lent, and the whole contracts of map and list.
 use Rattle.std.specs.Prelude.{◌≡◌, List, ℕ, length}
 use Rattle.fields.specs.Answer.{Answer, refused_in, refusal, success, Bounded}
-use Rattle.covers.specs.Capacity.{allowed}
 use Rattle.covers.specs.Lending.{told, output_after, observed, work_after}
-use Rattle.covers.specs.Outcome.{map_terms, list_terms, map_outcome, list_outcome}
+use Rattle.covers.specs.Outcome.{map_bytes, list_bytes, map_outcome, list_outcome}
 use Rattle.covers.specs.Demands.{MapDemands, ListDemands, WhereSound}
 use Rattle.map_rules.specs.declared.Reply.{Reply}
 use Rattle.map_rules.specs.declared.Reply.TheVariants.{Refused, Sheets}
@@ -13,11 +12,11 @@ unfoldable pub of_reply : Reply → Answer ℕ
 of_reply (Refused r) = refusal r
 of_reply (Sheets n) = success n
 
--- What the caller is told is the outcome's, within the bounds of a word, and output and work area are what the outcome leaves, where a node may have `most` trade-offs.
-pub record Operated (most : ℕ) (o : Answer (List ℕ)) (output output' work work' : List ℕ) (a : Answer ℕ) : Type 0 where
+-- What the caller is told is the outcome's, within the bounds of a word, and output and work area are what the outcome leaves.
+pub record Operated (o : Answer (List ℕ)) (output output' work work' : List ℕ) (a : Answer ℕ) : Type 0 where
   pub told_is : a ≡ told o
   pub output_is : output' ≡ output_after o output
-  pub work_is : work' ≡ work_after most o work
+  pub work_is : work' ≡ work_after o work
   pub bounded : Bounded a
 
 -- An answer that is refused, if at all, with such an item and number; and one whose refusal is about no item.
@@ -30,12 +29,12 @@ AboutNone = Refuses (λ item number. item ≡ 0)
 
 -- Map: its outcome, and what that is worth among all legal covers.
 pub record Maps (ls ts output output' work work' : List ℕ) (a : Answer ℕ) : Type 0 where
-  pub operated : Operated (allowed map_terms.most (length work)) (map_outcome ls ts (length output) (length work)) output output' work work' a
+  pub operated : Operated (map_outcome ls ts (length output) (length work)) output output' work work' a
   pub about_none : AboutNone a
-  pub demands : WhereSound MapDemands map_terms ls ts (length output) (length work) (observed a output')
+  pub demands : WhereSound MapDemands map_bytes ls ts (length output) (length work) (observed a output')
 
 -- List.
 pub record Lists (ls ts output output' work work' : List ℕ) (a : Answer ℕ) : Type 0 where
-  pub operated : Operated (allowed list_terms.most (length work)) (list_outcome ls ts (length output) (length work)) output output' work work' a
+  pub operated : Operated (list_outcome ls ts (length output) (length work)) output output' work work' a
   pub about_none : AboutNone a
-  pub demands : WhereSound ListDemands list_terms ls ts (length output) (length work) (observed a output')
+  pub demands : WhereSound ListDemands list_bytes ls ts (length output) (length work) (observed a output')

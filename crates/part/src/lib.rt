@@ -17,7 +17,6 @@ ghost use Rattle.part_rules.specs.Public.{MapsPart};
 ghost use Rattle.part_read.specs.Inside.Decoded.{PartStored};
 ghost use Rattle.part.specs.Inside.Promises.{RowsStored, Zeros, Few, MapsOne, MapsLinked, MapsTrees, MapsStored, MapsAny, MapsLent};
 
-use covers::Terms;
 use fields::{Finding, Refusal};
 use map_core::{Mapped, Task};
 use map_rules::Reply;
@@ -201,11 +200,7 @@ fn with_lent(library: &[u8], part: &[u8], most: usize, output: &mut [u8], work: 
 pub fn map_part(library: &[u8], part: &[u8], output: &mut [u8], work: &mut [u64]) -> Reply
     ensures { MapsPart library.now part.now output.old output.new work.old work.new (of_reply result) }
 {
-    let terms = Terms {
-        bytes: Limits::OUTPUT_PART,
-        most: Limits::LONGER_POINTS,
-    };
-    let lent = lending::lend(terms, output.len(), work.len());
+    let lent = lending::lend(Limits::OUTPUT_PART, output.len(), work.len());
     let finding = lent.finding;
     match finding {
         Finding::Refused(refusal) => Reply::Refused(refusal),

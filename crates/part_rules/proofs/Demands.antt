@@ -1,5 +1,5 @@
 -- The part operation meets the demands, from the bytes of a library and a part sheet.
-use Prim.Native.Nat.{ℕ, ◌≤◌, ◌<◌}
+use Prim.Native.Nat.{ℕ, ◌≤◌}
 use mathlib.Core.Path.{◌≡◌, refl, sym, ap, ap₂, ◌∙◌}
 use mathlib.Core.List.{List, [], flat_map, Memᴰ}
 use mathlib.Core.Option.{Option}
@@ -11,27 +11,24 @@ use Rattle.sheets_rules.specs.Model.{Library, Tree}
 use Rattle.sheets_rules.specs.Report.{library_said}
 use Rattle.covers.specs.Cover.{Cover}
 use Rattle.covers.specs.CoverSheet.{cover_sheet}
-use Rattle.covers.specs.Capacity.{allowed}
 use Rattle.covers.specs.Lending.{lent}
 use Rattle.covers.proofs.Basics.{at_in}
 use Rattle.map_rules.specs.Public.{Operated}
-use Rattle.map_rules.proofs.Laws.{refuses_told, seen}
+use Rattle.map_rules.proofs.Laws.{seen}
 use Rattle.part_rules.specs.Part.{Link, Part, known, known_tree}
-use Rattle.part_rules.specs.PartSheet.{trees_most}
 use Rattle.part_rules.specs.PartRead.{part}
-use Rattle.part_rules.specs.Outcome.{covers_from, part_terms, part_sheets, part_outcome}
+use Rattle.part_rules.specs.Outcome.{covers_from, part_bytes, part_sheets, part_outcome}
 use Rattle.part_rules.specs.Demands.{LinkFault, no_leaf, leaf_taken, not_lower, LinkNumber, of_leaf, of_driver, SoundLinks, IsMapped, late, overfull, no_cover, IsAccepted, PartDemands, PartWhereSound, LinksWhereRead}
 use Rattle.part_rules.specs.Public.{MapsPart}
 use Rattle.part_rules.proofs.Trees.{trees_sound}
 use Rattle.part_rules.proofs.Links.{sound_or_fault, first_same, all_read, one_refused, links_read, part_links, links_bring}
 use Rattle.part_rules.proofs.Running.{all_answered, first_refused, mapped_at, all_mapped, first_fails, covers_promise}
 use Rattle.part_rules.proofs.Accepted.{is_accepted}
-use Rattle.part_rules.proofs.Refusals.{part_tree}
 
 -- ---- what follows a sound library
 
 -- It is the answer, if what is lent is enough.
-pub opened : (ls ps : List ℕ) (output work : ℕ) {most : ℕ} {l : Library} → lent part_terms output work ≡ success most → library_said ls ≡ success l → part_outcome ls ps output work ≡ (part ps >>= part_sheets most l)
+opened : (ls ps : List ℕ) (output work : ℕ) {most : ℕ} {l : Library} → lent part_bytes output work ≡ success most → library_said ls ≡ success l → part_outcome ls ps output work ≡ (part ps >>= part_sheets most l)
 unfolding part_outcome
 opened ls ps output work {most} h e = after_success (λ most. library_said ls >>= (λ l. part ps >>= part_sheets most l)) h ∙ after_success (λ l. part ps >>= part_sheets most l) e
 
@@ -100,5 +97,5 @@ links_demands ls ps output work most l head trees h e e' e'' = rw (opened ls ps 
 
 -- ---- the contract
 
-pub maps_part : (ls ps output : List ℕ) {output' : List ℕ} (work : List ℕ) {work' : List ℕ} {a : Answer ℕ} → Operated (allowed part_terms.most (length work)) (part_outcome ls ps (length output) (length work)) output output' work work' a → MapsPart ls ps output output' work work' a
-maps_part ls ps output work h = record { operated = h; about_tree = rw h.told_is (refuses_told (λ item number. item < trees_most) _ (part_tree ls ps (length output) (length work))); demands = rw (seen h) (part_demands ls ps (length output) (length work)); links = rw (seen h) (links_demands ls ps (length output) (length work)) }
+pub maps_part : (ls ps output : List ℕ) {output' : List ℕ} (work : List ℕ) {work' : List ℕ} {a : Answer ℕ} → Operated (part_outcome ls ps (length output) (length work)) output output' work work' a → MapsPart ls ps output output' work work' a
+maps_part ls ps output work h = record { operated = h; demands = rw (seen h) (part_demands ls ps (length output) (length work)); links = rw (seen h) (links_demands ls ps (length output) (length work)) }

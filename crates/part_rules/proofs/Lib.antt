@@ -5,9 +5,7 @@ pub mod Known
 pub mod Trees
 pub mod Links
 pub mod Running
-pub mod Refusals
 pub mod Accepted
 pub mod Demands
-pub mod LentMore
 pub mod Fronts
 pub mod DriveZero

@@ -17,7 +17,7 @@ outcomes = refl
 
 pub leaves : Leaves
 unfolding part_outcome lent allowed library_said part after_counts counts link part_sheets work_after ◌>>=◌ on_success both_read filled_at
-leaves = record { after_43 = refl; after_8 = refl; after_8_longer = refl; after_41 = refl }
+leaves = record { after_43 = refl; after_8 = refl; after_41 = refl }
 
 pub heads : Heads
 unfolding sheet_read counts link both_read filled_at

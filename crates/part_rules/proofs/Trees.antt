@@ -47,15 +47,15 @@ trees_from_lem before (suc left) s h e =
 -- ---- the whole sheet
 
 -- What a part that was read comes from: its trees, and its links judged against them.
-pub part_from : (s : List ℕ) (p : Part) → part s ≡ success p → (head : Counts × ℕ) × (trees_from [] head.0.trees (drop head.1 s) ≡ success p.trees) × (links_judged p.trees [] head.0.links ≡ success p.links) × (sheet_read (λ f. link_number) (counts s start) ≡ success head)
+pub part_from : (s : List ℕ) (p : Part) → part s ≡ success p → (head : Counts × ℕ) × (trees_from [] head.0.trees (drop head.1 s) ≡ success p.trees) × (links_judged p.trees [] head.0.links ≡ success p.links)
 unfolding part after_counts
 part_from s p e =
     let judged : Counts × ℕ → List Tree → Answer Part = λ head trees. links_judged trees [] head.0.links >>= (λ links. success (record { trees = trees; links = links })) in
     let read : Counts × ℕ → Answer Part = λ head. trees_from [] head.0.trees (drop head.1 s) >>= judged head in
-    let (head, first, e₁) = both_succeed (sheet_read (λ f. link_number) (counts s start)) read e in
+    let (head, _, e₁) = both_succeed (sheet_read (λ f. link_number) (counts s start)) read e in
     let (trees, t, e₂) = both_succeed (trees_from [] head.0.trees (drop head.1 s)) (judged head) e₁ in
     let (links, j, e₃) = both_succeed (links_judged trees [] head.0.links) (λ links. success (record { trees = trees; links = links })) e₂ in
-    (head, (cc), (cc), first)
+    (head, (cc), (cc))
 
 -- Every tree of a part that was read is sound.
 pub trees_sound : (s : List ℕ) (p : Part) → part s ≡ success p → (t : Tree) → Memᴰ t p.trees → SoundTree t

@@ -16,7 +16,7 @@ use Rattle.judge_rules.specs.Judgement.{judgement}
 use Rattle.part_rules.specs.Part.{Link, Part, leaf_nodes, known, known_tree}
 use Rattle.part_rules.specs.PartSheet.{leaf_field, Counts, counts}
 use Rattle.part_rules.specs.PartRead.{link_number, driver_number, sheet_read, trees_from, part}
-use Rattle.part_rules.specs.Outcome.{latest_linked, part_terms}
+use Rattle.part_rules.specs.Outcome.{latest_linked, part_bytes}
 
 -- ---- the links of a part
 
@@ -62,7 +62,7 @@ pub record LinkDemands (ps : List ℕ) (head : Counts × ℕ) (trees : List Tree
   pub numbered : (number place : ℕ) → FirstFault trees head.0.links number place → LinkNumber number
 
 abbrev pub LinksWhereRead : (ls ps : List ℕ) → (output work : ℕ) → Answer (List ℕ) → Type 0
-LinksWhereRead ls ps output work o = (most : ℕ) (l : Library) (head : Counts × ℕ) (trees : List Tree) → lent part_terms output work ≡ success most → library_said ls ≡ success l → sheet_read (λ f. link_number) (counts ps start) ≡ success head → trees_from [] head.0.trees (drop head.1 ps) ≡ success trees → LinkDemands ps head trees o
+LinksWhereRead ls ps output work o = (most : ℕ) (l : Library) (head : Counts × ℕ) (trees : List Tree) → lent part_bytes output work ≡ success most → library_said ls ≡ success l → sheet_read (λ f. link_number) (counts ps start) ≡ success head → trees_from [] head.0.trees (drop head.1 ps) ≡ success trees → LinkDemands ps head trees o
 
 -- What the links bring where these are the covers, be they those of all trees or of the first ones: to a linked leaf the arrival of its driving tree's cover, to any other node nothing.
 pub record LinksBring (links : List Link) (covers : List Cover) : Type 0 where
@@ -135,4 +135,4 @@ pub record PartDemands (most : ℕ) (ls : List ℕ) (l : Library) (p : Part) (o 
 
 -- The demands of the library and the part on the two sheets, if enough is lent and both are sound.
 abbrev pub PartWhereSound : (ls ps : List ℕ) → (output work : ℕ) → Answer (List ℕ) → Type 0
-PartWhereSound ls ps output work o = (most : ℕ) (l : Library) (p : Part) → lent part_terms output work ≡ success most → library_said ls ≡ success l → part ps ≡ success p → PartDemands most ls l p o
+PartWhereSound ls ps output work o = (most : ℕ) (l : Library) (p : Part) → lent part_bytes output work ≡ success most → library_said ls ≡ success l → part ps ≡ success p → PartDemands most ls l p o

@@ -6,5 +6,4 @@ pub mod Outcome
 pub mod Demands
 pub mod DriveZero
 pub mod Public
-pub mod LentMore
 pub mod Examples

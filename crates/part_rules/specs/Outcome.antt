@@ -5,13 +5,12 @@ use Rattle.std.proofs.Math.Option.{Option, none, some}
 use Rattle.fields.specs.Answer.{Answer, refused, success, in_item, ◌>>=◌, on_success}
 use Rattle.sheets_rules.specs.Model.{Library, Tree}
 use Rattle.sheets_rules.specs.Report.{library_said}
-use Rattle.covers.specs.declared.Terms.{Terms}
 use Rattle.covers.specs.Lists.{first_such}
 use Rattle.covers.specs.Cover.{Cover}
 use Rattle.covers.specs.CoverSheet.{cover_sheet}
 use Rattle.covers.specs.Answer.{mapped}
 use Rattle.covers.specs.Lending.{lent, late_number}
-use Rattle.covers.specs.Outcome.{map_bytes, map_terms}
+use Rattle.covers.specs.Outcome.{map_bytes}
 use Rattle.part_rules.specs.Part.{Link, Part, leaf_nodes, linked_arrival, known, known_tree}
 use Rattle.part_rules.specs.PartSheet.{trees_most}
 use Rattle.part_rules.specs.PartRead.{part}
@@ -51,10 +50,6 @@ covers_from most l links before (t ∷ ts) = do
 abbrev pub part_bytes : ℕ
 part_bytes = trees_most * map_bytes
 
--- Its trees are mapped as map maps a tree, "also inside other operations".
-abbrev pub part_terms : Terms
-part_terms = record { bytes = part_bytes; most = map_terms.most }
-
 -- "The tray receives the cover sheets in tree order, each filled to its byte, and only when every tree has been mapped."
 unfoldable pub part_sheets : (most : ℕ) → Library → Part → Answer (List ℕ)
 unfolding covers_from flat_map cover_sheet
@@ -63,7 +58,7 @@ part_sheets most l p = on_success (flat_map cover_sheet) (covers_from most l p.l
 -- In the paper's order.
 unfoldable pub part_outcome : (ls ps : List ℕ) → (output work : ℕ) → Answer (List ℕ)
 part_outcome ls ps output work = do
-  most ← lent part_terms output work
+  most ← lent part_bytes output work
   l ← library_said ls
   p ← part ps
   part_sheets most l p

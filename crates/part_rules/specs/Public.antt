@@ -1,16 +1,13 @@
 -- The whole contract of the part operation.
-use Rattle.std.specs.Prelude.{ℕ, ◌<◌, List, length}
+use Rattle.std.specs.Prelude.{ℕ, List, length}
 use Rattle.fields.specs.Answer.{Answer}
-use Rattle.covers.specs.Capacity.{allowed}
 use Rattle.covers.specs.Lending.{observed}
-use Rattle.map_rules.specs.Public.{Operated, Refuses}
-use Rattle.part_rules.specs.PartSheet.{trees_most}
-use Rattle.part_rules.specs.Outcome.{part_terms, part_outcome}
+use Rattle.map_rules.specs.Public.{Operated}
+use Rattle.part_rules.specs.Outcome.{part_outcome}
 use Rattle.part_rules.specs.Demands.{PartWhereSound, LinksWhereRead}
 
--- Its outcome, whose refusals are of one of 16 trees, what that is worth among all legal covers, and what is said of the links.
+-- Its outcome, what that is worth among all legal covers, and what is said of the links.
 pub record MapsPart (ls ps output output' work work' : List ℕ) (a : Answer ℕ) : Type 0 where
-  pub operated : Operated (allowed part_terms.most (length work)) (part_outcome ls ps (length output) (length work)) output output' work work' a
-  pub about_tree : Refuses (λ item number. item < trees_most) a
+  pub operated : Operated (part_outcome ls ps (length output) (length work)) output output' work work' a
   pub demands : PartWhereSound ls ps (length output) (length work) (observed a output')
   pub links : LinksWhereRead ls ps (length output) (length work) (observed a output')

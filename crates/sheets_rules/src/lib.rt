@@ -41,9 +41,6 @@ impl Limits {
 
     pub const POINTS: usize = 31;
 
-    // With a longer work area.
-    pub const LONGER_POINTS: usize = 127;
-
     pub const OUTPUT_MAP: usize = 149;
 
     pub const OUTPUT_LIST: usize = 179;
@@ -56,8 +53,6 @@ impl Limits {
 
     // The least work area: a curve takes a word more than its points.
     pub const WORK: usize = Limits::CURVES * (Limits::POINTS + 1);
-
-    pub const LONGER_WORK: usize = Limits::CURVES * (Limits::LONGER_POINTS + 1);
 
     pub const INPUT: usize = 4096;
 }

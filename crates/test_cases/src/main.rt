@@ -75,7 +75,7 @@ struct Lent {}
 impl Lent {
     const OUTPUT: usize = 4000;
 
-    const WORK: usize = 33000;
+    const WORK: usize = 12345;
 
     const BYTE: u8 = 165;
 
@@ -232,8 +232,9 @@ fn words_are(s: &[u64], from: usize, to: usize, w: u64) -> bool {
     true
 }
 
-// Whether output and work area are as they should be: the output kept after `bytes` bytes, and the work area after `cleared` words, which are zero.
-fn lent_kept(output: &[u8], work: &[u64], bytes: usize, cleared: usize) -> bool {
+// Whether output and work area are, after a sheet of `bytes` bytes or a refusal, as document 01 has them.
+fn lent_kept(output: &[u8], work: &[u64], bytes: usize, clears: bool) -> bool {
+    let cleared = if clears { Limits::WORK } else { 0 };
     if !bytes_kept(output, bytes) {
         return false;
     }
@@ -269,7 +270,7 @@ fn write_sheet(word: &[u8], output: &[u8], bytes: usize) {
     end_line();
 }
 
-// The refusals after which the first words of the work area are zero: an overfull node, no cover, a linked arrival that is too late.
+// The refusals after which the work area is zero: an overfull node, no cover, a linked arrival that is too late.
 #[derive(Drop)]
 struct Zeroed {}
 
@@ -285,14 +286,6 @@ fn clears(number: u32) -> bool {
     number == Zeroed::OVERFULL || number == Zeroed::NO_COVER || number == Zeroed::LATE
 }
 
-// How many words are zero after a sheet or one of these refusals, of a work area of so many words. List has no use for a longer one.
-fn words_cleared(kind: u8, words: usize) -> usize {
-    if kind == Kind::LIST || words < Limits::LONGER_WORK {
-        return Limits::WORK;
-    }
-    Limits::LONGER_WORK
-}
-
 // "refused", number, place; of a part the tree after them.
 fn write_lent_refusal(refusal: Refusal, part: bool) {
     io::write_all(STDOUT_FILENO, b"refused");
@@ -304,18 +297,17 @@ fn write_lent_refusal(refusal: Refusal, part: bool) {
     end_line();
 }
 
-// The reply as a line; before it a line "changed" if something lent is not as it should be. `cleared` words are zero after a sheet.
-fn write_reply(reply: Reply, word: &[u8], part: bool, cleared: usize, output: &[u8], work: &[u64]) {
+// The reply as a line; before it a line "changed" if something lent is not as it should be.
+fn write_reply(reply: Reply, word: &[u8], part: bool, output: &[u8], work: &[u64]) {
     match reply {
         Reply::Refused(refusal) => {
-            let zero = if clears(refusal.number) { cleared } else { 0 };
-            if !lent_kept(output, work, 0, zero) {
+            if !lent_kept(output, work, 0, clears(refusal.number)) {
                 write_changed();
             }
             write_lent_refusal(refusal, part);
         }
         Reply::Sheets(bytes) => {
-            if !lent_kept(output, work, bytes, cleared) {
+            if !lent_kept(output, work, bytes, true) {
                 write_changed();
             }
             write_sheet(word, output, bytes);
@@ -325,16 +317,15 @@ fn write_reply(reply: Reply, word: &[u8], part: bool, cleared: usize, output: &[
 
 // Map, list or the part operation with what it is lent.
 fn run_lent(kind: u8, library: &[u8], tree: &[u8], output: &mut [u8], work: &mut [u64]) {
-    let cleared = words_cleared(kind, work.len());
     if kind == Kind::MAP {
         let reply = map::map(library, tree, output, work);
-        write_reply(reply, b"cover", false, cleared, output, work);
+        write_reply(reply, b"cover", false, output, work);
     } else if kind == Kind::LIST {
         let reply = map::list(library, tree, output, work);
-        write_reply(reply, b"list", false, cleared, output, work);
+        write_reply(reply, b"list", false, output, work);
     } else {
         let reply = part::map_part(library, tree, output, work);
-        write_reply(reply, b"part", true, cleared, output, work);
+        write_reply(reply, b"part", true, output, work);
     }
 }
 

@@ -17,13 +17,13 @@ use Rattle.sheets_rules.specs.TreeSheet.{tree as tree_of}
 use Rattle.sheets_rules.specs.Inside.Layout.{library_laid}
 use Rattle.sheets_rules.specs.Report.{library_number, tree_number, library_said, tree_said}
 use Rattle.sheets_rules.proofs.Sound.{library_limits, tree_limits}
-use Rattle.covers.specs.Capacity.{longer_capacity, allowed}
+use Rattle.covers.specs.Capacity.{capacity, allowed}
 use Rattle.covers.specs.Cover.{Cover}
 use Rattle.covers.specs.CoverSheet.{cover_sheet, CoverReads}
 use Rattle.covers.specs.Promise.{RootCover, BestCover}
 use Rattle.covers.specs.Answer.{overfull_number, no_cover_number, map_answer}
 use Rattle.covers.specs.Lending.{lent, told, output_after}
-use Rattle.covers.specs.Outcome.{operation, map_bytes, map_terms, map_outcome}
+use Rattle.covers.specs.Outcome.{operation, map_bytes, map_outcome}
 use Rattle.covers.proofs.ReadBack.{cover_reads}
 use Rattle.covers.proofs.FromSheets.{cover_fits}
 use Rattle.covers.proofs.Promises.{MapPromise, too_many_lem, none_wanted, right, map_promise}
@@ -52,7 +52,7 @@ data Shown (l : Library) (t : Tree) (q w : Scan) : Answer (List ℕ) → List �
   refusal : (n p : ℕ) → Shown l t q w (refused n p) (refusal_line n p)
   sheet : {c : Cover} → Live q → Live w → BestCover l t c → Shown l t q w (success (cover_sheet c)) (cover_text l c)
 
-answer_shown : {l : Library} {t : Tree} {q w : Scan} {a : Answer Cover} → Live q → Live w → MapPromise longer_capacity l t a → Shown l t q w (on_success cover_sheet a) (outcome_text (on_success (cover_text l) a))
+answer_shown : {l : Library} {t : Tree} {q w : Scan} {a : Answer Cover} → Live q → Live w → MapPromise capacity l t a → Shown l t q w (on_success cover_sheet a) (outcome_text (on_success (cover_text l) a))
 unfolding on_success outcome_text
 answer_shown live tree (too_many_lem {k = k} h) = refusal overfull_number k
 answer_shown live tree (none_wanted a b) = refusal no_cover_number 0
@@ -62,9 +62,9 @@ answer_shown live tree (right a h) = sheet live tree h
 abbrev with_sheets : (Library → Tree → Answer (List ℕ)) → Library × Scan → Tree × Scan → Answer (List ℕ)
 with_sheets f x y = said library_number x >>= (λ l. said tree_number y >>= (λ t. f l t))
 
-sheets_shown : (l : Library) (t : Tree) (q w : Scan) → Shown l t q w (with_sheets (map_answer longer_capacity) (l, q) (t, w)) (outcome_text (with_sheets (text_answer longer_capacity) (l, q) (t, w)))
+sheets_shown : (l : Library) (t : Tree) (q w : Scan) → Shown l t q w (with_sheets (map_answer capacity) (l, q) (t, w)) (outcome_text (with_sheets (text_answer capacity) (l, q) (t, w)))
 unfolding said ◌>>=◌ map_answer text_answer outcome_text
-sheets_shown l t (At c) (At d) = answer_shown tt tt (map_promise longer_capacity l t)
+sheets_shown l t (At c) (At d) = answer_shown tt tt (map_promise capacity l t)
 sheets_shown l t (At c) (Refused e p) = refusal (tree_number e) p
 sheets_shown l t (Refused e p) w = refusal (library_number e) p
 
@@ -118,8 +118,8 @@ module _ (ls ts : List ℕ) where
   abbrev pub Replied : Answer ℕ → List ℕ → Type 0
   Replied = Says l q (outcome_text (map_shown ls ts))
 
-  pub replied : {most : ℕ} {output output' work work' : List ℕ} {r s : Reply} → Operated most outcome output output' work work' (of_reply r) → r ≡ s → Replied (of_reply s) output'
-  replied {output = output} {output'} {s = s} h e =
+  pub replied : {output output' work work' : List ℕ} {r s : Reply} → Operated outcome output output' work work' (of_reply r) → r ≡ s → Replied (of_reply s) output'
+  replied {output} {output'} {s = s} h e =
       subst (λ (a : Answer ℕ). Replied a output') (sym h.told_is ∙ ap of_reply e) (subst (λ (x : List ℕ). Replied (told outcome) x) (sym h.output_is) (told_says output shown))
 
   -- What the text is worth.
@@ -145,4 +145,4 @@ text_worth room input h long whole = text_demands (Framed.sheet input 1 0) (rest
 
 pub shown_alike : ShownAlike
 unfolding map_shown
-shown_alike ls ts ts' s = operation_alike map_terms text_answer ls ts ts' map_bytes words_lent (same_said s)
+shown_alike ls ts ts' s = operation_alike map_bytes text_answer ls ts ts' map_bytes words_lent (same_said s)

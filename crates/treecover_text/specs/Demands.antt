@@ -10,7 +10,7 @@ use Rattle.covers.specs.Promise.{BestCover}
 use Rattle.frame.specs.Framed.{spoiled, sheet, rest, refusal_line}
 use Rattle.treecover_text.specs.Printed.{cover_text, words_lent, longest_text}
 
--- What is demanded of the bytes printed for a library and a tree, by what map answers to them, lent what treecover lends:
+-- What is demanded of the bytes printed for a library and a tree, by what map answers to them, lent just enough:
 -- where it hands over a sheet, both are sound, and the bytes are the text of the cover that the sheet says, which is
 -- the best; else map's refusal.
 pub record TextDemands (ls ts printed : List ℕ) : Type 0 where

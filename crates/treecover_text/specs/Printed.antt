@@ -5,9 +5,9 @@ use Rattle.fields.specs.Answer.{Answer, on_success}
 use Rattle.sheets_rules.specs.Model.{Library, cell_of, Tree}
 use Rattle.sheets_rules.specs.TreeWritten.{SameTree}
 use Rattle.covers.specs.Cover.{Placed, Cover}
-use Rattle.covers.specs.Capacity.{longer_capacity, work_words}
+use Rattle.covers.specs.Capacity.{capacity, work_words}
 use Rattle.covers.specs.Answer.{mapped}
-use Rattle.covers.specs.Outcome.{operation, map_bytes, map_terms}
+use Rattle.covers.specs.Outcome.{operation, map_bytes}
 use Rattle.text.specs.Text.{decimal, line, spaced}
 use Rattle.frame.specs.Framed.{spoiled, sheet, rest, framed, within}
 
@@ -35,14 +35,14 @@ unfoldable pub text_answer : ℕ → Library → Tree → Answer (List ℕ)
 unfolding on_success cover_text mapped
 text_answer most l t = on_success (cover_text l) (mapped most l t)
 
--- "`treecover` lends 32,768 words."
+-- The work words that treecover lends.
 abbrev pub words_lent : ℕ
-words_lent = work_words longer_capacity
+words_lent = work_words capacity
 
--- The outcome of map, with the cover's text, lent an output that is just long enough and these words.
+-- The outcome of map, with the cover's text, lent an output and a work area that are just long enough.
 unfoldable pub map_shown : (library tree : List ℕ) → Answer (List ℕ)
 unfolding operation text_answer
-map_shown library tree = operation map_terms text_answer library tree map_bytes words_lent
+map_shown library tree = operation map_bytes text_answer library tree map_bytes words_lent
 
 -- Sheets that say the same tree are shown alike.
 abbrev pub ShownAlike : Type 0

@@ -99,7 +99,7 @@ fn put_map(text: &mut [u8], library: &[u8], tree: &[u8]) -> usize
     ensures { Appended (outcome_text (map_shown library.now tree.now)) text.old 0 text.new result }
 {
     let mut output = [0u8; Limits::OUTPUT_MAP];
-    let mut work = [0u64; Limits::LONGER_WORK];
+    let mut work = [0u64; Limits::WORK];
     let reply = map::map(library, tree, &mut output, &mut work);
     match reply {
         Reply::Refused(refusal) => frame::put_refusal(text, refusal),

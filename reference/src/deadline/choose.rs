@@ -13,7 +13,7 @@ pub struct Aim {
 }
 
 /// Appends the matches, ascending by node.
-pub fn follow<const STRIDE: usize>(curves: &Curves<STRIDE>, matches: &mut Vec<Placed>, aim: Aim) {
+pub fn follow(curves: &Curves, matches: &mut Vec<Placed>, aim: Aim) {
     if curves.subject.codes[aim.node] == 0 {
         return;
     }
@@ -31,7 +31,7 @@ pub fn follow<const STRIDE: usize>(curves: &Curves<STRIDE>, matches: &mut Vec<Pl
 }
 
 /// The first match, by pattern and then by crossing, whose best before the next time is the point.
-fn first_to_reach<const STRIDE: usize>(curves: &Curves<STRIDE>, aim: Aim) -> Option<Match> {
+fn first_to_reach(curves: &Curves, aim: Aim) -> Option<Match> {
     let library = curves.library;
     for (number, pattern) in library.patterns[..library.pattern_count].iter().enumerate() {
         let cell = &library.cells[pattern.cell as usize];

@@ -1,21 +1,22 @@
-//! The curves of all nodes in the work area: node × 4 bins × as many words as a curve may have points and one more,
-//! latest point first, and after the last point an absent one.
+//! The curves of all nodes in the work area: node × 4 bins × 32 words, latest point first, and
+//! after the last point an absent one.
 
 use super::compact::{Cell, Compact, Subject};
 use super::finding::{Crossings, Match};
 use super::Variant;
+use crate::operation::LEAST_WORK;
 use crate::refusal::{Refusal, OVERFULL};
-use crate::tree::MOST_TREE_NODES;
 
 const BINS: usize = 4;
-pub const SLOTS: usize = BINS * MOST_TREE_NODES;
+const STRIDE: usize = 32;
+const SLOTS: usize = LEAST_WORK / STRIDE;
 /// Above every arrival, and the factor that packs a point into a word.
 pub const TIMES: u64 = 1 << 24;
 /// No point: above every word of a point, and before every bound.
 pub const ABSENT: u64 = 1 << 63;
 
 /// Library and tree, and the curves filled so far; the root's stands under bin 0.
-pub struct Curves<'a, const STRIDE: usize> {
+pub struct Curves<'a> {
     pub library: &'a Compact,
     pub subject: &'a Subject,
     slots: &'a mut [[u64; STRIDE]; SLOTS],
@@ -27,13 +28,14 @@ struct Matches {
     last: Vec<u64>,
 }
 
-impl<'a, const STRIDE: usize> Curves<'a, STRIDE> {
+impl<'a> Curves<'a> {
     pub fn fill(
         variant: Variant,
         library: &'a Compact,
         subject: &'a Subject,
-        slots: &'a mut [[u64; STRIDE]; SLOTS],
+        work: &'a mut [u64; LEAST_WORK],
     ) -> Result<Self, Refusal> {
+        let slots = work.as_chunks_mut().0.try_into().expect("as many slots as go into the work area");
         let mut curves = Curves { library, subject, slots };
         let mut matches = Matches { found: Vec::with_capacity(128), last: Vec::new() };
         for node in (0..subject.count).rev() {

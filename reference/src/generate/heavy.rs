@@ -1,5 +1,5 @@
 //! Problems for the benchmark: a typical one, two that take long, one that goes deep, two with many crossings, one
-//! with driven leaves, four with longer curves, and two parts.
+//! with driven leaves, and two parts.
 
 use super::linked::{Draft, Triple};
 use super::parts::{cell, chain, comb, counted_comb, pin, tree, AND, AOI21, AOI22, INVERTER, NAND, NOR, OR};
@@ -23,16 +23,6 @@ pub fn all() -> Vec<(&'static str, Problem)> {
         ("full", full()),
         ("crosscomb", crossed_comb()),
         ("driven", driven()),
-    ]
-}
-
-/// The same of the rows that need the longer work area: curves of up to 66, 96, 126 and 127 points.
-pub fn longer() -> Vec<(&'static str, Problem)> {
-    vec![
-        ("chain64", chain_of(14)),
-        ("chain96", chain_of(20)),
-        ("chain127", chain_of(26)),
-        ("comb127", comb_of(2, &LONGER_COMB_ARRIVALS)),
     ]
 }
 
@@ -109,16 +99,10 @@ pub fn driven() -> Problem {
 /// 63 inverters under 128 patterns of inverters, of up to 15: nearly all match everywhere.
 /// Short patterns do not pay, so that a curve grows slowly and ends at 31 points.
 pub fn worst_chain() -> Problem {
-    chain_of(7)
-}
-
-/// The same with cells of so many grades: five cover the chain, so that a curve ends at 5 points to each further grade
-/// and one more.
-fn chain_of(grades: u32) -> Problem {
     let inverters = |length| chain(length, &[Leaf(0)]);
     let cell = |number: u32| {
-        let grade = number % grades;
-        let mut cell = cell(100 + grade, 255, pin(number % 4, 99 + grades - grade, 0), &inverters(15));
+        let grade = number % 7;
+        let mut cell = cell(100 + grade, 255, pin(number % 4, 106 - grade, 0), &inverters(15));
         cell.patterns.push(Shape::from_steps(&inverters(number as usize * 7 % 15 + 1)));
         cell
     };
@@ -135,15 +119,10 @@ pub fn deepest() -> Problem {
 /// A comb of 31 NANDs under 126 combs of 2 to 5. The leaves arrive so late towards the
 /// root that every curve stays just below the limit; the times were found by search.
 pub fn worst_comb() -> Problem {
-    comb_of(4, &COMB_ARRIVALS)
-}
-
-/// The same with combs of so many sizes, of which the largest has 5 NANDs: the fewer sizes, the more grades.
-fn comb_of(sizes: u32, arrivals: &[u32]) -> Problem {
     let mut rng = Rng::new(1);
-    let mut cells: Vec<Cell> = (0..63).map(|number| comb_cell(&mut rng, sizes, number)).collect();
+    let mut cells: Vec<Cell> = (0..63).map(|number| comb_cell(&mut rng, number)).collect();
     cells.push(cell(1, 255, pin(0, 1, 0), INVERTER));
-    let steps = chain(1, &comb(arrivals));
+    let steps = chain(1, &comb(&COMB_ARRIVALS));
     Problem { library: Library { bins: vec![1, 2, 3, 4], cells }, tree: tree(1, LATEST_REQUIRED, &steps) }
 }
 
@@ -152,15 +131,9 @@ const COMB_ARRIVALS: [u32; 32] = [
     0, 0, 0, 0, 0, 0, 0, 0, 0, 0,
 ];
 
-/// With two sizes and a limit of 127.
-const LONGER_COMB_ARRIVALS: [u32; 32] = [
-    1270, 1120, 1120, 1080, 1040, 1000, 860, 860, 820, 780, 740, 0, 0, 0, 0, 0, 0, 0, 0, 0, 0, 0, 0, 0, 0, 0, 0, 0, 0,
-    0, 0, 0,
-];
-
-fn comb_cell(rng: &mut Rng, sizes: u32, number: u32) -> Cell {
-    let nands = 6 - sizes + number % sizes;
-    let (grade, fastest) = (number / sizes, 62 / sizes);
+fn comb_cell(rng: &mut Rng, number: u32) -> Cell {
+    let nands = 2 + number % 4;
+    let grade = number / 4;
     let mut pins: Vec<u32> = (0..=nands).collect();
     let mut pattern = || {
         rng.shuffle(&mut pins);
@@ -171,7 +144,7 @@ fn comb_cell(rng: &mut Rng, sizes: u32, number: u32) -> Cell {
         area: 10 * nands + grade,
         highest_load: 255,
         patterns: vec![pattern(), pattern()],
-        pins: (0..=nands).map(|place| pin((number + place) % 4, 40 * nands + 2 * (fastest - grade), 0)).collect(),
+        pins: (0..=nands).map(|place| pin((number + place) % 4, 40 * nands + 2 * (15 - grade), 0)).collect(),
     }
 }
 

@@ -9,7 +9,6 @@ pub mod functions;
 pub mod heavy;
 pub mod limits;
 pub mod linked;
-pub mod longer;
 pub mod longest;
 pub mod parts;
 pub mod problem;

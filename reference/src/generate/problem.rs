@@ -7,7 +7,6 @@ use crate::crossing::{redrawn, CROSSINGS};
 use crate::form::Form;
 use crate::library::{Cell, Library, Pin};
 use crate::merging;
-use crate::operation::MOST_TRADE_OFFS;
 use crate::rng::Rng;
 use crate::shape::{Shape, Step};
 use crate::tree::{Tree, TreeLeaf, LATEST_LEAF, LATEST_REQUIRED, MOST_DRIVE};
@@ -81,7 +80,7 @@ pub fn problem(rng: &mut Rng, style: Style) -> Problem {
     let library = library(rng, style);
     let tree = tree(rng, style, &library);
     let mut problem = Problem { library, tree };
-    problem.tree.required = required(rng, &problem, MOST_TRADE_OFFS);
+    problem.tree.required = required(rng, &problem);
     problem
 }
 
@@ -98,14 +97,13 @@ pub fn varied(rng: &mut Rng, problem: &Problem) -> Problem {
         4 => set_drives(rng, &mut varied.tree, MOST_DRIVE),
         _ => {}
     }
-    varied.tree.required = required(rng, &varied, MOST_TRADE_OFFS);
+    varied.tree.required = required(rng, &varied);
     varied
 }
 
-/// A required time, often an arrival of the root if no node has more than `most` trade-offs.
-pub fn required(rng: &mut Rng, problem: &Problem, most: usize) -> u32 {
+pub fn required(rng: &mut Rng, problem: &Problem) -> u32 {
     let anything = rng.value(0, LATEST_REQUIRED);
-    match merging::list(&problem.library, &problem.tree, most) {
+    match merging::list(&problem.library, &problem.tree) {
         Ok(pairs) if !rng.once_in(5) => {
             let point = rng.pick(&pairs).arrival;
             rng.pick(&[point, point, point + 1, point.saturating_sub(1)])
@@ -239,7 +237,7 @@ pub fn tree(rng: &mut Rng, style: Style, library: &Library) -> Tree {
 }
 
 /// Decides anew which leaves of a tree are driven, and with what drive.
-pub fn set_drives(rng: &mut Rng, tree: &mut Tree, usual: u32) {
+fn set_drives(rng: &mut Rng, tree: &mut Tree, usual: u32) {
     let drivers = Drivers::any(rng);
     tree.shape.leaves_mut().for_each(|leaf| leaf.drive = drivers.drive(rng, usual));
 }

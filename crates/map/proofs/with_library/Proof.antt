@@ -22,20 +22,20 @@ with_records_requires c κs =
 
 returns : tie.Need-returns
 unfolding of_reply
-returns c l stored =
+returns c l stored e =
     let a = c.before.before.before.before.before.before.before.args in
     let read = c.before.before.before.read-tree in
     let told = c.before.finding.given in
     let said = subst (λ (q : Finding). Says TreeStored (tree_said a.tree.now) q read.result.tree) told.1 read.ensures in
-    stopped a.most (task_answer a.task a.most l) told.0.0 a.output.now a.work.now (sparing_tree a.tree.now) said.0 said.1
+    stopped (task_answer a.task a.most l) told.0.0 a.output.now a.work.now (sparing_tree a.tree.now) said.0 said.1
 
 returns_2 : tie.Need-returns-2
-returns_2 c l stored =
+returns_2 c l stored e =
     let a = c.before.before.before.before.before.before.before.before.before.before.before.before.before.args in
     let read = c.before.before.before.before.before.before.before.before.before.read-tree in
     let call = c.before.before.before.before.with-records in
     let said = subst (λ (q : Finding). Says TreeStored (tree_said a.tree.now) q read.result.tree) c.before.before.before.before.before.before.before.enum_told.given.1 read.ensures in
-    followed a.most (task_answer a.task a.most l) said.1 (task_operated a.task l said.0 (call.ensures.1 l said.0 (sheets_stored stored said.2)) call.ensures.0)
+    followed (task_answer a.task a.most l) said.1 (task_operated a.task l said.0 e (call.ensures.1 l said.0 (sheets_stored stored said.2)) call.ensures.0)
 
 pub with_library_spec : {M : Type 1} → statement M
 with_library_spec = tie.close (tie.spec (λ c κs. search rules) (λ c. search rules) (λ c. search rules)

@@ -6,11 +6,10 @@ use Rattle.sheets_rules.specs.declared.LibraryRecord.{LibraryRecord}
 use Rattle.sheets_rules.specs.declared.TreeRecord.{TreeRecord}
 use Rattle.sheets_rules.specs.Model.{Library, Tree}
 use Rattle.sheets_rules.specs.Report.{library_said, tree_said}
-use Rattle.covers.specs.declared.Terms.{Terms}
 use Rattle.covers.specs.Answer.{map_answer, list_answer}
 use Rattle.covers.specs.Capacity.{allowed}
 use Rattle.covers.specs.Lending.{told, output_after}
-use Rattle.covers.specs.Outcome.{map_terms, list_terms, operation}
+use Rattle.covers.specs.Outcome.{map_bytes, list_bytes, operation}
 use Rattle.covers.specs.Inside.Allowed.{Allowed}
 use Rattle.overlay.specs.Inside.Promises.{LibraryStored, SheetsStored}
 use Rattle.matching.specs.Inside.Found.{match_table}
@@ -19,10 +18,10 @@ use Rattle.map_core.specs.declared.Task.{Task}
 use Rattle.map_core.specs.declared.Task.TheVariants.{Cover, Tradeoffs}
 use Rattle.map_rules.specs.Public.{Operated}
 
--- What is asked for each task, and its answer.
-unfoldable pub task_terms : Task → Terms
-task_terms Cover = map_terms
-task_terms Tradeoffs = list_terms
+-- The least output and the answer of each task.
+unfoldable pub least_output : Task → ℕ
+least_output Cover = map_bytes
+least_output Tradeoffs = list_bytes
 
 unfoldable pub task_answer : Task → ℕ → Library → Tree → Answer (List ℕ)
 unfolding map_answer list_answer
@@ -38,8 +37,7 @@ sheets_answer task most ls ts = library_said ls >>= (λ l. tree_answer task most
 
 -- What is lent for a task allows so many trade-offs.
 pub record Allows (task : Task) (most output : ℕ) : Type 0 where
-  pub long : (task_terms task).bytes ≤ output
-  pub carried : most ≤ (task_terms task).most
+  pub long : least_output task ≤ output
   pub allowed : Allowed most
 
 -- What the core starts from: the library and the tree as decoded, and a work area of zeros.
@@ -63,12 +61,12 @@ RepliesStored task library tree most output output' a = (l : Library) (t : Tree)
 -- The outcome for any tree, with whichever library the record holds.
 abbrev pub OperatesAny : Task → LibraryRecord → (ts : List ℕ) → (most : ℕ) → (output output' work work' : List ℕ) → Answer ℕ → Type 0
 OperatesAny task library ts most output output' work work' a =
-    (l : Library) → LibraryStored l library → Operated most (tree_answer task most l ts) output output' work work' a
+    (l : Library) → LibraryStored l library → most ≡ allowed (length work) → Operated (tree_answer task most l ts) output output' work work' a
 
 -- A task with any library and any tree, lent what allows so many trade-offs.
 abbrev pub OperatesLent : Task → (most : ℕ) → (ls ts output output' work work' : List ℕ) → Answer ℕ → Type 0
-OperatesLent task most ls ts = Operated most (sheets_answer task most ls ts)
+OperatesLent task most ls ts output output' work work' a = most ≡ allowed (length work) → Operated (sheets_answer task most ls ts) output output' work work' a
 
 -- The same, lent anything.
 abbrev pub Operates : Task → (ls ts output output' work work' : List ℕ) → Answer ℕ → Type 0
-Operates task ls ts output output' work work' = Operated (allowed (task_terms task).most (length work)) (operation (task_terms task) (task_answer task) ls ts (length output) (length work)) output output' work work'
+Operates task ls ts output output' work work' = Operated (operation (least_output task) (task_answer task) ls ts (length output) (length work)) output output' work work'

@@ -21,19 +21,19 @@ with_library_requires c κs =
 
 returns : tie.Need-returns
 unfolding of_reply
-returns c =
+returns c is =
     let a = c.before.before.before.before.before.before.before.before.args in
     let read = c.before.before.before.read-library in
     let told = c.before.finding.given in
     let said = subst (λ (q : Finding). Says LibraryStored (library_said a.library.now) q read.result.library) told.1 read.ensures.said in
-    stopped a.most (λ (l : Library). part_answer a.most l a.part.now) told.0.0 a.output.now a.work.now (sparing_library a.library.now) said.0 said.1
+    stopped (λ (l : Library). part_answer a.most l a.part.now) told.0.0 a.output.now a.work.now (sparing_library a.library.now) said.0 said.1
 
 returns_2 : tie.Need-returns-2
-returns_2 c =
+returns_2 c is =
     let a = c.before.before.before.before.before.before.before.before.before.before.before.before.before.before.args in
     let read = c.before.before.before.before.before.before.before.before.before.read-library in
     let said = subst (λ (q : Finding). Says LibraryStored (library_said a.library.now) q read.result.library) c.before.before.before.before.before.before.before.enum_told.given.1 read.ensures.said in
-    followed a.most (λ (l : Library). part_answer a.most l a.part.now) said.1 (c.before.before.before.before.with-library.ensures said.0 said.2)
+    followed (λ (l : Library). part_answer a.most l a.part.now) said.1 (c.before.before.before.before.with-library.ensures said.0 said.2 is)
 
 pub with_lent_spec : {M : Type 1} → statement M
 with_lent_spec = tie.close (tie.spec (λ c κs. search rules) (λ c. search rules) (λ c. search rules)

@@ -7,7 +7,7 @@ use Rattle.map_rules.proofs.Laws.{followed, stopped}
 use Rattle.part_rules.specs.PartRead.{part}
 use Rattle.part_rules.specs.Outcome.{part_sheets}
 use Rattle.part_read.specs.Inside.Decoded.{PartStored}
-use Rattle.part_rules.proofs.Refusals.{sparing_part}
+use Rattle.part.proofs.Replies.{sparing_part}
 use Rattle.part.proofs.with_library.Statement.{statement}
 use Rattle.part.proofs.with_library.Tie as tie
 
@@ -21,19 +21,19 @@ with_part_requires c κs =
 
 returns : tie.Need-returns
 unfolding of_reply
-returns c l stored =
+returns c l stored is =
     let a = c.before.before.before.before.before.before.before.args in
     let read = c.before.before.before.read-part in
     let told = c.before.finding.given in
     let says = subst (λ (q : Finding). Says PartStored (part a.part.now) q read.result.part) told.1 read.ensures in
-    stopped a.most (part_sheets a.most l) told.0.0 a.output.now a.work.now (sparing_part a.part.now) says.0 says.1
+    stopped (part_sheets a.most l) told.0.0 a.output.now a.work.now (sparing_part a.part.now) says.0 says.1
 
 returns_2 : tie.Need-returns-2
-returns_2 c l stored =
+returns_2 c l stored is =
     let a = c.before.before.before.before.before.before.before.before.before.before.before.before.before.args in
     let read = c.before.before.before.before.before.before.before.before.before.read-part in
     let says = subst (λ (q : Finding). Says PartStored (part a.part.now) q read.result.part) c.before.before.before.before.before.before.before.enum_told.given.1 read.ensures in
-    followed a.most (part_sheets a.most l) says.1 (c.before.before.before.before.with_part.ensures l says.0 stored says.2)
+    followed (part_sheets a.most l) says.1 (c.before.before.before.before.with_part.ensures l says.0 stored says.2 is)
 
 pub with_library_spec : {M : Type 1} → statement M
 with_library_spec = tie.close (tie.spec (λ c κs. search rules) (λ c. search rules) (λ c. search rules)

@@ -35,22 +35,22 @@ map_trees_requires c κs = let p = c.before.before.before.before.before.before.b
 
 returns : tie.Need-returns
 unfolding of_reply
-returns c l p stored part =
+returns c l p stored part is =
     let a = c.before.before.before.before.before.before.before.before.before.before.before.before.before.args in
     let call = c.before.before.before.before.before.map-trees in
     let told = c.before.finding.given in
     let says = subst (λ (q : Finding). Says (CoversStored a.part.count) (covers_from a.most l p.links [] p.trees) q call.result.covers) told.1 (call.ensures.1.1 l p (rows_stored stored) part) in
-    trees_refused a.most l p call.ensures.0 says.0 says.1
+    trees_refused a.most l p is call.ensures.0 says.0 says.1
 
 returns_2 : tie.Need-returns-2
 unfolding of_reply
-returns_2 c l p stored part =
+returns_2 c l p stored part is =
     let a = c.before.before.before.before.before.before.before.before.before.before.before.before.before.before.before.before.before.args in
     let call = c.before.before.before.before.before.before.before.before.before.map-trees in
     let told = c.before.before.before.before.before.enum_told.given in
     let put = c.before.before.write-sheets in
     let says = subst (λ (q : Finding). Says (CoversStored a.part.count) (covers_from a.most l p.links [] p.trees) q call.result.covers) told.1 (call.ensures.1.1 l p (rows_stored stored) part) in
-    trees_found a.most l p call.ensures.0 says.1 (subst (λ (cs : List Cover). Written (flat_map cover_sheet cs) a.output.now put.new.0 put.result) says.2.covers_are put.ensures.0) put.ensures.1
+    trees_found a.most l p is call.ensures.0 says.1 (subst (λ (cs : List Cover). Written (flat_map cover_sheet cs) a.output.now put.new.0 put.result) says.2.covers_are put.ensures.0) put.ensures.1
 
 pub with_part_spec : {M : Type 1} → statement M
 with_part_spec = tie.close (tie.spec mul_filled array_share_prefix_rows slice_aggregate_map_trees map_trees_requires

@@ -12,7 +12,7 @@ use Rattle.sheets_rules.specs.Model.{Library, Tree}
 use Rattle.sheets_rules.specs.Inside.Sound.{SoundLibrary, SoundTree, LibraryStored}
 use Rattle.sheets_rules.specs.Inside.Layout.{library_laid, tree_laid, pattern_table}
 use Rattle.sheets_rules.specs.Report.{library_said}
-use Rattle.covers.specs.Capacity.{work_words}
+use Rattle.covers.specs.Capacity.{work_words, allowed}
 use Rattle.covers.specs.Inside.Allowed.{Allowed}
 use Rattle.covers.specs.Cover.{Cover}
 use Rattle.result_sheets.specs.declared.CoverRecord.{CoverRecord}
@@ -85,13 +85,13 @@ MapsTrees most rows bins trees r = (l : Library) (p : Part) → RowsStored l row
 -- The sheets of whichever part the record holds, by whichever library's cells.
 abbrev pub MapsStored : LibraryRecord → PartRecord → (most : ℕ) → (output output' work work' : List ℕ) → Answer ℕ → Type 0
 MapsStored library trees most output output' work work' a =
-    (l : Library) (p : Part) → LibraryStored l library → PartStored p trees → Operated most (part_sheets most l p) output output' work work' a
+    (l : Library) (p : Part) → LibraryStored l library → PartStored p trees → most ≡ allowed (length work) → Operated (part_sheets most l p) output output' work work' a
 
 -- The sheets of any part, by the cells of whichever library the record holds.
 abbrev pub MapsAny : LibraryRecord → (ps : List ℕ) → (most : ℕ) → (output output' work work' : List ℕ) → Answer ℕ → Type 0
 MapsAny library ps most output output' work work' a =
-    (l : Library) → LibraryStored l library → Operated most (part_answer most l ps) output output' work work' a
+    (l : Library) → LibraryStored l library → most ≡ allowed (length work) → Operated (part_answer most l ps) output output' work work' a
 
 -- The sheets of any part by any library's cells, lent what allows so many trade-offs.
 abbrev pub MapsLent : (most : ℕ) → (ls ps output output' work work' : List ℕ) → Answer ℕ → Type 0
-MapsLent most ls ps = Operated most (sheets_answer most ls ps)
+MapsLent most ls ps output output' work work' a = most ≡ allowed (length work) → Operated (sheets_answer most ls ps) output output' work work' a

@@ -1,11 +1,10 @@
 -- Whole outcomes of parts as examples, from the bytes of both sheets and what is lent: sheets handed over, which refusal is said first, and what the work area is then.
 use Rattle.std.specs.Prelude.{ℕ, ◌≡◌, List, [], ◌∷◌, ◌++◌, map, replicate}
 use Rattle.fields.specs.Answer.{Answer, refused, refused_in, success}
-use Rattle.covers.specs.Capacity.{allowed}
 use Rattle.covers.specs.Lending.{work_after}
 use Rattle.covers.specs.Examples.Reached.{library_sheet}
 use Rattle.part_rules.specs.Examples.Linked.{head, first, second}
-use Rattle.part_rules.specs.Outcome.{part_terms, part_outcome}
+use Rattle.part_rules.specs.Outcome.{part_outcome}
 use Rattle.part_rules.specs.DriveZero.{IsHead}
 
 -- Inverters under root load 1, in time: required time 16,777,215. By the codes, arrivals and drives of their leaves: plain at 0, plain at 1,000,000, plain at 100, driven at 100 with drive 0.
@@ -61,18 +60,19 @@ outcome r = part_outcome r.library r.part r.output r.work
 abbrev pub Outcomes : Type 0
 Outcomes = map outcome outcomes ≡ map (λ (r : Example). r.result) outcomes
 
--- A part, and what its outcome leaves in a work area of so many words, all of which are 1.
-abbrev after : (words : ℕ) → List ℕ → List ℕ
-after words ps = work_after (allowed part_terms.most words) (part_outcome library_sheet ps 2_384 words) (replicate words 1)
+-- A part, and what its outcome leaves in a work area of a word more than is needed, all of whose words are 1.
+abbrev ones : List ℕ
+ones = replicate 8_193 1
+
+abbrev after : List ℕ → List ℕ
+after ps = work_after (part_outcome library_sheet ps 2_384 8_193) ones
 
 pub record Leaves : Type 0 where
   -- 43 "too leaves the first 8,192 work words zero", as 8 does;
-  pub after_43 : after 8_193 (head ++ latest ++ second) ≡ replicate 8_192 0 ++ (1 ∷ [])
-  pub after_8 : after 8_193 (head ++ first ++ second) ≡ replicate 8_192 0 ++ (1 ∷ [])
-  -- lent 32,769, "the first 32,768 words are then zero wherever the first 8,192 were";
-  pub after_8_longer : after 32_769 (head ++ first ++ second) ≡ replicate 32_768 0 ++ (1 ∷ [])
+  pub after_43 : after (head ++ latest ++ second) ≡ replicate 8_192 0 ++ (1 ∷ [])
+  pub after_8 : after (head ++ first ++ second) ≡ replicate 8_192 0 ++ (1 ∷ [])
   -- a refusal of the part sheet leaves them as they were.
-  pub after_41 : after 8_193 [] ≡ replicate 8_193 1
+  pub after_41 : after [] ≡ ones
 
 -- The bytes of counts and links that precede trees here.
 abbrev pub Heads : Type 0

@@ -2,17 +2,14 @@
 //!
 //! `bench`: a table of times and ratios.
 //! `bench repeat COUNT WHO ROW`: so many maps of a row (`typical`, `chain`, `comb`, `deep`, `full`,
-//! `crosscomb`, `driven`, and with longer curves `chain64`, `chain96`, `chain127`, `comb127`) by `product`,
-//! `plain`, `plain_kept`, `merging` or, if it is linked, `before`, or by `product_longer`, which lends 32,768
-//! words to a row that needs less, or judgements of its cover by `judge`, `judge_reference` or `judge_before`;
-//! or so many judgements of a sheet (`longest_library`, `longest_tree`, `longest_plain_tree`) or of a library
-//! with its function sheet (`longest_functions`) by `product`, `reference`, `wordwise` or `before`; or so many
-//! maps of a part (`part`, `deep_part`) by `product`, `product_longer`, `plain`, `plain_kept`, `merging` or
-//! `before`, or of its trees one by one by `maps`. It is for a profiler that counts instructions: two counts,
-//! and the difference is free of what comes before the first one. It fails where `before` refuses the row, as a
-//! product without driven leaves or without longer curves does; the table then leaves it out. The covers of the
-//! rows with longer curves are not judged.
-//! `bench input ROW`: the sheets of a row that is mapped, as an input of treecover.
+//! `crosscomb`, `driven`) by `product`, `plain`, `plain_kept`, `merging` or, if it is linked, `before`, or
+//! judgements of its cover by `judge`, `judge_reference` or `judge_before`; or so many judgements of a sheet
+//! (`longest_library`, `longest_tree`, `longest_plain_tree`) or of a library with its function sheet
+//! (`longest_functions`) by `product`, `reference`, `wordwise` or `before`; or so many maps of a part (`part`,
+//! `deep_part`) by `product`, `plain`, `plain_kept`, `merging` or `before`, or of its trees one by one by
+//! `maps`. It is for a profiler that counts instructions: two counts, and the difference is free of what comes
+//! before the first one. It fails where `before` refuses the row, as a product without driven leaves does; the
+//! table then leaves it out.
 
 mod clock;
 mod cover;
@@ -24,7 +21,7 @@ mod part;
 fn main() {
     let arguments: Vec<String> = std::env::args().skip(1).collect();
     let repeats = [judge::repeat, functions::repeat, cover::repeat, part::repeat, map::repeat];
-    if map::input(&arguments) || repeats.iter().any(|repeat| repeat(&arguments)) {
+    if repeats.iter().any(|repeat| repeat(&arguments)) {
         return;
     }
     judge::run();

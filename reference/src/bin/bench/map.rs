@@ -4,31 +4,28 @@ use crate::clock::{medians, print_times, Contestant};
 use reference::deadline::Variant;
 use reference::generate::heavy;
 use reference::generate::problem::Problem;
-use reference::merging;
-use reference::operation::{Lent, Operation, LONGER_WORK};
+use reference::merging::{self, Extent};
+use reference::operation::{Lent, Operation, LEAST_WORK};
 #[cfg(feature = "before")]
 use reference::product::BEFORE;
 use reference::product::PRODUCT;
-use reference::text;
 use std::hint::black_box;
-use std::io::{self, Write};
 
-/// The problem of one row, its sheets, what is lent, and the sheet that map hands over.
+/// The problem of one row, its sheets, and the sheet that map hands over.
 struct Row {
-    name: &'static str,
     problem: Problem,
     library: Vec<u8>,
     tree: Vec<u8>,
-    lent: Lent,
     expected: Vec<u8>,
 }
 
 pub fn run() {
-    for row in problems().map(Row::of) {
+    for (name, problem) in heavy::all() {
+        let row = Row::of(problem);
         let who = row.who();
-        let calls = if ["typical", "driven"].contains(&row.name) { 200 } else { 2 };
+        let calls = if ["typical", "driven"].contains(&name) { 200 } else { 2 };
         let contestants = who.iter().map(|who| row.contestant(who)).collect();
-        println!("map, {} ({}):", row.name, row.size());
+        println!("map, {name} ({}):", row.size());
         print_times(&who, &medians(calls, contestants));
     }
 }
@@ -36,66 +33,43 @@ pub fn run() {
 /// Some maps of a row by one of them, if the arguments ask for it.
 pub fn repeat(arguments: &[String]) -> bool {
     let [word, count, who, name] = arguments else { return false };
-    let ("repeat", Ok(count), Some(row)) = (word.as_str(), count.parse(), named(name)) else { return false };
+    let named = heavy::all().into_iter().find(|(row, _)| row == name);
+    let (Some((_, problem)), Ok(count), "repeat") = (named, count.parse(), word.as_str()) else { return false };
+    let row = Row::of(problem);
     let mut contestant = row.contestant(who);
     (0..count).for_each(|_: u32| contestant());
     true
 }
 
-/// Writes the row's sheets as an input of treecover, if the arguments ask for it.
-pub fn input(arguments: &[String]) -> bool {
-    let [word, name] = arguments else { return false };
-    let ("input", Some(row)) = (word.as_str(), named(name)) else { return false };
-    io::stdout().write_all(&text::input(&row.library, &row.tree)).expect("a place to write to");
-    true
-}
-
-/// Name, problem and what is lent: the least, or for longer curves more.
-fn problems() -> impl Iterator<Item = (&'static str, Problem, Lent)> {
-    let lent = |lent: Lent| move |(name, problem)| (name, problem, lent);
-    heavy::all().into_iter().map(lent(Lent::ENOUGH)).chain(heavy::longer().into_iter().map(lent(Lent::LONGER)))
-}
-
-fn named(name: &str) -> Option<Row> {
-    problems().find(|(row, ..)| *row == name).map(Row::of)
-}
-
 impl Row {
-    fn of((name, problem, lent): (&'static str, Problem, Lent)) -> Row {
+    fn of(problem: Problem) -> Row {
         let (library, tree) = (problem.library_sheet(), problem.tree_sheet());
-        let expected = Operation::Map.run(lent, &library, &tree).expect("a cover");
-        Row { name, problem, library, tree, lent, expected }
-    }
-
-    fn most_trade_offs(&self) -> usize {
-        Operation::Map.most_trade_offs(self.lent.work)
+        let expected = Operation::Map.run(Lent::ENOUGH, &library, &tree).expect("a cover");
+        Row { problem, library, tree, expected }
     }
 
     fn size(&self) -> String {
         let Problem { library, tree } = &self.problem;
-        let extent = merging::extent(library, tree, self.most_trade_offs()).expect("no node is overfull");
+        let Extent { matches, most_trade_offs } = merging::extent(library, tree).expect("no node is overfull");
         let (cells, patterns, nodes) = (library.cells.len(), library.pattern_count(), tree.shape.nodes.len());
-        let (matches, trade_offs) = (extent.matches, extent.most_trade_offs());
-        format!("{cells} cells, {patterns} patterns, {nodes} nodes, {matches} matches, up to {trade_offs} trade-offs")
+        format!(
+            "{cells} cells, {patterns} patterns, {nodes} nodes, {matches} matches, up to {most_trade_offs} trade-offs"
+        )
     }
 
-    /// Who maps: the product first, then with more lent than the row needs, and an earlier one last, if it is linked
-    /// and takes the row's sheets.
+    /// Who maps: the product first, and an earlier one last, if it is linked and takes the row's sheets.
     fn who(&self) -> Vec<&'static str> {
         let mut who = vec!["product", "plain", "plain_kept", "merging"];
-        if self.lent.work < LONGER_WORK {
-            who.insert(1, LONGER);
-        }
         if self.is_mapped_before() {
             who.push("before");
         }
         who
     }
 
-    /// An earlier product may refuse a tree with driven leaves, or with longer curves.
+    /// An earlier product may refuse a tree with driven leaves.
     #[cfg(feature = "before")]
     fn is_mapped_before(&self) -> bool {
-        let (mut output, mut work) = lent(self.lent.work);
+        let (mut output, mut work) = lent();
         BEFORE.run(Operation::Map, &self.library, &self.tree, &mut output, &mut work) >> 32 == 0
     }
 
@@ -107,8 +81,7 @@ impl Row {
     fn contestant(&self, who: &str) -> Contestant<'_> {
         match (who, Variant::named(who)) {
             (_, Some(variant)) => self.plain(variant),
-            ("product", _) => self.product(self.lent.work),
-            (LONGER, _) => self.product(LONGER_WORK),
+            ("product", _) => self.product(),
             ("merging", _) => self.merging(),
             #[cfg(feature = "before")]
             ("before", _) => self.before(),
@@ -116,8 +89,8 @@ impl Row {
         }
     }
 
-    fn product(&self, work: usize) -> Contestant<'_> {
-        let (mut output, mut work) = lent(work);
+    fn product(&self) -> Contestant<'_> {
+        let (mut output, mut work) = lent();
         Box::new(move || {
             let length = PRODUCT.run(Operation::Map, black_box(&self.library), &self.tree, &mut output, &mut work);
             assert_eq!(length, self.expected.len() as u64);
@@ -126,7 +99,7 @@ impl Row {
     }
 
     fn plain(&self, variant: Variant) -> Contestant<'_> {
-        let (mut output, mut work) = lent(self.lent.work);
+        let (mut output, mut work) = lent();
         Box::new(move || {
             let length = variant.run(Operation::Map, black_box(&self.library), &self.tree, &mut output, &mut work);
             assert_eq!(length, Ok(self.expected.len()));
@@ -136,7 +109,7 @@ impl Row {
 
     fn merging(&self) -> Contestant<'_> {
         Box::new(move || {
-            let sheet = Operation::Map.run(self.lent, black_box(&self.library), &self.tree);
+            let sheet = Operation::Map.run(Lent::ENOUGH, black_box(&self.library), &self.tree);
             assert_eq!(sheet.as_ref(), Ok(&self.expected));
         })
     }
@@ -146,12 +119,11 @@ impl Row {
     #[cfg(feature = "before")]
     fn before(&self) -> Contestant<'_> {
         use reference::cover::Cover;
-        let (mut output, mut work) = lent(self.lent.work);
+        let (mut output, mut work) = lent();
         let Problem { library, tree } = &self.problem;
         let mut as_drawn = reference::matching::redrawings(library);
         as_drawn.retain(|redrawing| redrawing.crossing == 0);
-        let most = self.most_trade_offs();
-        let covers = [merging::map(library, tree, most), merging::map_among(&as_drawn, library, tree, most)];
+        let covers = [merging::map(library, tree), merging::map_among(&as_drawn, library, tree)];
         let sheets = covers.map(|cover| Cover { matches: vec![], ..cover.expect("a cover") }.sheet());
         Box::new(move || {
             let length = BEFORE.run(Operation::Map, black_box(&self.library), &self.tree, &mut output, &mut work);
@@ -160,12 +132,9 @@ impl Row {
     }
 }
 
-/// The product with more lent than is needed.
-const LONGER: &str = "product_longer";
-
-/// An output of the least length, and a work area.
-fn lent(work: usize) -> ([u8; 149], Vec<u64>) {
-    ([0; 149], vec![0; work])
+/// Output and work area of the least lengths.
+fn lent() -> ([u8; 149], Vec<u64>) {
+    ([0; 149], vec![0; LEAST_WORK])
 }
 
 /// Whether two cover sheets agree in their first 46 bits.

@@ -4,7 +4,7 @@ use crate::clock::{medians, print_times, Contestant};
 use reference::deadline::Variant;
 use reference::generate::heavy;
 use reference::generate::linked::{sheets_alone, Case, Draft};
-use reference::operation::{Operation, LEAST_WORK, LONGER_WORK, MOST_TRADE_OFFS};
+use reference::operation::{Operation, LEAST_WORK};
 use reference::part::{self, LEAST_OUTPUT};
 #[cfg(feature = "before")]
 use reference::product::BEFORE;
@@ -14,12 +14,10 @@ use std::hint::black_box;
 /// The rows, and what their trees are.
 const ROWS: [(&str, &str); 2] = [("part", "of the typical kind"), ("deep_part", "of 63 inverters")];
 
-/// Who maps: the product the part, the same with more lent than is needed, the product each tree by itself, with the
-/// arrivals put in; merging, and the product's own method in plain Rust, the part; and an earlier product, if it is
-/// linked, the part.
+/// Who maps: the product the part, the product each tree by itself, with the arrivals put in; merging, and the
+/// product's own method in plain Rust, the part; and an earlier product, if it is linked, the part.
 const WHO: &[&str] = &[
     "product",
-    "product_longer",
     "maps",
     "merging",
     "plain_kept",
@@ -67,7 +65,7 @@ impl Row {
     }
 
     fn new(draft: Draft) -> Row {
-        let covers = part::map(&draft.library, &draft.part, MOST_TRADE_OFFS).expect("covers");
+        let covers = part::map(&draft.library, &draft.part).expect("covers");
         let trees = sheets_alone(&draft.part, &covers);
         let covers: Vec<Vec<u8>> = covers.iter().map(|cover| cover.sheet()).collect();
         let expected = covers.concat();
@@ -77,19 +75,18 @@ impl Row {
     fn contestant(&self, who: &str) -> Contestant<'_> {
         match (who, Variant::named(who)) {
             (_, Some(variant)) => self.plain(variant),
-            ("product", _) => self.product(&PRODUCT, LEAST_WORK),
-            ("product_longer", _) => self.product(&PRODUCT, LONGER_WORK),
+            ("product", _) => self.product(&PRODUCT),
             #[cfg(feature = "before")]
-            ("before", _) => self.product(&BEFORE, LEAST_WORK),
+            ("before", _) => self.product(&BEFORE),
             ("maps", _) => self.maps(),
             ("merging", _) => self.merging(),
             _ => panic!("one of {WHO:?}"),
         }
     }
 
-    fn product<'a>(&'a self, product: &'a Product, work: usize) -> Contestant<'a> {
+    fn product<'a>(&'a self, product: &'a Product) -> Contestant<'a> {
         let Case { library, part, .. } = &self.case;
-        let (mut output, mut work) = lent(work);
+        let (mut output, mut work) = lent();
         Box::new(move || {
             let length = product.map_part(black_box(library), part, &mut output, &mut work);
             assert_eq!(length, self.expected.len() as u64);
@@ -99,7 +96,7 @@ impl Row {
 
     fn maps(&self) -> Contestant<'_> {
         let library = &self.case.library;
-        let (mut output, mut work) = lent(LEAST_WORK);
+        let (mut output, mut work) = lent();
         Box::new(move || {
             for (tree, cover) in self.trees.iter().zip(&self.covers) {
                 let length = PRODUCT.run(Operation::Map, black_box(library), tree, &mut output, &mut work);
@@ -115,7 +112,7 @@ impl Row {
 
     fn plain(&self, variant: Variant) -> Contestant<'_> {
         let Case { library, part, .. } = &self.case;
-        let (mut output, mut work) = lent(LEAST_WORK);
+        let (mut output, mut work) = lent();
         Box::new(move || {
             let length = variant.run_part(black_box(library), part, &mut output, &mut work);
             assert_eq!(length, Ok(self.expected.len()));
@@ -124,7 +121,7 @@ impl Row {
     }
 }
 
-/// An output of the least length, and a work area.
-fn lent(work: usize) -> (Vec<u8>, Vec<u64>) {
-    (vec![0; LEAST_OUTPUT], vec![0; work])
+/// Output and work area of the least lengths.
+fn lent() -> (Vec<u8>, Vec<u64>) {
+    (vec![0; LEAST_OUTPUT], vec![0; LEAST_WORK])
 }

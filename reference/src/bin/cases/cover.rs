@@ -18,7 +18,6 @@ use reference::generate::{heavy, limits, longest, specimen};
 use reference::judging;
 use reference::library::Library;
 use reference::merging;
-use reference::operation::MOST_TRADE_OFFS;
 use reference::rng::Rng;
 use reference::shape::Step::{Inv, Leaf, Nand};
 use reference::shape::{Shape, Step};
@@ -160,7 +159,7 @@ pub fn greatest(leaf: impl Into<TreeLeaf>) -> Draft {
 
 /// The cover that map hands over.
 pub fn mapped(problem: Problem) -> Option<Draft> {
-    let cover = merging::map(&problem.library, &problem.tree, MOST_TRADE_OFFS).ok()?;
+    let cover = merging::map(&problem.library, &problem.tree).ok()?;
     Some(Draft::new(problem, cover))
 }
 

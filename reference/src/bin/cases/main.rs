@@ -8,7 +8,6 @@ mod cover;
 mod functions;
 mod judge;
 mod kinds;
-mod longer;
 mod map;
 mod part;
 mod single;
@@ -38,7 +37,7 @@ fn main() -> io::Result<()> {
     std::fs::create_dir_all(&directory)?;
     single::write(&directory)?;
     let mut stored = operations();
-    [covers(), bills(), functions(), parts(), longer()].into_iter().for_each(|group| stored.append(group));
+    [covers(), bills(), functions(), parts()].into_iter().for_each(|group| stored.append(group));
     stored.write(&directory, "stored")
 }
 
@@ -85,14 +84,4 @@ fn parts() -> Stored {
     parts.print_histogram();
     parts.check_driven(&["driven leaves, part: answered"]);
     parts
-}
-
-/// Map, list, treecover and parts about both limits of a curve.
-fn longer() -> Stored {
-    let mut longer = Stored::default();
-    longer::add_all(&mut longer);
-    longer.print_size("longer curves");
-    longer.print_histogram();
-    longer.check_driven(&[]);
-    longer
 }

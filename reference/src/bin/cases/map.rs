@@ -10,7 +10,7 @@ use reference::generate::{heavy, specimen};
 use reference::hex::hex;
 use reference::library::Library;
 use reference::merging;
-use reference::operation::{Lent, Operation, LEAST_WORK, MOST_TRADE_OFFS};
+use reference::operation::{Lent, Operation, LEAST_WORK};
 use reference::rng::Rng;
 use reference::tree::{Tree, LATEST_REQUIRED};
 
@@ -48,7 +48,7 @@ pub fn add_all(stored: &mut Stored) {
     }
 }
 
-pub fn add(stored: &mut Stored, operation: Operation, lent: Lent, library: &[u8], tree: &[u8]) {
+fn add(stored: &mut Stored, operation: Operation, lent: Lent, library: &[u8], tree: &[u8]) {
     let kind = if operation == Operation::Map { 2 } else { 3 };
     let numbers = [library.len(), tree.len(), lent.output, lent.work];
     stored.add(kind, &numbers, &[library, tree], line(operation, lent, library, tree));
@@ -90,7 +90,7 @@ fn at_its_point(stored: &mut Stored, problem: &Problem, arrival: u32) {
 /// The list, and map at the latest time, in the middle of the list, and just before its beginning.
 fn at_three_times(stored: &mut Stored, problem: &Problem) {
     ask(stored, Operation::List, problem);
-    let pairs = merging::list(&problem.library, &problem.tree, MOST_TRADE_OFFS).expect("a list");
+    let pairs = merging::list(&problem.library, &problem.tree).expect("a list");
     for required in [LATEST_REQUIRED, pairs[pairs.len() / 2].arrival, pairs[0].arrival - 1] {
         map_by(stored, problem, required);
     }
@@ -101,7 +101,7 @@ fn at_three_times(stored: &mut Stored, problem: &Problem) {
 fn telling_times(problem: &Problem, most: usize) -> Vec<u32> {
     let mut times = vec![0, LATEST_REQUIRED];
     let after = is_small(&problem.library) as u32;
-    if let Ok(pairs) = merging::list(&problem.library, &problem.tree, MOST_TRADE_OFFS) {
+    if let Ok(pairs) = merging::list(&problem.library, &problem.tree) {
         let arrivals = pairs.iter().step_by(pairs.len().div_ceil(most)).chain(pairs.last());
         times.extend(arrivals.flat_map(|pair| pair.arrival.saturating_sub(1)..=pair.arrival + after));
     }

@@ -141,7 +141,7 @@ pub fn add_all(stored: &mut Stored) {
     parts.cases.iter().for_each(|case| add(stored, case));
 }
 
-pub fn add(stored: &mut Stored, case: &Case) {
+fn add(stored: &mut Stored, case: &Case) {
     let Case { lent, library, part } = case;
     let numbers = [library.len(), part.len(), lent.output, lent.work];
     stored.add(8, &numbers, &[library, part], line(case));

@@ -5,7 +5,6 @@ use reference::generate::functions::{Case, Draft};
 use reference::generate::parts::{leaf, tree};
 use reference::generate::problem::Problem;
 use reference::generate::{bills, linked, longest, specimen};
-use reference::operation::MOST_TRADE_OFFS;
 use reference::shape::Step::Inv;
 use reference::{bill, merging, text};
 use std::io;
@@ -45,7 +44,7 @@ fn input(problem: &Problem) -> Vec<u8> {
 
 /// `list` and the count, and a line of arrival and area for each trade-off.
 fn list_text(problem: &Problem) -> String {
-    let pairs = merging::list(&problem.library, &problem.tree, MOST_TRADE_OFFS).expect("a list");
+    let pairs = merging::list(&problem.library, &problem.tree).expect("a list");
     let lines: String = pairs.iter().map(|pair| format!("{} {}\n", pair.arrival, pair.area)).collect();
     format!("list {}\n{lines}", pairs.len())
 }

@@ -54,13 +54,8 @@ impl Stored {
         Ok(())
     }
 
-    /// The bytes of all records.
-    pub fn size(&self) -> usize {
-        self.records.len()
-    }
-
     pub fn print_size(&self, name: &str) {
-        println!("{name}: {} cases, {} bytes", self.lines.len(), self.size());
+        println!("{name}: {} cases, {} bytes", self.lines.len(), self.records.len());
     }
 
     /// Prints how many records with driven leaves there are of each kind; none of these is rare.

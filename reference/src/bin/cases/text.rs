@@ -31,7 +31,7 @@ pub fn add_all(stored: &mut Stored) {
     }
 }
 
-pub fn add(stored: &mut Stored, input: &[u8]) {
+fn add(stored: &mut Stored, input: &[u8]) {
     let text = printed(input);
     stored.add(4, &[input.len()], &[input], text.trim_end().to_string());
 }

@@ -10,8 +10,6 @@ pub struct Tally {
     agreed: BTreeMap<String, u64>,
     disagreed: u64,
     driven: u64,
-    /// What is found in the cases that are run with both work areas.
-    both: BTreeMap<String, u64>,
     first: Option<String>,
 }
 
@@ -28,11 +26,6 @@ impl Tally {
 
     pub fn agree(&mut self, key: String) {
         *self.agreed.entry(key).or_insert(0) += 1;
-    }
-
-    /// Counts what is found in a case that is run with both work areas.
-    pub fn find_both(&mut self, kind: String) {
-        *self.both.entry(kind).or_insert(0) += 1;
     }
 
     /// `story` is told for the first disagreement only.
@@ -63,9 +56,6 @@ impl Tally {
         }
         let driven = if self.driven > 0 { format!(", {} with driven leaves", self.driven) } else { String::new() };
         println!("agreed {agreed} of {}{driven}", agreed + self.disagreed);
-        for (kind, count) in &self.both {
-            println!("  with both work areas, {kind}: {count}");
-        }
         if let Some(story) = &self.first {
             println!("first disagreement:\n{story}");
         }

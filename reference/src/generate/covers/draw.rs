@@ -5,7 +5,6 @@ use crate::generate::problem::Problem;
 use crate::library::Library;
 use crate::matching::{matches_by_node, redrawings, Match};
 use crate::merging;
-use crate::operation::MOST_TRADE_OFFS;
 use crate::rng::Rng;
 use crate::shape::Node;
 use crate::tree::Tree;
@@ -64,7 +63,7 @@ impl<'a> Draw<'a> {
 
 /// The cover that map hands over, a legal one, or one of which only the loads and hold marks may be wrong.
 pub fn any_cover(rng: &mut Rng, problem: &Problem) -> Cover {
-    let mapped = || merging::map(&problem.library, &problem.tree, MOST_TRADE_OFFS).ok();
+    let mapped = || merging::map(&problem.library, &problem.tree).ok();
     let cover = match rng.below(8) {
         0 | 1 => mapped(),
         2 => loose_cover(rng, problem),

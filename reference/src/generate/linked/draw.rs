@@ -5,7 +5,6 @@ use crate::generate::parts::{self, driven, leaf};
 use crate::generate::problem::{self, any_style, required, small_style, Problem, Style};
 use crate::library::Library;
 use crate::merging;
-use crate::operation::MOST_TRADE_OFFS;
 use crate::part::{Link, Part, MOST_LINKS, MOST_TREES};
 use crate::rng::Rng;
 use crate::tree::{Tree, LATEST_LEAF, LATEST_REQUIRED};
@@ -84,56 +83,42 @@ pub fn small_draft(rng: &mut Rng) -> Draft {
 /// A part of so many trees.
 pub fn draft(rng: &mut Rng, style: Style, count: usize) -> Draft {
     let library = problem::library(rng, style);
-    let tree = |rng: &mut Rng, library: &Library| problem::tree(rng, style, library);
-    of_trees(rng, library, count, MOST_TRADE_OFFS, tree)
-}
-
-/// The same of trees made by `make`, with required times for a map that carries `most` trade-offs.
-pub fn of_trees(
-    rng: &mut Rng,
-    library: Library,
-    count: usize,
-    most: usize,
-    make: impl Fn(&mut Rng, &Library) -> Tree,
-) -> Draft {
     let wiring = Wiring::any(rng);
-    let mut draft = Draft { library, part: Part { trees: Vec::new(), links: Vec::new() } };
+    let mut part = Part { trees: Vec::new(), links: Vec::new() };
     let mut arrivals = Vec::new();
     for number in 0..count {
-        let tree = if rng.once_in(10) { late_leaf(rng) } else { make(rng, &draft.library) };
-        let part = &mut draft.part;
+        let tree = if rng.once_in(10) { late_leaf(rng) } else { problem::tree(rng, style, &library) };
         part.links.extend(wiring.links(rng, number, &tree));
         part.links.truncate(MOST_LINKS);
         part.trees.push(tree);
         if arrivals.len() == number {
-            arrivals.extend(set_required(rng, &mut draft, &arrivals, count, most));
+            arrivals.extend(set_required(rng, &library, &mut part, &arrivals, count));
         }
     }
     if rng.once_in(2) {
-        rng.shuffle(&mut draft.part.links);
+        rng.shuffle(&mut part.links);
     }
-    draft
+    Draft { library, part }
 }
 
 /// Gives the last tree a required time, and answers when its cover arrives, if it has one. Of a part of many trees each
 /// is seldom too late, so that many parts are mapped.
-fn set_required(rng: &mut Rng, draft: &mut Draft, arrivals: &[u32], count: usize, most: usize) -> Option<u32> {
-    let Draft { library, part } = draft;
+fn set_required(rng: &mut Rng, library: &Library, part: &mut Part, arrivals: &[u32], count: usize) -> Option<u32> {
     let last = part.trees.len() - 1;
     let known = part.as_known(last, arrivals);
     if known.shape.leaves().any(|leaf| leaf.arrival > LATEST_LEAF) {
         return None;
     }
     let mut problem = Problem { library: library.clone(), tree: known };
-    problem.tree.required = match merging::list(library, &problem.tree, most) {
+    problem.tree.required = match merging::list(library, &problem.tree) {
         Ok(pairs) if !rng.once_in(count + 1) => {
             let point = rng.pick(&pairs).arrival;
             rng.pick(&[point, point, LATEST_REQUIRED])
         }
-        _ => required(rng, &problem, most),
+        _ => required(rng, &problem),
     };
     part.trees[last].required = problem.tree.required;
-    merging::map(library, &problem.tree, most).ok().map(|cover| cover.arrival)
+    merging::map(library, &problem.tree).ok().map(|cover| cover.arrival)
 }
 
 /// A tree that is one leaf and arrives about when a linked leaf may at the latest.

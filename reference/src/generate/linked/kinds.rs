@@ -5,7 +5,7 @@ use crate::cover::Cover;
 use crate::library;
 use crate::merging;
 use crate::part::{self, Fault, Link, Part, Wrong, LINKS_PLACE, LINK_WIDTH, MOST_LINKS, MOST_TREES};
-use crate::refusal::{Refusal, IN_TREE, NO_COVER, OVERFULL, TAIL};
+use crate::refusal::{Refusal, IN_TREE, TAIL};
 use crate::shape::Node;
 use crate::tree::{self, TreeLeaf, LATEST_LEAF};
 use std::collections::BTreeSet;
@@ -67,8 +67,7 @@ fn tree_count(sheet: &[u8]) -> usize {
     sheet[0] as usize >> 3
 }
 
-/// Where a tree stands in a part.
-pub fn position(tree: usize, count: usize) -> &'static str {
+fn position(tree: usize, count: usize) -> &'static str {
     match tree {
         _ if count == 1 => "in the only tree",
         0 => "in the first tree",
@@ -91,8 +90,7 @@ type Found = Vec<(bool, &'static str)>;
 fn of_mapped(case: &Case) -> Found {
     let part = part::decode(&case.part).expect("a mapped part");
     let library = library::decode(&case.library).expect("its library");
-    let map = |part: &Part| part::map(&library, part, case.most_trade_offs());
-    let covers = map(&part).expect("its covers");
+    let covers = part::map(&library, &part).expect("its covers");
     let unlinked = Part { links: Vec::new(), ..part.clone() };
     let links = &part.links;
     let any = |test: &dyn Fn(&Link) -> bool| links.iter().any(test);
@@ -118,7 +116,7 @@ fn of_mapped(case: &Case) -> Found {
         (any(&|link| arrival(link) == LATEST_LEAF), "with a linked arrival of 1000000"),
         (any(&|link| arrival(link) < leaf(link).arrival), "with a linked leaf stated later"),
         (any(&|link| arrival(link) > leaf(link).arrival), "with a linked leaf stated earlier"),
-        (tells(map(&unlinked), &covers), "with other matches than without its links"),
+        (tells(part::map(&library, &unlinked), &covers), "with other matches than without its links"),
         (case.lent != part::ENOUGH, "with more lent"),
     ]
 }
@@ -186,18 +184,15 @@ fn of_late(case: &Case, tree: usize, leaf: usize) -> Found {
     let mut part = part::decode(&case.part).expect("a sound part");
     let library = library::decode(&case.library).expect("its library");
     let lower = Part { trees: part.trees[..tree].to_vec(), links: part.links.clone() };
-    let most = case.most_trade_offs();
-    let covers = part::map(&library, &lower, most).expect("covers");
-    let arrivals: Vec<u32> = covers.iter().map(|cover| cover.arrival).collect();
+    let arrivals: Vec<u32> = part::map(&library, &lower).expect("covers").iter().map(|cover| cover.arrival).collect();
     let known = part.as_known(tree, &arrivals);
     part.links.retain(|link| link.reading == tree && arrivals[link.driving] > LATEST_LEAF);
-    let refused = |with| merging::map(&library, &known, most).is_err_and(|refusal| refusal.number == with);
     let just = part.links.iter().any(|link| arrivals[link.driving] == LATEST_LEAF + 1);
     vec![
         (part.links.len() > 1, "with several late leaves"),
         (part.links[0].leaf != leaf, "with a later leaf linked first"),
         (just, "by one"),
-        (refused(NO_COVER), "and no cover in time"),
-        (refused(OVERFULL), "and overfull"),
+        (merging::map(&library, &known).is_err_and(|refusal| refusal.number == 8), "and no cover in time"),
+        (merging::map(&library, &known).is_err_and(|refusal| refusal.number == 7), "and overfull"),
     ]
 }

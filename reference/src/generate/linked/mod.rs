@@ -8,7 +8,7 @@ pub mod kinds;
 use crate::cover::Cover;
 use crate::form::{Form, Role};
 use crate::library::Library;
-use crate::operation::{Lent, Operation};
+use crate::operation::Lent;
 use crate::part::{self, Fault, Link, Part};
 use crate::tree::Tree;
 
@@ -23,11 +23,6 @@ pub struct Case {
 impl Case {
     pub fn answer(&self) -> Result<Vec<u8>, Fault> {
         part::run(self.lent, &self.library, &self.part)
-    }
-
-    /// The most trade-offs of a node under one load.
-    pub fn most_trade_offs(&self) -> usize {
-        Operation::Map.most_trade_offs(self.lent.work)
     }
 
     /// The bytes of the sheets.

@@ -9,7 +9,6 @@ use reference::generate::problem::Problem;
 use reference::generate::{longest, specimen};
 use reference::library::{Cell, Library};
 use reference::merging;
-use reference::operation::MOST_TRADE_OFFS;
 use reference::shape::Step::{Inv, Nand};
 use reference::tree::{Tree, TreeLeaf, LATEST_LEAF, LATEST_REQUIRED};
 
@@ -75,7 +74,7 @@ fn chosen_problems() -> Vec<Draft> {
 }
 
 fn at_both_ends(problem: Problem) -> Vec<Draft> {
-    let pairs = merging::list(&problem.library, &problem.tree, MOST_TRADE_OFFS).unwrap_or_default();
+    let pairs = merging::list(&problem.library, &problem.tree).unwrap_or_default();
     let times = [pairs.first(), pairs.last()].into_iter().flatten();
     times.filter_map(|pair| mapped(due(&problem, pair.arrival))).collect()
 }

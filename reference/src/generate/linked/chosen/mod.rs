@@ -8,10 +8,8 @@ mod sheets;
 mod times;
 
 use super::{Case, Draft, Triple};
-use crate::cover;
 use crate::generate::parts::{leaf, tree};
 use crate::generate::specimen;
-use crate::refusal::Refusal;
 use crate::shape::Step::{self, Inv, Nand};
 use crate::tree::{Tree, TreeLeaf, LATEST_REQUIRED};
 
@@ -24,22 +22,6 @@ pub enum Outcome {
         place: usize,
         tree: usize,
     },
-}
-
-impl Outcome {
-    /// What is said of a case.
-    pub fn of(case: &Case) -> Outcome {
-        match case.answer() {
-            Ok(sheets) => {
-                let covers = cover::decode_row(&sheets).expect("cover sheets");
-                Outcome::Mapped(covers.iter().map(|(cover, _)| (cover.area, cover.arrival)).collect())
-            }
-            Err(fault) => {
-                let Refusal { number, place } = fault.refusal();
-                Outcome::Refused { number, place: place as usize, tree: fault.tree() }
-            }
-        }
-    }
 }
 
 pub struct Row {
