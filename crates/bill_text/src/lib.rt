@@ -1,4 +1,6 @@
 // The text that `bill` prints: the bill of the cover that the last of an input's three sheets says.
+#![tactic(auto)]
+
 ghost use Rattle.std.specs.Prelude.{◌≡◌, List, ◌+◌, ◌≤◌, ◌<◌, ◌^◌, length, take};
 ghost use Rattle.io.specs.Counts.{IsPrefixLen};
 ghost use Rattle.fields.specs.Answer.{success};
@@ -20,7 +22,7 @@ use result_sheets::CoverRecord;
 use sheets_rules::{Limits, PatternRow};
 
 // How many lengths an input has: library, tree and cover sheet.
-#[derive(Drop)]
+#[derive(Clone, Copy)]
 struct Input {}
 
 impl Input {
@@ -28,7 +30,7 @@ impl Input {
 }
 
 // No text is longer than this: 63 cells, the total and the margin.
-#[derive(Drop)]
+#[derive(Clone, Copy)]
 pub struct Text {}
 
 impl Text {
@@ -36,7 +38,7 @@ impl Text {
 }
 
 // For each cell how many matches are of it, and their areas added up.
-#[derive(Drop)]
+#[derive(Clone, Copy)]
 pub struct Tally {
     pub counts: [u32; Tally::CELLS],
     pub amounts: [u32; Tally::CELLS],
@@ -47,7 +49,7 @@ impl Tally {
 }
 
 // Where the lines of the cells end, and their total.
-#[derive(Drop)]
+#[derive(Clone, Copy)]
 pub struct Put {
     pub at: usize,
     pub total: u32,
@@ -206,6 +208,6 @@ pub fn run() -> usize
     let count = frame::read_input(&mut input);
     let mut text = [0u8; Text::LONGEST];
     let length = print_bill(&input[..count], &mut text);
-    io::write_all(libc::STDOUT_FILENO, &text[..length]);
+    io::write_all(Frame::STDOUT, &text[..length]);
     length
 }

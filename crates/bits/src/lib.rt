@@ -1,18 +1,20 @@
 // Bit fields, most significant bit first, read from bytes and written into them.
 // No place is divided in reading: a cursor has the number of its byte and how many of its bits are before the place, and goes on by adding and comparing.
+#![tactic(auto)]
+
 ghost use Rattle.std.specs.Prelude.{◌≡◌, ◌+◌, ◌-◌, ◌*◌, ◌/◌, ◌%◌, ◌<◌, ◌≤◌, ◌^◌, min, length, drop, leb};
 ghost use Rattle.bits.specs.Bits.{place_of, cursor_at, value_at, field_at, bytes_to, filled_at, ends_at, with_bit, with_field};
 ghost use Rattle.bits.specs.Inside.Promises.{Opens, Opened, FieldOf, Weight};
 
 // A place in bytes: the number of a byte, and how many of its bits are before the place.
-#[derive(Drop)]
+#[derive(Clone, Copy)]
 pub struct Cursor {
     pub byte: usize,
     pub used: usize,
 }
 
 // What reading a field finds: its value and the cursor after it, or that the bytes end before or inside it.
-#[derive(Drop)]
+#[derive(Clone, Copy)]
 pub enum FieldRead {
     Value(u64, Cursor),
     Truncated,

@@ -1,4 +1,6 @@
 // What a pattern's row says of its cell: whether a match of it is legal under a load, its pins' figures, and what a pin adds under a load.
+#![tactic(auto)]
+
 ghost use Rattle.std.specs.Prelude.{◌≡◌, ◌<◌, ◌≤◌, length};
 ghost use Rattle.sheets_rules.specs.Model.{pins_most};
 ghost use Rattle.sheets_rules.specs.Inside.Layout.{row_words};
@@ -7,7 +9,7 @@ ghost use Rattle.cells.specs.Inside.Cell.{row_legal, row_figures, delay_of, PinS
 use sheets_rules::PatternRow;
 
 // What a pin has: its load bin and that bin's load, which it presents to what drives it, its intrinsic delay and its drive.
-#[derive(Drop)]
+#[derive(Clone, Copy)]
 pub struct PinFigures {
     pub bin: u32,
     pub load: u32,

@@ -1,4 +1,6 @@
 // The choice of a cover under a required time, from the curves in the work area.
+#![tactic(auto)]
+
 ghost use Rattle.std.specs.Prelude.{◌≡◌, [], ◌∷◌, ◌-◌, ◌<◌, ◌≤◌, length, get_or};
 ghost use Rattle.sheets_rules.specs.Model.{Shape, Library, Tree};
 ghost use Rattle.sheets_rules.specs.Inside.Layout.{row_words};
@@ -15,7 +17,7 @@ use sheets_rules::{Limits, PatternRow, Slots};
 
 // What is asked of a node: the load that it drives, the bin of that load and the time by which it is to arrive. At the root, whose load need
 // not be that of a bin, bin 0 has the curve.
-#[derive(Drop)]
+#[derive(Clone, Copy)]
 pub struct Goal {
     pub node: usize,
     pub load: u32,
@@ -24,7 +26,7 @@ pub struct Goal {
 }
 
 // The pattern of a match, its crossing and what is asked of its inputs, in the order of the tree.
-#[derive(Drop)]
+#[derive(Clone, Copy)]
 pub struct Inputs {
     pub pattern: u8,
     pub crossing: u8,

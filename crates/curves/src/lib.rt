@@ -1,4 +1,6 @@
 // Curves by deadline: the least point of a node before an instant, and the curve of a node under a load.
+#![tactic(auto)]
+
 ghost use Rattle.std.specs.Prelude.{◌≡◌, ◌+◌, ◌-◌, ◌*◌, ◌<◌, ◌≤◌, min, max, length, drop};
 ghost use Rattle.covers.specs.Inside.Curve.{base, lookup};
 ghost use Rattle.cells.specs.Inside.Cell.{PinSafe};
@@ -13,7 +15,7 @@ use shapes_rules::Packed;
 use sheets_rules::{Limits, PatternRow, Slots};
 
 // The word for no point; how many curves a node has: one for each load bin; and how many words of a curve are tested in a straight line.
-#[derive(Drop)]
+#[derive(Clone, Copy)]
 pub struct Words {}
 
 impl Words {
@@ -25,7 +27,7 @@ impl Words {
 }
 
 // Which curve is to be found: its number, the load that the node drives, and how many points it may have.
-#[derive(Drop)]
+#[derive(Clone, Copy)]
 pub struct Target {
     pub at: usize,
     pub load: u32,
@@ -33,7 +35,7 @@ pub struct Target {
 }
 
 // What a look at some words of a curve tells: the first point that they have before an instant, or that they have none.
-#[derive(Drop)]
+#[derive(Clone, Copy)]
 pub enum Probe {
     Found(u64),
     Beyond,

@@ -1,4 +1,6 @@
 // What a sheet is read with: a scan that goes through its fields, and a verdict on each.
+#![tactic(auto)]
+
 ghost use Rattle.std.specs.Prelude.{◌≡◌, cond, ◌+◌, ◌-◌, ◌<◌, ◌≤◌, ◌^◌};
 ghost use Rattle.bits.specs.Bits.{place_of};
 ghost use Rattle.fields.specs.declared.Fault.TheVariants.{Tail};
@@ -10,7 +12,7 @@ use bits::{Cursor, FieldRead};
 
 // What can be wrong with a sheet: its bytes end in a field ("torn"), go on after the last ("loose tail"), a value is out of range
 // ("off the scale"), a pattern is wrongly drawn ("misdrawn"), or there is one node or pattern too many ("overgrown").
-#[derive(Drop)]
+#[derive(Clone, Copy)]
 pub enum Fault {
     Truncated,
     Tail,
@@ -20,14 +22,14 @@ pub enum Fault {
 }
 
 // A scan of a sheet: at a place, or refused for good.
-#[derive(Drop)]
+#[derive(Clone, Copy)]
 pub enum Scan {
     At(Cursor),
     Refused(Fault, usize),
 }
 
 // A refusal: document 01's number and place, and the item that it is about: a tree of a part, or 0 where there is none.
-#[derive(Drop)]
+#[derive(Clone, Copy)]
 pub struct Refusal {
     pub item: u32,
     pub number: u32,
@@ -35,28 +37,28 @@ pub struct Refusal {
 }
 
 // What was found: a refusal, or that what was asked for is there.
-#[derive(Drop)]
+#[derive(Clone, Copy)]
 pub enum Finding {
     Refused(Refusal),
     Found,
 }
 
 // What is to be said of a field's value.
-#[derive(Drop)]
+#[derive(Clone, Copy)]
 pub enum Verdict {
     Sound,
     Faulty(Fault),
 }
 
 // A field's value, 0 after a refusal, and the scan after it.
-#[derive(Drop)]
+#[derive(Clone, Copy)]
 pub struct Got {
     pub value: u32,
     pub scan: Scan,
 }
 
 // The same of a field of up to 64 bits.
-#[derive(Drop)]
+#[derive(Clone, Copy)]
 pub struct GotWide {
     pub value: u64,
     pub scan: Scan,

@@ -1,4 +1,6 @@
 // Every node's curves, filled from the highest number down.
+#![tactic(auto)]
+
 ghost use Rattle.std.specs.Prelude.{◌≤◌, length};
 ghost use Rattle.sheets_rules.specs.Model.{Shape, Library, Tree};
 ghost use Rattle.matching.specs.Inside.Found.{match_most};
@@ -9,7 +11,7 @@ use shapes_rules::Packed;
 use sheets_rules::{Bins, Slots, TreeRecord};
 
 // A node, the loads considered there, and how many trade-offs it may have.
-#[derive(Drop)]
+#[derive(Clone, Copy)]
 pub struct Turn {
     pub node: usize,
     pub bins: Bins,
@@ -17,13 +19,13 @@ pub struct Turn {
 }
 
 // How many points a node has under each load considered there; one more than it may have stands for any more.
-#[derive(Drop)]
+#[derive(Clone, Copy)]
 pub struct Counts {
     pub points: [u8; Slots::BINS],
 }
 
 // Every curve is filled, or the highest-numbered node that has too many points under some load.
-#[derive(Drop)]
+#[derive(Clone, Copy)]
 pub enum Filling {
     Whole,
     Overfull(usize),

@@ -1,4 +1,6 @@
 // The frame of the programs: an input that holds several sheets with their lengths in front, where the sheets stand in it, and the two lines by which any input may be refused.
+#![tactic(auto)]
+
 ghost use Rattle.std.specs.Prelude.{◌≡◌, ◌&&◌, ◌||◌, ◌+◌, ◌*◌, ◌<◌, ◌≤◌, ltb, length};
 ghost use Rattle.io.specs.Counts.{IsPrefixLen};
 ghost use Rattle.text.specs.Inside.Promises.{Appended};
@@ -8,8 +10,9 @@ ghost use Rattle.frame.specs.Inside.Promises.{most_lengths, PlacesAre, SplitIs};
 use fields::Refusal;
 use sheets_rules::Limits;
 
-// The bytes of one length, how many lengths an input has at the most, how many places that makes, and what standard input is read into.
-#[derive(Drop)]
+// The bytes of one length, how many lengths an input has at the most, how many places that makes, and what standard input is read into and
+// the descriptors that it and the output go by.
+#[derive(Clone, Copy)]
 pub struct Frame {}
 
 impl Frame {
@@ -19,12 +22,17 @@ impl Frame {
 
     pub const PLACES: usize = Frame::MOST_LENGTHS + 1;
 
+    // The descriptors of standard input and of standard output.
+    pub const STDIN: i32 = 0;
+
+    pub const STDOUT: i32 = 1;
+
     // One byte more than the longest input, so that a longer one shows.
     pub const BUFFER: usize = Limits::INPUT + 1;
 }
 
 // Whether an input is not what its lengths say; and, if it is, where its sheets begin and, after these, where the last one ends.
-#[derive(Drop)]
+#[derive(Clone, Copy)]
 pub struct Split {
     pub spoiled: bool,
     pub places: [usize; Frame::PLACES],
@@ -34,7 +42,7 @@ pub struct Split {
 pub fn read_input(input: &mut [u8; Frame::BUFFER]) -> usize
     ensures { IsPrefixLen result input.new }
 {
-    io::read_full(libc::STDIN_FILENO, input)
+    io::read_full(Frame::STDIN, input)
 }
 
 fn wide(x: u8) -> usize

@@ -1,4 +1,6 @@
 // The judge of functions: whether each drawing of a library computes what the function sheet states of its cell. 64 settings are worked out at once, one in each bit of a word.
+#![tactic(auto)]
+
 ghost use Rattle.std.specs.Prelude.{◌≡◌, ◌≤◌, ◌<◌, length, take};
 ghost use Rattle.sheets_rules.specs.Model.{Shape, Library, Pattern};
 ghost use Rattle.sheets_rules.specs.Inside.Sound.{LibraryStored};
@@ -13,7 +15,7 @@ use shapes_rules::Packed;
 use sheets_rules::{LibraryJudged, LibraryRecord, Limits, PatternRow, Slots};
 
 // Document 02's numbers: what is added to the numbers of a library's faults for those of a function sheet, and a drawing that computes another function.
-#[derive(Drop)]
+#[derive(Clone, Copy)]
 struct Numbers {}
 
 impl Numbers {
@@ -23,7 +25,7 @@ impl Numbers {
 }
 
 // The settings in a word: the first setting's bit is the highest. A cell of fewer pins than six has its settings in the first bits.
-#[derive(Drop)]
+#[derive(Clone, Copy)]
 struct Lanes {}
 
 impl Lanes {
@@ -41,14 +43,14 @@ const COLUMNS: [u64; Slots::PINS] = [
 ];
 
 // The values of a shape in 64 settings, and where the symbol after it stands.
-#[derive(Drop)]
+#[derive(Clone, Copy)]
 pub struct Evaluated {
     pub word: u64,
     pub next: usize,
 }
 
 // The functions that a sheet states, by the number of the cell, and the scan after it.
-#[derive(Drop)]
+#[derive(Clone, Copy)]
 pub struct FunctionsRead {
     pub scan: Scan,
     pub functions: [u64; Limits::CELLS as usize],

@@ -1,1 +1,2 @@
 // What a drawing computes, the function sheet, and what its judge answers: definitions and theorems alone, and no code.
+#![tactic(auto)]

@@ -1,4 +1,6 @@
 // The C interface: see include/treecover.h. A refusal is item × 2^40 + number × 2^32 + place, the item a tree of a part, or 0.
+#![tactic(auto)]
+
 ghost use Rattle.std.specs.Prelude.{◌≡◌, ◌<◌};
 ghost use Rattle.fields.specs.Answer.{refusal as refusalOf, on_success, items, numbers, places, word, of_word, Bounded};
 ghost use Rattle.sheets_rules.specs.Report.{of_library_judged, library_word, of_library_word, library_report, tree_report};
@@ -15,7 +17,7 @@ use map_rules::Reply;
 use sheets_rules::{LibraryJudged, Limits, TreeJudged};
 
 // A word has the number above the places, and the item above the numbers.
-#[derive(Drop)]
+#[derive(Clone, Copy)]
 struct AnswerWord {}
 
 impl AnswerWord {

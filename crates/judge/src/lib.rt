@@ -1,4 +1,6 @@
 // The judge of covers that others hand in: the three sheets are read, the listed matches walked from the front, and the stated figures compared.
+#![tactic(auto)]
+
 ghost use Rattle.std.specs.Prelude.{◌≡◌, ℕ, ◌+◌, ◌<◌, ◌≤◌};
 ghost use Rattle.sheets_rules.specs.Model.{Shape, Library, Pattern, Tree};
 ghost use Rattle.sheets_rules.specs.Report.{tree_said};
@@ -19,7 +21,7 @@ use shapes_rules::Packed;
 use sheets_rules::{LibraryRecord, Limits, PatternRow, TreeRecord};
 
 // Document 02's numbers: the cover sheet is torn or has a bad tail, a match stands wrongly or the list ends early, a stated figure is not true.
-#[derive(Drop)]
+#[derive(Clone, Copy)]
 pub struct Numbers {}
 
 impl Numbers {
@@ -32,7 +34,7 @@ impl Numbers {
 
 // How far a walk has come: the area of the matches and the latest arrival, at the root, of the leaves so far; and the first `count` places
 // of three arrays for what is still to be covered, the lowest node last: its node, the load that it is to drive, the delay from it to the root.
-#[derive(Drop)]
+#[derive(Clone, Copy)]
 pub struct WalkRecord {
     pub area: u32,
     pub arrival: u32,
@@ -43,7 +45,7 @@ pub struct WalkRecord {
 }
 
 // The walk after a match, if it stands rightly.
-#[derive(Drop)]
+#[derive(Clone, Copy)]
 pub struct Stepped {
     pub right: bool,
     pub walk: WalkRecord,

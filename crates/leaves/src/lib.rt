@@ -1,4 +1,6 @@
 // A leaf of the subject tree: when it arrives under a load, and the same leaf with another arrival. Its two numbers are taken apart here and nowhere else.
+#![tactic(auto)]
+
 ghost use Rattle.std.specs.Prelude.{◌≡◌, ◌+◌, ◌-◌, ◌<◌, ◌≤◌};
 ghost use Rattle.shapes_rules.specs.Shape.{leaf_symbol};
 ghost use Rattle.covers.specs.Cover.{leaf_arrival};

@@ -1,4 +1,6 @@
 // What an operation is lent, and nowhere else: how many trade-offs it allows a node, how many work words these take, and these words made zero.
+#![tactic(auto)]
+
 ghost use Rattle.std.specs.Prelude.{◌≡◌, ℕ, ◌≤◌, length};
 ghost use Rattle.fields.specs.declared.Finding.TheVariants.{Refused};
 ghost use Rattle.fields.specs.Inside.Promises.{Says};
@@ -9,7 +11,7 @@ use fields::{Finding, Refusal};
 use sheets_rules::Limits;
 
 // Document 01's number of too little lent.
-#[derive(Drop)]
+#[derive(Clone, Copy)]
 struct Numbers {}
 
 impl Numbers {
@@ -17,7 +19,7 @@ impl Numbers {
 }
 
 // How many trade-offs a node may have by what is lent, or that it is too little.
-#[derive(Drop)]
+#[derive(Clone, Copy)]
 pub struct Lent {
     pub finding: Finding,
     pub most: usize,

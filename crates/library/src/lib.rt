@@ -1,4 +1,6 @@
 // The library sheet: what is decoded from it, and its judge.
+#![tactic(auto)]
+
 ghost use Rattle.std.specs.Prelude.{◌≡◌, cond, ◌||◌, eqb, [], ◌∷◌, ◌+◌, ◌-◌, ◌*◌, ◌≤◌, ◌<◌, length, take};
 ghost use Rattle.std.proofs.lemmas.List.Edits.{sets};
 ghost use Rattle.fields.specs.Inside.Promises.{finding_of};
@@ -17,7 +19,7 @@ use sheets_rules::{
 };
 
 // The widths of the library sheet's fields.
-#[derive(Drop)]
+#[derive(Clone, Copy)]
 struct Width {}
 
 impl Width {
@@ -46,21 +48,21 @@ impl Width {
 }
 
 // A cell with its number in the library.
-#[derive(Drop)]
+#[derive(Clone, Copy)]
 pub struct NumberedCell {
     pub number: u32,
     pub cell: CellRecord,
 }
 
 // The bin loads, and the scan after them.
-#[derive(Drop)]
+#[derive(Clone, Copy)]
 pub struct BinsRead {
     pub scan: Scan,
     pub loads: [u8; Slots::BINS],
 }
 
 // A cell's first fields, and the scan after them.
-#[derive(Drop)]
+#[derive(Clone, Copy)]
 pub struct HeadRead {
     pub scan: Scan,
     pub held: bool,
@@ -70,7 +72,7 @@ pub struct HeadRead {
 }
 
 // One pin, and the scan after it.
-#[derive(Drop)]
+#[derive(Clone, Copy)]
 pub struct PinRead {
     pub scan: Scan,
     pub bin: u8,
@@ -80,7 +82,7 @@ pub struct PinRead {
 }
 
 // A cell's pins, and the scan after them.
-#[derive(Drop)]
+#[derive(Clone, Copy)]
 pub struct PinsRead {
     pub scan: Scan,
     pub bins: [u8; Slots::PINS],
@@ -191,21 +193,21 @@ fn read_pins(scan: Scan, s: &[u8], bins: Bins, count: u32) -> PinsRead
 }
 
 // The size of a pattern, and the scan after it.
-#[derive(Drop)]
+#[derive(Clone, Copy)]
 pub struct PatternRead {
     pub scan: Scan,
     pub size: u32,
 }
 
 // How many patterns a cell has, and the scan after them.
-#[derive(Drop)]
+#[derive(Clone, Copy)]
 pub struct DrawingsRead {
     pub scan: Scan,
     pub count: u32,
 }
 
 // How many patterns the cells have together, and the scan after them.
-#[derive(Drop)]
+#[derive(Clone, Copy)]
 pub struct CellsRead {
     pub scan: Scan,
     pub total: usize,
@@ -470,7 +472,7 @@ fn read_cells(scan: Scan, s: &[u8], bins: Bins, count: u32, rows: &mut [u32]) ->
 }
 
 // What a library sheet says but for its rows, and the scan after it.
-#[derive(Drop)]
+#[derive(Clone, Copy)]
 pub struct SheetRead {
     pub scan: Scan,
     pub bins: Bins,

@@ -1,4 +1,6 @@
 // Map and list from the bytes of a library and a tree. What the core finds is written here, and nowhere below.
+#![tactic(auto)]
+
 ghost use Rattle.std.specs.Prelude.{◌≡◌, ◌≤◌, length};
 ghost use Rattle.sheets_rules.specs.Model.{Library, Tree};
 ghost use Rattle.covers.specs.Capacity.{work_words};

@@ -1,6 +1,8 @@
 // The core: what map and list find for a sound library and a sound tree, as decoded. Every curve is filled; then the cover is chosen, or
 // the root's trade-offs are counted. What is found is handed back, and nothing is written but the work area and the two tables beside it: of a
 // node's matches, and of a word to keep for each.
+#![tactic(auto)]
+
 ghost use Rattle.std.specs.Prelude.{◌≡◌, List, map, ℕ, ◌≤◌, length, take, replicate};
 ghost use Rattle.sheets_rules.specs.Model.{Library, Tree};
 ghost use Rattle.covers.specs.Inside.Curve.{point_of};
@@ -21,14 +23,14 @@ use shapes_rules::Packed;
 use sheets_rules::{Bins, Limits, TreeRecord};
 
 // What is asked for: the cover that map hands over, or the list of the root's trade-offs, for which the required time does not count.
-#[derive(Drop)]
+#[derive(Clone, Copy)]
 pub enum Task {
     Cover,
     Tradeoffs,
 }
 
 // What is found for a task: the cover, or how many trade-offs the root has.
-#[derive(Drop)]
+#[derive(Clone, Copy)]
 pub struct Solved {
     pub finding: Finding,
     pub cover: CoverRecord,
@@ -36,21 +38,21 @@ pub struct Solved {
 }
 
 // The cover that map hands over, if it is found.
-#[derive(Drop)]
+#[derive(Clone, Copy)]
 pub struct Mapped {
     pub finding: Finding,
     pub cover: CoverRecord,
 }
 
 // How many trade-offs the root has, if they are found: their points are the first words of the work area, the latest first.
-#[derive(Drop)]
+#[derive(Clone, Copy)]
 pub struct Listed {
     pub finding: Finding,
     pub count: usize,
 }
 
 // Document 01's numbers of what is refused here: an overfull node, no cover.
-#[derive(Drop)]
+#[derive(Clone, Copy)]
 struct Numbers {}
 
 impl Numbers {

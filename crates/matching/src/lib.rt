@@ -1,5 +1,7 @@
 // Which patterns match at a node of the subject tree, and under which crossings. They are found once for a node, and serve every load and every
 // deadline.
+#![tactic(auto)]
+
 ghost use Rattle.std.specs.Prelude.{◌≡◌, cond, List, ◌+◌, ◌-◌, ◌*◌, ◌/◌, ◌^◌, ◌<◌, ◌≤◌, length};
 ghost use Rattle.std.proofs.Math.Option.{Option};
 ghost use Rattle.sheets_rules.specs.Model.{Shape, Library, Pattern, Tree};
@@ -13,7 +15,7 @@ use overlay::{Crossing, Extents, Walked};
 use sheets_rules::{Limits, PatternRow};
 
 // A hit, which is a match as it is found: its pattern, its crossing and how many inputs it has, then two bytes for each input: the pin that it feeds, and its node.
-#[derive(Drop)]
+#[derive(Clone, Copy)]
 pub struct Hit {}
 
 impl Hit {

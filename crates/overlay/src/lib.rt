@@ -1,4 +1,6 @@
 // A pattern laid over a node of the subject tree under a crossing: the inputs that it finds there.
+#![tactic(auto)]
+
 ghost use Rattle.std.specs.Prelude.{◌≡◌, ◌<◌, ◌≤◌, max};
 ghost use Rattle.sheets_rules.specs.Model.{Shape, size};
 ghost use Rattle.covers.specs.Crossing.{exchanged, crossing_limit};
@@ -9,7 +11,7 @@ use shapes_rules::Packed;
 use sheets_rules::{Limits, PatternRow, Slots};
 
 // How many crossing numbers there are: five bits, the first the highest.
-#[derive(Drop)]
+#[derive(Clone, Copy)]
 pub struct Crossing {}
 
 impl Crossing {
@@ -17,7 +19,7 @@ impl Crossing {
 }
 
 // How far each node of a drawing reaches, in preorder: how many nodes stand under it, itself included, and 32 times how many of them are NANDs.
-#[derive(Drop)]
+#[derive(Clone, Copy)]
 pub struct Extents {
     pub words: [u8; Limits::PATTERN_NODES],
 }
@@ -31,7 +33,7 @@ impl Extents {
 
 // Where a walk stands in a drawing: at a spot, with the branches that wait to be laid, the first `depth` of an array, the next one last;
 // and how many bits of the crossing it has used. A spot is a node's number in the drawing and 32 times how many NANDs come before it.
-#[derive(Drop)]
+#[derive(Clone, Copy)]
 pub struct Left {
     pub spot: usize,
     pub depth: usize,
@@ -55,7 +57,7 @@ impl Left {
 
 // What a walk over a pattern finds: whether it matches and, if so, how many inputs it has, with the pin and the node of each in the
 // order of the tree; if not, how many bits of the crossing tell so.
-#[derive(Drop)]
+#[derive(Clone, Copy)]
 pub struct Walked {
     pub matched: bool,
     pub used: usize,

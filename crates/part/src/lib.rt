@@ -1,4 +1,6 @@
 // The part operation: the trees of a part mapped in their order, each with the arrivals that its links bring. No sheet is written before every tree is mapped.
+#![tactic(auto)]
+
 ghost use Rattle.std.specs.Prelude.{◌≡◌, ℕ, ◌≤◌, length, get_or, take};
 ghost use mathlib.Core.List.{map, flat_map};
 ghost use Rattle.sheets_rules.specs.Model.{Library, Tree};
@@ -26,14 +28,14 @@ use result_sheets::CoverRecord;
 use sheets_rules::{Bins, LibraryRecord, Limits, PatternRow, TreeRecord};
 
 // The covers of a part's trees, if every tree is mapped.
-#[derive(Drop)]
+#[derive(Clone, Copy)]
 pub struct Covers {
     pub finding: Finding,
     pub covers: [CoverRecord; Limits::PART_TREES],
 }
 
 // Document 02's number of a linked arrival that is too late.
-#[derive(Drop)]
+#[derive(Clone, Copy)]
 pub struct Late {}
 
 impl Late {

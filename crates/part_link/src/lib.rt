@@ -1,4 +1,6 @@
 // A tree of a part with the arrivals that its links bring.
+#![tactic(auto)]
+
 ghost use Rattle.std.specs.Prelude.{◌≡◌, ◌≤◌, length};
 ghost use Rattle.leaves.specs.Inside.Leaf.{symbol_limit};
 ghost use Rattle.part_link.specs.Inside.Promises.{brought, Linkable, LinksTree, symbol_linked};
@@ -7,21 +9,21 @@ use shapes_rules::Packed;
 use sheets_rules::{Limits, TreeRecord};
 
 // A node's symbol with the arrival that a link brings, or that this arrival is too late.
-#[derive(Drop)]
+#[derive(Clone, Copy)]
 pub enum Symbol {
     Late,
     Is(u32),
 }
 
 // The lowest leaf whose linked arrival is too late, or that there is none.
-#[derive(Drop)]
+#[derive(Clone, Copy)]
 pub enum Lateness {
     Leaf(usize),
     Nowhere,
 }
 
 // A tree with the arrivals that its links bring, where none is too late.
-#[derive(Drop)]
+#[derive(Clone, Copy)]
 pub struct Linked {
     pub lateness: Lateness,
     pub tree: TreeRecord,

@@ -1,4 +1,6 @@
 // The part sheet, decoded: its trees, and for each of their nodes the tree that drives it.
+#![tactic(auto)]
+
 ghost use Rattle.std.specs.Prelude.{◌≡◌, [], ◌+◌, ◌*◌, ◌<◌, ◌≤◌, ◌^◌, length};
 ghost use Rattle.fields.specs.Reading.{place};
 ghost use Rattle.fields.specs.Inside.Promises.{Says};
@@ -12,7 +14,7 @@ use shapes_rules::Packed;
 use sheets_rules::{Limits, TreeRecord};
 
 // A link as decoded.
-#[derive(Drop)]
+#[derive(Clone, Copy)]
 pub struct LinkRecord {
     pub reading: u8,
     pub node: u8,
@@ -20,33 +22,33 @@ pub struct LinkRecord {
 }
 
 // A part as decoded: its trees, and for node n of tree k, at 64 × k + n, 0 or one more than the number of the tree that drives it.
-#[derive(Drop)]
+#[derive(Clone, Copy)]
 pub struct PartRecord {
     pub count: usize,
     pub trees: [TreeRecord; Limits::PART_TREES],
     pub drivers: [u8; Drivers::ALL],
 }
 
-#[derive(Drop)]
+#[derive(Clone, Copy)]
 pub struct PartRead {
     pub finding: Finding,
     pub part: PartRecord,
 }
 
-#[derive(Drop)]
+#[derive(Clone, Copy)]
 pub struct LinkRead {
     pub scan: Scan,
     pub link: LinkRecord,
 }
 
-#[derive(Drop)]
+#[derive(Clone, Copy)]
 pub struct LinksRead {
     pub scan: Scan,
     pub links: [LinkRecord; Limits::PART_LINKS],
 }
 
 // What stands before the trees, and the scan after it.
-#[derive(Drop)]
+#[derive(Clone, Copy)]
 pub struct CountsRead {
     pub scan: Scan,
     pub trees: usize,
@@ -54,20 +56,20 @@ pub struct CountsRead {
     pub links: [LinkRecord; Limits::PART_LINKS],
 }
 
-#[derive(Drop)]
+#[derive(Clone, Copy)]
 pub struct TreesRead {
     pub finding: Finding,
     pub trees: [TreeRecord; Limits::PART_TREES],
 }
 
-#[derive(Drop)]
+#[derive(Clone, Copy)]
 pub struct DriversRead {
     pub finding: Finding,
     pub drivers: [u8; Drivers::ALL],
 }
 
 // A driver for each node of each tree.
-#[derive(Drop)]
+#[derive(Clone, Copy)]
 pub struct Drivers {}
 
 impl Drivers {
@@ -77,7 +79,7 @@ impl Drivers {
 }
 
 // How wide the fields are, in bits.
-#[derive(Drop)]
+#[derive(Clone, Copy)]
 struct Width {}
 
 impl Width {
@@ -95,7 +97,7 @@ impl Width {
 }
 
 // Document 02's numbers: a fault of the counts and links, and a driver that is not lower.
-#[derive(Drop)]
+#[derive(Clone, Copy)]
 struct Numbers {}
 
 impl Numbers {

@@ -1,4 +1,6 @@
 // The cover sheet and the list sheet, written into a lent output and read back.
+#![tactic(auto)]
+
 ghost use Rattle.std.specs.Prelude.{◌≡◌, ◌++◌, ◌+◌, ◌*◌, ◌<◌, ◌≤◌, ◌^◌, length, take, drop, replicate};
 ghost use Rattle.fields.specs.Reading.{place};
 ghost use Rattle.fields.specs.Written.{written};
@@ -10,7 +12,7 @@ use fields::Scan;
 use sheets_rules::Limits;
 
 // How wide the fields of the cover sheet and the list sheet are, in bits.
-#[derive(Drop)]
+#[derive(Clone, Copy)]
 pub struct Sheet {}
 
 impl Sheet {
@@ -37,7 +39,7 @@ impl Sheet {
 }
 
 // A cover: its area, its arrival, and the nodes, patterns and crossings of its `count` matches.
-#[derive(Drop)]
+#[derive(Clone, Copy)]
 pub struct CoverRecord {
     pub area: u32,
     pub arrival: u32,
@@ -48,13 +50,13 @@ pub struct CoverRecord {
 }
 
 // A cover that was read, and the scan after it.
-#[derive(Drop)]
+#[derive(Clone, Copy)]
 pub struct CoverRead {
     pub scan: Scan,
     pub cover: CoverRecord,
 }
 
-#[derive(Drop)]
+#[derive(Clone, Copy)]
 pub struct MatchRead {
     pub scan: Scan,
     pub node: u8,
@@ -62,7 +64,7 @@ pub struct MatchRead {
     pub crossing: u8,
 }
 
-#[derive(Drop)]
+#[derive(Clone, Copy)]
 pub struct MatchesRead {
     pub scan: Scan,
     pub nodes: [u8; Limits::TREE_NODES],

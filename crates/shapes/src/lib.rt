@@ -1,4 +1,6 @@
 // The one reader of shapes, which serves patterns and trees.
+#![tactic(auto)]
+
 ghost use Rattle.std.specs.Prelude.{◌≡◌, true, false, ◌&&◌, suc, ◌+◌, ◌*◌, ◌<◌, ◌≤◌, ◌^◌, length, get_or};
 ghost use Rattle.bits.specs.Bits.{place_of};
 ghost use Rattle.bits.specs.Inside.Promises.{Opened};
@@ -11,7 +13,7 @@ use fields::{Fault, Scan};
 use shapes_rules::{Packed, Rules};
 
 // A shape that was read: the scan after it, how many nodes it has, and whether it is a pattern in which each pin up to the greatest stands at a leaf.
-#[derive(Drop)]
+#[derive(Clone, Copy)]
 pub struct ShapeRead {
     pub scan: Scan,
     pub size: usize,
@@ -19,7 +21,7 @@ pub struct ShapeRead {
 }
 
 // The codes of nodes, but for a NAND's, which is what is left; how wide a code is, and a drive.
-#[derive(Drop)]
+#[derive(Clone, Copy)]
 struct Codes {}
 
 impl Codes {
@@ -35,7 +37,7 @@ impl Codes {
 }
 
 // Where the words stand that the readers share: their cursor, how many nodes are read, and for each pin 1 if a leaf has it.
-#[derive(Drop)]
+#[derive(Clone, Copy)]
 struct Words {}
 
 impl Words {
@@ -51,7 +53,7 @@ impl Words {
 }
 
 // How a reader ends: sound, or with a fault at the field where it stands. As a number it goes back in a register.
-#[derive(Drop)]
+#[derive(Clone, Copy)]
 struct Ending {}
 
 impl Ending {
@@ -67,7 +69,7 @@ impl Ending {
 }
 
 // A node's code, or the fault in it.
-#[derive(Drop)]
+#[derive(Clone, Copy)]
 enum NodeCode {
     Code(u64),
     Faulty(u32),

@@ -2,7 +2,9 @@
 
 // What differs between patterns and trees: the width of a leaf's number and the greatest that is sound, the most nodes, and whether
 // it is a pattern, which opens with a gate and has no pin twice and no driven leaf.
-#[derive(Drop)]
+#![tactic(auto)]
+
+#[derive(Clone, Copy)]
 pub struct Rules {
     pub width: usize,
     pub most: u32,
@@ -16,7 +18,7 @@ impl Rules {
 }
 
 // What stands for a node: an inverter, a NAND, or a leaf's symbol from LEAF on, which has the leaf's number and DRIVE times its drive.
-#[derive(Drop)]
+#[derive(Clone, Copy)]
 pub struct Packed {}
 
 impl Packed {

@@ -1,8 +1,10 @@
 // The library sheet and the tree sheet: the limits, and the types that their definitions and the promises of their readers speak of.
+#![tactic(auto)]
+
 use fields::{Finding, Refusal, Scan};
 
 // The papers' limits: of the sheets, of what the operations are lent, and of the program's input; and the base of a point's word, which they fix.
-#[derive(Drop)]
+#[derive(Clone, Copy)]
 pub struct Limits {}
 
 impl Limits {
@@ -58,7 +60,7 @@ impl Limits {
 }
 
 // How long an array is that has something for each pin, or for each bin.
-#[derive(Drop)]
+#[derive(Clone, Copy)]
 pub struct Slots {}
 
 impl Slots {
@@ -69,7 +71,7 @@ impl Slots {
 
 // A pattern's row: the number of its cell and all that is known of the cell, its size and its symbols. Where its words stand, how many there
 // are, and how many a table of 128 rows has.
-#[derive(Drop)]
+#[derive(Clone, Copy)]
 pub struct PatternRow {}
 
 impl PatternRow {
@@ -107,14 +109,14 @@ impl PatternRow {
 }
 
 // The bin loads: the first `count` are there.
-#[derive(Drop)]
+#[derive(Clone, Copy)]
 pub struct Bins {
     pub count: usize,
     pub loads: [u8; Slots::BINS],
 }
 
 // A cell as decoded. Its pins are the first `pins` places of the four arrays: load bins, those bins' loads, intrinsic delays and drives.
-#[derive(Drop)]
+#[derive(Clone, Copy)]
 pub struct CellRecord {
     pub held: bool,
     pub area: u16,
@@ -127,7 +129,7 @@ pub struct CellRecord {
 }
 
 // A library as decoded: the bin loads, how many cells there are, and a row for each of the `total` patterns.
-#[derive(Drop)]
+#[derive(Clone, Copy)]
 pub struct LibraryRecord {
     pub bins: Bins,
     pub count: usize,
@@ -136,21 +138,21 @@ pub struct LibraryRecord {
 }
 
 // What a judge of libraries answers: the cell count and the pattern count, or the refusal.
-#[derive(Drop)]
+#[derive(Clone, Copy)]
 pub enum LibraryJudged {
     Sound(usize, usize),
     Refused(Refusal),
 }
 
 // The whole library, if the sheet is sound, or its refusal.
-#[derive(Drop)]
+#[derive(Clone, Copy)]
 pub struct LibraryRead {
     pub finding: Finding,
     pub library: LibraryRecord,
 }
 
 // A tree as decoded: its nodes' symbols in preorder, and how many nodes stand under each.
-#[derive(Drop)]
+#[derive(Clone, Copy)]
 pub struct TreeRecord {
     pub load: u8,
     pub required: u32,
@@ -160,21 +162,21 @@ pub struct TreeRecord {
 }
 
 // What a judge of trees answers: the node count, or the refusal.
-#[derive(Drop)]
+#[derive(Clone, Copy)]
 pub enum TreeJudged {
     Sound(usize),
     Refused(Refusal),
 }
 
 // The whole tree, and the scan after it.
-#[derive(Drop)]
+#[derive(Clone, Copy)]
 pub struct TreeScanned {
     pub scan: Scan,
     pub tree: TreeRecord,
 }
 
 // The whole tree, if the sheet is sound, or its refusal.
-#[derive(Drop)]
+#[derive(Clone, Copy)]
 pub struct TreeRead {
     pub finding: Finding,
     pub tree: TreeRecord,

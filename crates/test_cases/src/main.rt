@@ -9,17 +9,18 @@
 //   8 a part: as 2, with the part in place of the tree.
 // A case is read when the one before it is answered, so that no array has to hold them all. One that is cut short, too long or of another kind is answered "spoiled",
 // and is the last.
+#![tactic(auto)]
+
 ghost use Rattle.std.specs.Prelude.{◌<◌, ◌≤◌, length};
 
 use fields::Refusal;
 use frame::Frame;
 use judge_rules::CoverJudged;
-use libc::{STDIN_FILENO, STDOUT_FILENO};
 use map_rules::Reply;
 use sheets_rules::{LibraryJudged, Limits, TreeJudged};
 
 // The kinds of cases.
-#[derive(Drop)]
+#[derive(Clone, Copy)]
 struct Kind {}
 
 impl Kind {
@@ -43,7 +44,7 @@ impl Kind {
 }
 
 // How much is read: the lengths of a case, its sheets, and how many cases.
-#[derive(Drop)]
+#[derive(Clone, Copy)]
 struct Input {}
 
 impl Input {
@@ -59,7 +60,7 @@ impl Input {
 }
 
 // Where the sheets of a case end, one after another, and what it is lent.
-#[derive(Drop)]
+#[derive(Clone, Copy)]
 struct Layout {
     first: usize,
     second: usize,
@@ -69,7 +70,7 @@ struct Layout {
 }
 
 // What a case may be lent, and what stands in it before.
-#[derive(Drop)]
+#[derive(Clone, Copy)]
 struct Lent {}
 
 impl Lent {
@@ -89,27 +90,27 @@ const HEX_DIGITS: usize = 2;
 
 // A case is not what its lengths say, or too long, or of no kind that there is; or it asks for more than can be lent.
 fn write_spoiled() {
-    io::write_all(STDOUT_FILENO, b"spoiled\n");
+    io::write_all(Frame::STDOUT, b"spoiled\n");
 }
 
 // What was handed over or lent is not as it should be.
 fn write_changed() {
-    io::write_all(STDOUT_FILENO, b"changed\n");
+    io::write_all(Frame::STDOUT, b"changed\n");
 }
 
 // A space and a number.
 fn write_number(n: u64) {
-    io::write_all(STDOUT_FILENO, b" ");
-    io::print_decimal(STDOUT_FILENO, n);
+    io::write_all(Frame::STDOUT, b" ");
+    io::print_decimal(Frame::STDOUT, n);
 }
 
 fn end_line() {
-    io::write_all(STDOUT_FILENO, b"\n");
+    io::write_all(Frame::STDOUT, b"\n");
 }
 
 // A word and two numbers.
 fn write_pair(word: &[u8], first: u64, second: u64) {
-    io::write_all(STDOUT_FILENO, word);
+    io::write_all(Frame::STDOUT, word);
     write_number(first);
     write_number(second);
     end_line();
@@ -190,7 +191,7 @@ fn run_text(input: &[u8]) {
     if !opens_fixed(&text[..length]) {
         write_changed();
     }
-    io::write_all(STDOUT_FILENO, &text[..length]);
+    io::write_all(Frame::STDOUT, &text[..length]);
 }
 
 // The text that bill prints; before it a line "changed" if it lacks a fixed word.
@@ -200,7 +201,7 @@ fn run_bill(input: &[u8]) {
     if !has_fixed(&text[..length]) {
         write_changed();
     }
-    io::write_all(STDOUT_FILENO, &text[..length]);
+    io::write_all(Frame::STDOUT, &text[..length]);
 }
 
 // ---- map, list and the part operation, with an output and a work area that are looked at afterwards
@@ -246,13 +247,13 @@ fn lent_kept(output: &[u8], work: &[u64], bytes: usize, clears: bool) -> bool {
 
 // A byte in hexadecimal.
 fn write_byte(x: u8) {
-    io::print_hex(STDOUT_FILENO, x as u64, HEX_DIGITS);
+    io::print_hex(Frame::STDOUT, x as u64, HEX_DIGITS);
 }
 
 // A space, how many bytes, a space, and the bytes in hexadecimal.
 fn write_bytes(s: &[u8], count: usize) {
     write_number(count as u64);
-    io::write_all(STDOUT_FILENO, b" ");
+    io::write_all(Frame::STDOUT, b" ");
     let mut k = 0;
     while k < count {
         if s.len() <= k {
@@ -265,13 +266,13 @@ fn write_bytes(s: &[u8], count: usize) {
 
 // A word and the first bytes of the output.
 fn write_sheet(word: &[u8], output: &[u8], bytes: usize) {
-    io::write_all(STDOUT_FILENO, word);
+    io::write_all(Frame::STDOUT, word);
     write_bytes(output, bytes);
     end_line();
 }
 
 // The refusals after which the work area is zero: an overfull node, no cover, a linked arrival that is too late.
-#[derive(Drop)]
+#[derive(Clone, Copy)]
 struct Zeroed {}
 
 impl Zeroed {
@@ -288,7 +289,7 @@ fn clears(number: u32) -> bool {
 
 // "refused", number, place; of a part the tree after them.
 fn write_lent_refusal(refusal: Refusal, part: bool) {
-    io::write_all(STDOUT_FILENO, b"refused");
+    io::write_all(Frame::STDOUT, b"refused");
     write_number(refusal.number as u64);
     write_number(refusal.place as u64);
     if part {
@@ -414,7 +415,7 @@ fn layout_of(lengths: &[u8; Input::LENGTHS], count: usize) -> Layout
 
 // Fills a space from standard input. Answers whether there was enough.
 fn read_whole(space: &mut [u8]) -> bool {
-    io::read_full(STDIN_FILENO, space) == space.len()
+    io::read_full(Frame::STDIN, space) == space.len()
 }
 
 // "library" and its counts; or the refusal.
@@ -428,7 +429,7 @@ fn run_tree(sheet: &[u8]) {
     let judged = tree::judge_tree(sheet);
     match judged {
         TreeJudged::Sound(nodes) => {
-            io::write_all(STDOUT_FILENO, b"tree");
+            io::write_all(Frame::STDOUT, b"tree");
             write_number(nodes as u64);
             end_line();
         }

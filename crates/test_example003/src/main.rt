@@ -1,6 +1,8 @@
 // The example of source document 003: its least arrival and its whole list. Standard input is as treecover's: the library's length in two
 // bytes, high byte first, the library, and the tree as all that is left. Prints "list" and the count, then a line of arrival and area for
 // each trade-off; or "refused", number, place.
+#![tactic(auto)]
+
 ghost use Rattle.std.specs.Prelude.{◌+◌, ◌*◌, ◌≤◌};
 ghost use Rattle.fields.specs.Reading.{place};
 ghost use Rattle.covers.specs.Capacity.{capacity};
@@ -8,17 +10,16 @@ ghost use Rattle.covers.specs.CoverSheet.{arrival_width, area_width, point_count
 
 use fields::Scan;
 use frame::Frame;
-use libc::STDOUT_FILENO;
 use map_rules::Reply;
 use result_sheets::Sheet;
 use sheets_rules::Limits;
 
 fn write_word(word: &[u8]) {
-    io::write_all(STDOUT_FILENO, word);
+    io::write_all(Frame::STDOUT, word);
 }
 
 fn write_number(n: u64) {
-    io::print_decimal(STDOUT_FILENO, n);
+    io::print_decimal(Frame::STDOUT, n);
 }
 
 // The trade-off at the scan, and the scan after it.
@@ -95,6 +96,6 @@ fn run(s: &[u8]) {
 fn main() {
     // One byte more than the longest input, as treecover has it.
     let mut space = [0u8; Limits::INPUT + 1];
-    let n = io::read_full(libc::STDIN_FILENO, &mut space);
+    let n = io::read_full(Frame::STDIN, &mut space);
     run(&space[..n]);
 }

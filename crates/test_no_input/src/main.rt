@@ -1,4 +1,6 @@
 // treecover on no input at all.
+#![tactic(auto)]
+
 fn main() {
     treecover_text::run();
 }

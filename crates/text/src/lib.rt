@@ -1,10 +1,12 @@
 // Text put into a lent slice: words, numbers and the ends of lines, each from a place on.
+#![tactic(auto)]
+
 ghost use Rattle.std.specs.Prelude.{◌≡◌, [], ◌∷◌, ◌+◌, ◌≤◌, nat_abs, length};
 ghost use Rattle.text.specs.Text.{decimal, signed, space, spaced};
 ghost use Rattle.text.specs.Inside.Promises.{Appended};
 
 // How many digits a number of 64 bits has at the most.
-#[derive(Drop)]
+#[derive(Clone, Copy)]
 struct Decimal {}
 
 impl Decimal {

@@ -1,4 +1,6 @@
 // The tree sheet: what is decoded from it, and its judge.
+#![tactic(auto)]
+
 ghost use Rattle.std.specs.Prelude.{◌≡◌, ◌<◌, ◌≤◌, ◌^◌, replicate};
 ghost use Rattle.fields.specs.Answer.{Bounded};
 ghost use Rattle.fields.specs.Inside.Promises.{finding_of};
@@ -14,7 +16,7 @@ use shapes_rules::Rules;
 use sheets_rules::{Limits, TreeJudged, TreeRead, TreeRecord, TreeScanned};
 
 // The widths of the tree sheet's fields.
-#[derive(Drop)]
+#[derive(Clone, Copy)]
 struct Width {}
 
 impl Width {
@@ -27,7 +29,7 @@ impl Width {
 }
 
 // What a tree sheet says but for its nodes, how many they are, and the scan after it.
-#[derive(Drop)]
+#[derive(Clone, Copy)]
 pub struct TreeHead {
     pub scan: Scan,
     pub load: u8,
@@ -152,7 +154,7 @@ pub fn judge_tree(s: &[u8]) -> TreeJudged
 }
 
 // How far the numbers of a tree's faults stand above those of a library's.
-#[derive(Drop)]
+#[derive(Clone, Copy)]
 struct Numbers {}
 
 impl Numbers {

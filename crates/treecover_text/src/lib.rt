@@ -1,4 +1,6 @@
 // The text that `treecover` prints: the outcome of map for an input that holds a library and a tree.
+#![tactic(auto)]
+
 ghost use Rattle.std.specs.Prelude.{◌+◌, ◌*◌, ◌<◌, ◌≤◌, ◌^◌, length, take};
 ghost use Rattle.io.specs.Counts.{IsPrefixLen};
 ghost use Rattle.fields.specs.Reading.{Live, start};
@@ -18,7 +20,7 @@ use result_sheets::CoverRecord;
 use sheets_rules::{Limits, PatternRow};
 
 // How many lengths an input has: the library's alone.
-#[derive(Drop)]
+#[derive(Clone, Copy)]
 struct Input {}
 
 impl Input {
@@ -26,7 +28,7 @@ impl Input {
 }
 
 // No text is longer than this: that of a cover of 63 matches.
-#[derive(Drop)]
+#[derive(Clone, Copy)]
 pub struct Text {}
 
 impl Text {
@@ -135,6 +137,6 @@ pub fn run() -> usize
     let count = frame::read_input(&mut input);
     let mut text = [0u8; Text::LONGEST];
     let length = print_cover(&input[..count], &mut text);
-    io::write_all(libc::STDOUT_FILENO, &text[..length]);
+    io::write_all(Frame::STDOUT, &text[..length]);
     length
 }

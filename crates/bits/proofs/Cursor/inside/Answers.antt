@@ -4,26 +4,22 @@ use mathlib.Core.Path.{sym}
 use borrow.Author.Tests.{le-leb, lt-leb}
 use Rattle.bits.specs.Bits.{place_of}
 use Rattle.bits.proofs.Laws.{at_end}
-use Rattle.bits.proofs.Cursor.inside.Statement.{statement}
-use Rattle.bits.proofs.Cursor.inside.Tie as tie
+use Rattle.bits.proofs.Cursor.inside.Goals as goal
 
-returns : tie.Need-returns
+pub returns-then-byte-bytes : goal.returns-then-byte-bytes
 unfolding place_of
-returns c =
-    let a = c.before.args in
+returns-then-byte-bytes c =
+    let a = c.args in
     sym (le-leb (8 * a.self.byte + a.self.used) (8 * a.bytes) (omega arith))
 
-returns_2 : tie.Need-returns-2
+pub returns-then-bytes-byte : goal.returns-then-bytes-byte
 unfolding place_of
-returns_2 c =
-    let a = c.before.before.args in
+returns-then-bytes-byte c =
+    let a = c.args in
     sym (lt-leb (8 * a.self.byte + a.self.used) (8 * a.bytes) (omega arith))
 
-returns_3 : tie.Need-returns-3
+pub returns : goal.returns
 unfolding place_of
-returns_3 c =
-    let a = c.before.before.before.args in
+returns c =
+    let a = c.args in
     at_end a.self.byte a.self.used a.bytes (omega arith)
-
-pub inside_spec : {M : Type 1} → statement M
-inside_spec = tie.close (tie.spec returns returns_2 returns_3)

@@ -1,4 +1,3 @@
-use borrow.Author.Rules.{rules}
 use native.Mathlib.Omega.{arith}
 use Prim.Native.Nat.{◌*◌, ◌%◌, ◌^◌, ◌≤◌}
 use native.Mathlib.Nat.{one-mul, mod-eq_of_lt}
@@ -6,10 +5,9 @@ use mathlib.Core.Path.{◌≡◌}
 use lib.Pow.{pow_pos, pow_mono}
 use Rattle.bits.specs.Bits.{after}
 use Rattle.bits.proofs.Laws.{after_lt}
-use Rattle.bits.proofs.weight.Statement.{statement}
-use Rattle.bits.proofs.weight.Tie as tie
+use Rattle.bits.proofs.weight.Goals as goal
 
-returns : tie.Need-returns
+pub returns : goal.returns
 unfolding after
 returns c =
     let k = after c.args.i in
@@ -17,6 +15,3 @@ returns c =
     let most : 2 ^ k ≤ 128 = pow_mono below in
     let e : 1 * 2 ^ k % 4294967296 ≡ 2 ^ k = rw one-mul (mod-eq_of_lt (omega arith)) in
     record { worth = e; least = rw e (pow_pos k); most = rw e most }
-
-pub weight_spec : {M : Type 1} → statement M
-weight_spec = tie.close (tie.spec (λ c. search rules) (λ c. search rules) (λ c. search rules) returns)
