@@ -34,7 +34,7 @@ module _ {A : Type 0} where
       let rest : drop (length xs) (take k d) ++ drop k d ≡ drop (a + length xs) l =
       sym (drop-append-le (length xs) (take k d) (drop k d) (omega arith)) ∙ ap (drop (length xs)) (take-append-drop k d) ∙ drop-drop (length xs) a l in
       rw (sets-eq xs (take k d) 0 (omega arith), sets-eq xs l a (omega arith), zero-add, ← rest)
-      (simp append_assoc (ap (λ (ys : List A). take a l ++ ys) (append_assoc xs (drop (length xs) (take k d)) (drop k d))))
+      (simp append_assoc)
 
   pub at_mem : (l : List A) (k : ℕ) (d : A) → k < length l → Memᴰ (get_or l k d) l
   at_mem [] k d h = absurd (omega arith)
