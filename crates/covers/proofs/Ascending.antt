@@ -32,6 +32,7 @@ module _ {A : Type 0} {number : A → ℕ} where
   pub ascending_range : {low high : ℕ} {xs : List A} {x : A} → Ascending number low high xs → Memᴰ x xs → (low ≤ number x) × (number x < high)
   ascending_range (then h r) (Memᴰ.head e) = rw e (h, ends r)
   ascending_range (then h r) (Memᴰ.tail m) = let k = ascending_range r m in (omega arith, k.1)
+  ascending_range (end {low = low} {high = high} _) x11 = elim x11 [ ]
 
   -- Two lists put together, the second from where the first ends, are known from the whole.
   pub ascending_parts : {low low' mid high high' : ℕ} {xs ys xs' ys' : List A} → Ascending number low mid xs → Ascending number mid high ys → Ascending number low' mid xs' → Ascending number mid high' ys' → xs ++ ys ≡ xs' ++ ys' → (xs ≡ xs') × (ys ≡ ys')
@@ -46,6 +47,7 @@ module _ {A : Type 0} {number : A → ℕ} where
   ascending_unique (then h r) (Memᴰ.head e) (Memᴰ.tail n) k = absurd (omega (arith, (ascending_range r n).0, ap number e))
   ascending_unique (then h r) (Memᴰ.tail m) (Memᴰ.head f) k = absurd (omega (arith, (ascending_range r m).0, ap number f))
   ascending_unique (then h r) (Memᴰ.tail m) (Memᴰ.tail n) k = ascending_unique r m n k
+  ascending_unique {y = y} (end {low = low} {high = high} _) x19 _ k = elim x19 [ ]
 
   pub select_ascends : (test : A → Bool) {low high : ℕ} {xs : List A} → Ascending number low high xs → Ascending number low high (select test xs)
   unfolding select

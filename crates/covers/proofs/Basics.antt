@@ -70,6 +70,7 @@ module _ {A : Type 0} (test : A → Bool) where
   unfolding any
   true_any (y ∷ xs) (mathlib.Core.List.Memᴰ.head e) h = rw (← e, h)
   true_any (y ∷ xs) (mathlib.Core.List.Memᴰ.tail m) h = rw (true_any xs m h) (or-true (test y))
+  true_any [] x3 h = elim x3 [ ]
 
   -- None passes exactly when no entry does.
   pub any_false : (xs : List A) → any test xs ≡ false → (x : A) → Memᴰ x xs → test x ≡ false
@@ -89,6 +90,7 @@ module _ {A : Type 0} (test : A → Bool) where
   unfolding select
   in_select (y ∷ xs) (mathlib.Core.List.Memᴰ.head e) h = rw (← e, h) (mathlib.Core.List.Memᴰ.head refl)
   in_select (y ∷ xs) (mathlib.Core.List.Memᴰ.tail m) h = cases (test y) (λ e. rw e (mathlib.Core.List.Memᴰ.tail (in_select xs m h))) (λ e. rw e (in_select xs m h))
+  in_select [] x3 h = elim x3 [ ]
 
   pub select_append : (xs ys : List A) → select test (xs ++ ys) ≡ select test xs ++ select test ys
   unfolding select

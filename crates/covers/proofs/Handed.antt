@@ -45,11 +45,15 @@ reaches_when_best {p = p} cs ds f sub = (
 
 both_some : (a b : Option Point) {r : Point} → both a b ≡ some r → (p : Point) × (q : Point) × (a ≡ some p) × (b ≡ some q)
 unfolding both
-both_some a b = elim a [ none ↦ λ e. absurd (none-ne-some _ e) | some p ↦ elim b [ none ↦ λ e. absurd (none-ne-some _ e) | some q ↦ λ e. (p, q, refl, refl) ] ]
+both_some none b = λ e. absurd (none-ne-some _ e)
+both_some (some p) none = λ e. absurd (none-ne-some _ e)
+both_some (some p) (some q) = λ e. (p, q, refl, refl)
 
 pub chosen_some : (a b : Option Cover) {e : Cover} → both_chosen a b ≡ some e → (c : Cover) × (d : Cover) × (a ≡ some c) × (b ≡ some d) × (e ≡ together c d)
 unfolding both_chosen
-chosen_some a b = elim a [ none ↦ λ h. absurd (none-ne-some _ h) | some c ↦ elim b [ none ↦ λ h. absurd (none-ne-some _ h) | some d ↦ λ h. (c, d, refl, refl, cc) ] ]
+chosen_some none b = λ h. absurd (none-ne-some _ h)
+chosen_some (some c) none = λ h. absurd (none-ne-some _ h)
+chosen_some (some c) (some d) = λ h. (c, d, refl, refl, cc)
 
 -- The point of a cover that may be there.
 abbrev pub cost_of : Option Cover → Option Point
@@ -57,10 +61,13 @@ cost_of = map (λ c. c.point)
 
 point_both : (a b : Option Cover) → cost_of (both_chosen a b) ≡ both (cost_of a) (cost_of b)
 unfolding both_chosen both together
-point_both a b = elim a [ none ↦ refl | some c ↦ elim b [ none ↦ refl | some d ↦ refl ] ]
+point_both none b = refl
+point_both (some c) none = refl
+point_both (some c) (some d) = refl
 
 point_map : (f : Cover → Cover) (g : Point → Point) → ((c : Cover) → (f c).point ≡ g c.point) → (a : Option Cover) → cost_of (map f a) ≡ map g (cost_of a)
-point_map f g e a = elim a [ none ↦ refl | some c ↦ ap {B = Option Point} some (e c) ]
+point_map f g e none = refl
+point_map f g e (some c) = ap {B = Option Point} some (e c)
 
 module _ (l : Library) where
   abbrev chosen_below : Pin → Input → ℕ → Option Cover

@@ -74,6 +74,7 @@ module _ (n : ℕ) (s : Shape) where
     unfolding fitting_under put_first
     listed_under (y ∷ xs) (mathlib.Core.List.Memᴰ.head e) f = rw (← e, f) (mathlib.Core.List.Memᴰ.head refl)
     listed_under (y ∷ xs) (mathlib.Core.List.Memᴰ.tail h) f = option_cases (laid_under y) (λ e. rw e (listed_under xs h f)) (λ is e. rw e (mathlib.Core.List.Memᴰ.tail (listed_under xs h f)))
+    listed_under [] {is = is} x4 f = elim x4 [ ]
 
     under_ascend : {low high : ℕ} {xs : List ℕ} → Ascending (λ x. x) low high xs → Ascending rank (32 * k + low) (32 * k + high) (fitting_under n s k p xs)
     unfolding fitting_under put_first
@@ -148,7 +149,9 @@ match_legal {load} {m = m} h =
 
 pub gates_lt_size : (s : Shape) → gates s < size s
 unfolding gates size
-gates_lt_size s = elim s [ leaf x ↦ omega arith | inv (t → h) ↦ omega arith | nand (t → h) (u → k) ↦ omega arith ]
+gates_lt_size (leaf x) = omega arith
+gates_lt_size (inv t) = omega (arith, gates_lt_size t)
+gates_lt_size (nand t u) = omega (arith, gates_lt_size t, gates_lt_size u)
 
 pub size_pos : (s : Shape) → 0 < size s
 size_pos s = omega (arith, gates_lt_size s)
@@ -173,6 +176,7 @@ appended {h = h} (next {g = k} {h = j} {i = i} a b s) t = next {g = k + h} {h = 
 pub spread_in : {low high g : ℕ} {is : List Input} {i : Input} → Spread low high g is → Memᴰ i is → (low ≤ i.node) × (i.node + size i.shape ≤ high)
 spread_in (next a b s) (mathlib.Core.List.Memᴰ.head e) = rw e (a, spread_ends s)
 spread_in (next a b s) (mathlib.Core.List.Memᴰ.tail m) = let h = spread_in s m in (omega arith, h.1)
+spread_in {i = i} (last {low = low} {high = high} {g = g} _) x7 = elim x7 [ ]
 
 -- Of the inputs, if there is a match.
 pub data Whenever (P : List Input → Type 0) : Option (List Input) → Type 0 where
@@ -210,7 +214,9 @@ laid_gate {n = n} {s = s} e f h = record { within = widened (omega arith) (omega
 laid_spread : (p : Shape) (n : ℕ) (s : Shape) → Whenever (Laid p n s) (laid p n s)
 unfolding laid gates size
 laid_spread (leaf x) n s = holds record { within = next {g = 0} {h = gates s} {i = record { pin = pin_of x; node = n; shape = s }} (le_refl n) (omega arith) (last (le_refl (n + size s))); inside = λ g. absurd (omega arith) }
-laid_spread (inv p) n s = elim s [ leaf x ↦ never | inv t ↦ implied (λ is h. laid_gate {s = inv t} (omega arith) (omega arith) h.within) (laid_spread p (suc n) t) | nand t u ↦ never ]
+laid_spread (inv p) n (leaf x) = never
+laid_spread (inv p) n (inv t) = implied (λ is h. laid_gate {s = inv t} (omega arith) (omega arith) h.within) (laid_spread p (suc n) t)
+laid_spread (inv p) n (nand t u) = never
 laid_spread (nand p q) n (leaf x) = never
 laid_spread (nand p q) n (inv t) = never
 laid_spread (nand p q) n (nand t u) =

@@ -22,7 +22,9 @@ AllIn xs is = (i : Input) → Memᴰ i is → Memᴰ (node_of i) xs
 
 pub root_in : (n : ℕ) (s : Shape) → Memᴰ (record { number = n; shape = s }) (nodes n s)
 unfolding nodes
-root_in n s = elim s [ leaf x ↦ Memᴰ.head refl | inv t ↦ Memᴰ.head refl | nand t u ↦ Memᴰ.head refl ]
+root_in n (leaf x) = Memᴰ.head refl
+root_in n (inv t) = Memᴰ.head refl
+root_in n (nand t u) = Memᴰ.head refl
 
 append_map : {A B : Type 0} {a : A} {b : B} (s : List A) {t : List A} {s' t' : List B} →
     (Memᴰ a s → Memᴰ b s') → (Memᴰ a t → Memᴰ b t') → Memᴰ a (s ++ t) → Memᴰ b (s' ++ t')
@@ -31,8 +33,12 @@ append_map s {s' = s'} {t' = t'} f g m = ⊎_elim (λ j. Memᴰ.append_left t' (
 laid_in : (p : Shape) (n : ℕ) (s : Shape) → Whenever (AllIn (nodes n s)) (laid p n s)
 unfolding laid nodes
 laid_in (leaf x) n s = holds (λ i m. let e : i ≡ record { pin = pin_of x; node = n; shape = s } = Memᴰ.eq_of_singleton m in rw e (root_in n s))
-laid_in (inv p) n s = elim s [ leaf x ↦ never | inv t ↦ implied (λ is h i m. Memᴰ.tail (h i m)) (laid_in p (suc n) t) | nand t u ↦ never ]
-laid_in (nand p q) n s = elim s [ leaf x ↦ never | inv t ↦ never | nand t u ↦ joined_whenever (λ is js h k i m. Memᴰ.tail (append_map is (h i) (k i) m)) (laid_in p (suc n) t) (laid_in q (suc n + size t) u) ]
+laid_in (inv p) n (leaf x) = never
+laid_in (inv p) n (inv t) = implied (λ is h i m. Memᴰ.tail (h i m)) (laid_in p (suc n) t)
+laid_in (inv p) n (nand t u) = never
+laid_in (nand p q) n (leaf x) = never
+laid_in (nand p q) n (inv t) = never
+laid_in (nand p q) n (nand t u) = joined_whenever (λ is js h k i m. Memᴰ.tail (append_map is (h i) (k i) m)) (laid_in p (suc n) t) (laid_in q (suc n + size t) u)
 
 -- Each input of a match at a node is a node of its subtree.
 pub fits_in : (p : Shape) (n : ℕ) (s : Shape) (is : List Input) → matched p n s ≡ some is → (i : Input) → Memᴰ i is → Memᴰ (node_of i) (nodes n s)

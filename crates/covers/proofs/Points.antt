@@ -74,20 +74,28 @@ pick_assoc p q r =
 
 pub lesser_assoc : (a b c : Option Point) → lesser (lesser a b) c ≡ lesser a (lesser b c)
 unfolding lesser
-lesser_assoc a b c = elim a [ none ↦ refl | some p ↦ elim b [ none ↦ refl | some q ↦ elim c [ none ↦ refl | some r ↦ ap {B = Option Point} some (pick_assoc p q r) ] ] ]
+lesser_assoc none b c = refl
+lesser_assoc (some p) none c = refl
+lesser_assoc (some p) (some q) none = refl
+lesser_assoc (some p) (some q) (some r) = ap {B = Option Point} some (pick_assoc p q r)
 
 pub lesser_none : (a : Option Point) → lesser a none ≡ a
 unfolding lesser
-lesser_none a = elim a [ none ↦ refl | some p ↦ refl ]
+lesser_none none = refl
+lesser_none (some p) = refl
 
 -- For a loop that takes one input after another, from nothing on.
 pub both_assoc : (a b c : Option Point) → both (both a b) c ≡ both a (both b c)
 unfolding both beside
-both_assoc a b c = elim a [ none ↦ refl | some p ↦ elim b [ none ↦ refl | some q ↦ elim c [ none ↦ refl | some r ↦ ap {B = Option Point} some (point_path (omega arith) (omega arith)) ] ] ]
+both_assoc none b c = refl
+both_assoc (some p) none c = refl
+both_assoc (some p) (some q) none = refl
+both_assoc (some p) (some q) (some r) = ap {B = Option Point} some (point_path (omega arith) (omega arith))
 
 pub both_nothing : (a : Option Point) → both (some (record { area = 0; arrival = 0 })) a ≡ a
 unfolding both beside
-both_nothing a = elim a [ none ↦ refl | some p ↦ ap {B = Option Point} some (point_path (omega arith) (omega arith)) ]
+both_nothing none = refl
+both_nothing (some p) = ap {B = Option Point} some (point_path (omega arith) (omega arith))
 
 -- What commutes with the lesser of two, and makes nothing of nothing.
 pub record Carries (h : Option Point → Option Point) : Type 0 where
@@ -118,7 +126,10 @@ both_carries (some r) =
 
 both_comm : (a b : Option Point) → both a b ≡ both b a
 unfolding both beside
-both_comm a b = elim a [ none ↦ elim b [ none ↦ refl | some q ↦ refl ] | some p ↦ elim b [ none ↦ refl | some q ↦ ap {B = Option Point} some (point_path (omega arith) (omega arith)) ] ]
+both_comm none none = refl
+both_comm none (some q) = refl
+both_comm (some p) none = refl
+both_comm (some p) (some q) = ap {B = Option Point} some (point_path (omega arith) (omega arith))
 
 pub both_lesser : (a b c : Option Point) → both (lesser a b) c ≡ lesser (both a c) (both b c)
 both_lesser a b c = rw (both_comm (lesser a b) c, both_comm a c, both_comm b c) ((both_carries c).on_lesser a b)

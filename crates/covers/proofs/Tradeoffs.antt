@@ -82,6 +82,7 @@ of_sorted (p ∷ ps) m = ⊎_elim (λ e. Memᴰ.head e) (λ k. Memᴰ.tail (of_s
 in_sorted : (ps : List Point) {x : Point} → Memᴰ x ps → Memᴰ x (foldr insert [] ps)
 in_sorted (p ∷ ps) (Memᴰ.head e) = in_insert p (foldr insert [] ps) (Memᴰ.head e)
 in_sorted (p ∷ ps) (Memᴰ.tail m) = in_insert p (foldr insert [] ps) (Memᴰ.tail (in_sorted ps m))
+in_sorted [] x3 = elim x3 [ ]
 
 -- Points that do not beat one another and arrive together are one.
 sorted_climbs : (qs ps : List Point) → ((p : Point) → Memᴰ p ps → Memᴰ p qs × Unbeaten qs p) → Climbing (foldr insert [] ps)

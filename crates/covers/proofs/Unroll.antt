@@ -55,7 +55,9 @@ covers_unroll l = unroll [] (covers_step l) (covers_local l)
 -- At a gate, by its matches.
 pub gate_covers_lem : (l : Library) (load n : ℕ) (s : Shape) → 0 < gates s → covers l load n s ≡ gate_covers (all_below l) l load n s
 unfolding gates covers_step
-gate_covers_lem l load n s = elim s [ leaf x ↦ λ h. absurd (omega arith) | inv t ↦ λ h. covers_unroll l load n (inv t) | nand t u ↦ λ h. covers_unroll l load n (nand t u) ]
+gate_covers_lem l load n (leaf x) = λ h. absurd (omega arith)
+gate_covers_lem l load n (inv t) = λ h. covers_unroll l load n (inv t)
+gate_covers_lem l load n (nand t u) = λ h. covers_unroll l load n (nand t u)
 
 chosen_same : (of of' : Pin → Input → ℕ → Option Cover) (cell : Cell) (load t : ℕ) (is : List Input) → ((i : Input) → Memᴰ i is → (p : Pin) → of p i ≡ of' p i) → chosen_inputs of cell load t is ≡ chosen_inputs of' cell load t is
 unfolding chosen_inputs
@@ -83,7 +85,9 @@ choice_unroll l = unroll (λ time. none) (choice_step l) (choice_local l)
 
 pub gate_choice_lem : (l : Library) (load n : ℕ) (s : Shape) (time : ℕ) → 0 < gates s → choice l load n s time ≡ gate_choice l (choice l) load n s (least (suc time) (covers l load n s))
 unfolding gates choice_step
-gate_choice_lem l load n s time = elim s [ leaf x ↦ λ h. absurd (omega arith) | inv t ↦ λ h. rw (choice_unroll l load n (inv t)) | nand t u ↦ λ h. rw (choice_unroll l load n (nand t u)) ]
+gate_choice_lem l load n (leaf x) time = λ h. absurd (omega arith)
+gate_choice_lem l load n (inv t) time = λ h. rw (choice_unroll l load n (inv t))
+gate_choice_lem l load n (nand t u) time = λ h. rw (choice_unroll l load n (nand t u))
 
 -- What holds of a shape if it holds of all smaller ones holds of every shape.
 pub by_size : (P : Shape → Type 0) → ((s : Shape) → ((t : Shape) → size t < size s → P t) → P s) → (s : Shape) → P s
