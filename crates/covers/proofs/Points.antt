@@ -106,7 +106,7 @@ map_carries : (f : Point → Point) → ((p q : Point) → Leq p q → Leq (f p)
 unfolding lesser
 map_carries f mono = record {
   on_none = refl;
-  on_lesser = λ a b. elim a [ none ↦ refl | some p ↦ elim b [ none ↦ refl | some q ↦ ap {B = Option Point} some (pick_mono f mono p q) ] ];
+  on_lesser = λ a b. elim a as (λ x. map f (lesser x b) ≡ lesser (map f x) (map f b)) [ none ↦ refl | some p ↦ elim b as (λ y. map f (lesser (some p) y) ≡ lesser (map f (some p)) (map f y)) [ none ↦ refl | some q ↦ ap {B = Option Point} some (pick_mono f mono p q) ] ];
 }
 
 pub late_carries : (d : ℕ) → Carries (map (late d))

@@ -100,4 +100,4 @@ by_size P step s = go (size s) s (le_refl (size s))
 -- The same, with leaves apart from inverters and NANDs.
 pub by_gate : (P : Shape → Type 0) → ((x : Leaf) → P (leaf x)) → ((s : Shape) → 0 < gates s → ((t : Shape) → size t < size s → P t) → P s) → (s : Shape) → P s
 unfolding gates
-by_gate P bare gate = by_size P (λ s. elim s [ leaf x ↦ λ below. bare x | inv t ↦ gate (inv t) (omega arith) | nand t u ↦ gate (nand t u) (omega arith) ])
+by_gate P bare gate = by_size P (λ s. elim s as (λ u. ((t : Shape) → size t < size u → P t) → P u) [ leaf x ↦ λ below. bare x | inv t ↦ gate (inv t) (omega arith) | nand t u ↦ gate (nand t u) (omega arith) ])
