@@ -34,6 +34,7 @@ apart_from {low'} h (next {o = o} a g r) = next {low = low'} {o = o} (omega arit
 pub apart_above : {low high : ℕ} {os : List Uncovered} {q : Uncovered} → Apart low high os → Memᴰ q os → low ≤ q.node
 apart_above (next a g r) (Memᴰ.head e) = rw e a
 apart_above (next {o = o} a g r) (Memᴰ.tail m) = omega (arith, apart_above r m, size_pos o.shape)
+apart_above {q = q} (last {low = low} {high = high} _) x6 = elim x6 [ ]
 
 -- There are no more of them than nodes.
 pub apart_few : {low high : ℕ} {os : List Uncovered} → Apart low high os → low + length os ≤ high
@@ -126,11 +127,11 @@ module _ (l : Library) {low high : ℕ} {o : Uncovered} {os : List Uncovered} (r
 
   pub step_none : (x : Placed) → x.node ≡ o.node → there x ≡ none → step l here x ≡ none
   unfolding step placed_at match_taken
-  step_none x e f = rw (e, lowest_first r, f)
+  step_none x e f = simp (e, lowest_first r, f)
 
   pub step_some : (x : Placed) {m : Match} → x.node ≡ o.node → there x ≡ some m → step l here x ≡ some (after l o os p m)
   unfolding step placed_at match_taken after
-  step_some x e f = rw (e, lowest_first r, f, others_first r)
+  step_some x e f = simp (e, lowest_first r, f, others_first r)
 
 -- What a step is: a listed match stands wrongly, or it is a legal match at the first of what is to be covered.
 pub data StepIs (l : Library) (o : Uncovered) (os : List Uncovered) (p : Point) (x : Placed) : Option Walk → Type 0 where

@@ -1,20 +1,18 @@
-use borrow.Author.Rules.{rules}
 use native.Mathlib.Omega.{arith}
 use mathlib.Core.Path.{refl}
 use Rattle.fields.specs.Reading.{free}
 use Rattle.fields.proofs.Laws.{value_at_lem, scan_at}
 use Rattle.covers.specs.CoverSheet.{node_width, pattern_width, crossing_width, placed_read}
-use Rattle.result_sheets.proofs.read_match.Statement.{statement}
-use Rattle.result_sheets.proofs.read_match.Tie as tie
+use Rattle.result_sheets.proofs.read_match.Goals as goal
 
-returns : tie.Need-returns
+pub returns : goal.returns
 unfolding placed_read
 returns c =
-    let a = c.before.before.before.before.before.before.before.args in
+    let a = c.args in
     let s = a.s.now in
-    let one = c.before.before.before.before.before.raw in
-    let two = c.before.before.before.before.raw2 in
-    let three = c.before.before.before.raw3 in
+    let one = c.raw-node in
+    let two = c.raw-pattern in
+    let three = c.raw-crossing in
     let e = scan_at s node_width free a.scan one.ensures refl in
     let f = scan_at s pattern_width free one.result.scan two.ensures e in
     record {
@@ -24,7 +22,3 @@ returns c =
       scan_is = scan_at s crossing_width free two.result.scan three.ensures f;
       near = omega (arith, one.ensures.near, two.ensures.near, three.ensures.near);
     }
-
-pub read_match_spec : {M : Type 1} → statement M
-read_match_spec = tie.close (tie.spec (λ c κs. search rules) (λ c κs. search rules) (λ c κs. search rules)
-    (λ c. search rules) (λ c. search rules) (λ c. search rules) returns)
