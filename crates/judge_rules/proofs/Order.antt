@@ -1,6 +1,6 @@
 -- What is still to be covered stands in order: so the lowest is the first, and one step of a walk is known.
 use Prim.Native.Nat.{ℕ, ◌+◌, ◌≤◌, ◌<◌}
-use mathlib.Core.Path.{◌≡◌, refl, sym, ap}
+use mathlib.Core.Path.{◌≡◌, refl, sym, ap, ◌∙◌}
 use mathlib.Core.Logic.{◌≢◌}
 use mathlib.Core.Bool.{Bool, true, false, not}
 use mathlib.Core.List.{List, [], ◌∷◌, Memᴰ}
@@ -127,11 +127,15 @@ module _ (l : Library) {low high : ℕ} {o : Uncovered} {os : List Uncovered} (r
 
   pub step_none : (x : Placed) → x.node ≡ o.node → there x ≡ none → step l here x ≡ none
   unfolding step placed_at match_taken
-  step_none x e f = simp (e, lowest_first r, f)
+  step_none x e f =
+      let first = ap (λ (n : ℕ). lowest_at n (o ∷ os)) e ∙ lowest_first r in
+      rw (first, f)
 
   pub step_some : (x : Placed) {m : Match} → x.node ≡ o.node → there x ≡ some m → step l here x ≡ some (after l o os p m)
   unfolding step placed_at match_taken after
-  step_some x e f = simp (e, lowest_first r, f, others_first r)
+  step_some x e f =
+      let first = ap (λ (n : ℕ). lowest_at n (o ∷ os)) e ∙ lowest_first r in
+      rw (first, f, others_first r)
 
 -- What a step is: a listed match stands wrongly, or it is a legal match at the first of what is to be covered.
 pub data StepIs (l : Library) (o : Uncovered) (os : List Uncovered) (p : Point) (x : Placed) : Option Walk → Type 0 where
