@@ -7,6 +7,9 @@ use Rattle.sheets_rules.specs.Inside.Layout.{symbols_at, row_words}
 use Rattle.overlay.specs.declared.Left.{Left}
 use Rattle.overlay.specs.Inside.Promises.{Passable}
 use Rattle.overlay.proofs.Walking.{going_start, within, symbol_small, passable, going_pass, going_skip, going_end, going_missed}
+use Rattle.overlay.proofs.walk.Lts as lts
+use Rattle.overlay.proofs.walk.Tie as tie
+use Rattle.overlay.proofs.walk.Reads as reads
 use Rattle.overlay.proofs.walk.Goals as goal
 
 -- What the walk may read and write next.
@@ -21,7 +24,7 @@ record Near (row words symbols sizes : List ℕ) (count : ℕ) (left : Left) (at
   symbol : get_or row (symbols_at + left.spot % 32) 0 < 8
   passes : get_or row (symbols_at + left.spot % 32) 0 < 2 → Passable left (get_or row (symbols_at + left.spot % 32) 0) words
 
-near : (c : goal.At-loop-extents) →
+near : (c : lts.At-loop tie.the-claims reads.Pre reads.Post goal.the-invariant-loop-extents goal.the-decreases-loop-extents) →
     let a = c.args in let i = c.loop-extents in Near a.row.now a.extents.words a.symbols.now a.sizes.now i.count i.left i.at
 near c =
     let p = c.requires.1 in
@@ -44,19 +47,19 @@ pub loop-extents-init : goal.loop-extents-init
 loop-extents-init c = λ d s w. going_start _ _ _ _ _ _ _ _ w c.at_root-left.ensures
 
 pub overflow_add-symbol : goal.overflow_add-symbol
-overflow_add-symbol c = let b = near c.before in omega arith
+overflow_add-symbol c = let b = near c.before.before in omega arith
 
 pub offset_bounds-row-left : goal.offset_bounds-row-left
-offset_bounds-row-left c = let b = near c.before in omega arith
+offset_bounds-row-left c = let b = near c.before.before in omega arith
 
 pub bounds-row-left : goal.bounds-row-left
-bounds-row-left c = let b = near c.before.before in omega arith
+bounds-row-left c = let b = near c.before.before.before in omega arith
 
 pub offset_bounds-symbols-at : goal.offset_bounds-symbols-at
-offset_bounds-symbols-at c = let b = near c.before.before.before in omega arith
+offset_bounds-symbols-at c = let b = near c.before.before.before.before in omega arith
 
 pub bounds-symbols-at : goal.bounds-symbols-at
-bounds-symbols-at c = let b = near c.before.before.before.before in omega arith
+bounds-symbols-at c = let b = near c.before.before.before.before.before in omega arith
 
 pub returns-then-symbols-at : goal.returns-then-symbols-at
 returns-then-symbols-at c = λ d s w.
@@ -64,15 +67,15 @@ returns-then-symbols-at c = λ d s w.
     going_missed _ _ _ _ _ _ _ _ w (i.invariant d s w) c.if-symbol-lt-LEAF.true c.if-symbols-at.true _ refl refl
 
 pub overflow_add-at : goal.overflow_add-at
-overflow_add-at c = let b = near c.before.before.before.before.before in omega arith
+overflow_add-at c = let b = near c.before.before.before.before.before.before in omega arith
 
 pub pass_gate-left-requires : goal.pass_gate-left-requires
 pass_gate-left-requires c =
-    let b = near c.before.before.before.before.before in
+    let b = near c.before.before.before.before.before.before in
     (b.passes c.if-symbol-lt-LEAF.true, c.requires.0)
 
 pub loop-extents-smaller-then-symbol-lt-LEAF : goal.loop-extents-smaller-then-symbol-lt-LEAF
-loop-extents-smaller-then-symbol-lt-LEAF c = let b = near c.before.before.before.before.before.before in omega arith
+loop-extents-smaller-then-symbol-lt-LEAF c = let b = near c.before.before.before.before.before.before.before in omega arith
 
 pub loop-extents-preserved-then-symbol-lt-LEAF : goal.loop-extents-preserved-then-symbol-lt-LEAF
 loop-extents-preserved-then-symbol-lt-LEAF c = λ d s w.
@@ -80,28 +83,28 @@ loop-extents-preserved-then-symbol-lt-LEAF c = λ d s w.
     rw c.pass_gate-left.ensures (going_pass _ _ _ _ _ _ _ _ w (i.invariant d s w) c.if-symbol-lt-LEAF.true c.if-symbols-at.false)
 
 pub overflow_cast-pins : goal.overflow_cast-pins
-overflow_cast-pins c = let b = near c.before.before.before in omega arith
+overflow_cast-pins c = let b = near c.before.before.before.before in omega arith
 
 pub bounds-pins-count : goal.bounds-pins-count
-bounds-pins-count c = let b = near c.before.before.before in omega arith
+bounds-pins-count c = let b = near c.before.before.before.before in omega arith
 
 pub overflow_cast-nodes : goal.overflow_cast-nodes
-overflow_cast-nodes c = let b = near c.before.before.before in omega arith
+overflow_cast-nodes c = let b = near c.before.before.before.before in omega arith
 
 pub bounds-nodes-count : goal.bounds-nodes-count
-bounds-nodes-count c = let b = near c.before.before.before in omega arith
+bounds-nodes-count c = let b = near c.before.before.before.before in omega arith
 
 pub overflow_add-count : goal.overflow_add-count
-overflow_add-count c = let b = near c.before.before.before in omega arith
+overflow_add-count c = let b = near c.before.before.before.before in omega arith
 
 pub bounds-sizes-at : goal.bounds-sizes-at
-bounds-sizes-at c = let b = near c.before.before.before.before in omega arith
+bounds-sizes-at c = let b = near c.before.before.before.before.before in omega arith
 
 pub overflow_cast-at : goal.overflow_cast-at
-overflow_cast-at c = let b = near c.before.before.before.before in omega arith
+overflow_cast-at c = let b = near c.before.before.before.before.before in omega arith
 
 pub overflow_add-at-else-symbol-lt-LEAF : goal.overflow_add-at-else-symbol-lt-LEAF
-overflow_add-at-else-symbol-lt-LEAF c = let b = near c.before.before.before.before in omega arith
+overflow_add-at-else-symbol-lt-LEAF c = let b = near c.before.before.before.before.before in omega arith
 
 pub returns-then-left-eq0 : goal.returns-then-left-eq0
 returns-then-left-eq0 c = λ d s w.
@@ -109,10 +112,10 @@ returns-then-left-eq0 c = λ d s w.
     going_end _ _ _ _ _ _ _ _ w (i.invariant d s w) c.if-symbol-lt-LEAF.false c.if-left-eq0.true
 
 pub resume-left-requires : goal.resume-left-requires
-resume-left-requires c = let b = near c.before.before.before.before.before.before in let z = c.if-left-eq0.false in (omega arith, omega arith)
+resume-left-requires c = let b = near c.before.before.before.before.before.before.before in let z = c.if-left-eq0.false in (omega arith, omega arith)
 
 pub loop-extents-smaller : goal.loop-extents-smaller
-loop-extents-smaller c = let b = near c.before.before.before.before.before.before.before in omega arith
+loop-extents-smaller c = let b = near c.before.before.before.before.before.before.before.before in omega arith
 
 pub loop-extents-preserved : goal.loop-extents-preserved
 loop-extents-preserved c = λ d s w.
