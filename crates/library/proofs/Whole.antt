@@ -7,7 +7,6 @@ use lib.ListN.{length, replicate}
 use Rattle.bits.specs.Bits.{ends_at}
 use Rattle.fields.specs.declared.Finding.{Finding}
 use Rattle.fields.specs.declared.Refusal.{Refusal}
-use Rattle.fields.specs.declared.Finding.TheVariants as Finding
 use Rattle.fields.specs.Answer.{refusal, success, on_success, said, Bounded}
 use Rattle.fields.specs.declared.Got.{Got}
 use Rattle.fields.specs.declared.Scan.{Scan}

@@ -28,11 +28,9 @@ AllSized (x ∷ xs) (z ∷ zs) = Sized x 0 (length zs) zs z × AllSized xs zs
 -- A shape's sizes begin with its own, and are as many.
 first_size : (a : Shape) (zs : List ℕ) → (get_or (sizes a ++ zs) 0 0 ≡ size a) × (0 < size a) × (length (sizes a ++ zs) ≡ size a + length zs)
 unfolding sizes size
-first_size a zs = (
-  elim a [ leaf x ↦ refl | inv b ↦ refl | nand b c ↦ refl ],
-  elim a [ leaf x ↦ omega arith | inv b ↦ omega arith | nand b c ↦ omega arith ],
-  rw (length-append, length_sizes),
-)
+first_size (leaf x) zs = (refl, omega arith, rw (length-append, length_sizes))
+first_size (inv b) zs = (refl, omega arith, rw (length-append, length_sizes))
+first_size (nand b c) zs = (refl, omega arith, rw (length-append, length_sizes))
 
 all_sized : (d : Shape) (xs zs : List ℕ) → AllSized xs zs → AllSized (symbols d ++ xs) (sizes d ++ zs)
 unfolding symbols sizes size
@@ -50,6 +48,8 @@ all_sized (nand a b) xs zs h =
 
 sized_at : (k : ℕ) (xs zs : List ℕ) → AllSized xs zs → k < length xs → Sized (get_or xs k 0) 0 (length (drop (suc k) zs)) (drop (suc k) zs) (get_or zs k 0)
 sized_at k [] zs h g = absurd (omega arith)
+sized_at zero (x ∷ xs) [] h g = elim h [ ]
+sized_at (suc k) (x ∷ xs) [] h g = elim h [ ]
 sized_at zero (x ∷ xs) (z ∷ zs) h g = h.0
 sized_at (suc k) (x ∷ xs) (z ∷ zs) h g = sized_at k xs zs h.1 (omega arith)
 

@@ -7,12 +7,10 @@ use lib.ListN.{replicate}
 use mathlib.Core.Bool.{Bool, true}
 use Rattle.shapes.specs.declared.ShapeRead.{ShapeRead}
 use Rattle.fields.specs.declared.Finding.{Finding}
-use Rattle.fields.specs.declared.Finding.TheVariants as Finding
 use Rattle.fields.specs.Answer.{refusal, success, on_success, said, Bounded}
 use Rattle.fields.specs.declared.Got.{Got}
 use Rattle.fields.specs.declared.Scan.{Scan}
 use Rattle.fields.specs.declared.Scan.TheVariants.{At, Refused}
-use Rattle.shapes_rules.specs.Shape.{symbols}
 use Rattle.fields.specs.Reading.{start, place, field, within, tailed, Live}
 use Rattle.shapes_rules.specs.Drawing.{shape}
 use Rattle.fields.specs.Inside.Promises.{finding_of, Says, Reads}
