@@ -32,10 +32,10 @@ returns c =
     λ s e. omega (arith, c.wide-first.ensures.0, c.wide.ensures.0 ∙ read, extent_nand a.symbol words a.k s e (omega arith) c.if-symbol-eq-INVERTER.false)
 
 pub overflow_add-k : goal.overflow_add-k
-overflow_add-k c = omega (arith, gate c.before)
+overflow_add-k c = omega (arith, gate c)
 
 pub bounds-words-k : goal.bounds-words-k
-bounds-words-k c = omega (arith, gate c.before)
+bounds-words-k c = omega (arith, gate c.before.before)
 
 pub overflow_add-k-2 : goal.overflow_add-k-2
 overflow_add-k-2 c = omega (arith, nand c.before)
