@@ -11,13 +11,13 @@ use Rattle.curves.proofs.best.Goals as goal
 
 pub loop-j-init : goal.loop-j-init
 unfolding hits_best
-loop-j-init c = let s = c.before.before.before.before.before.before in (omega arith, refl, s.requires.1.1.1, worth_none match_limit s.args.end none refl)
+loop-j-init c = let s = c.before.before.before.before.before.before in (omega arith, refl, s.requires.kept, worth_none match_limit s.args.end none refl)
 
 pub match_best-w-requires : goal.match_best-w-requires
 match_best-w-requires c =
     let q = c.before.before.before.before in
     let p = q.requires in
-    (hit_ready p.0 q.loop-j.j q.loop-j-test.true, (p.0.sources, (p.1.0.0, p.1.0.1)))
+    record { hit_known = hit_ready p.cases q.loop-j.j q.loop-j-test.true; sources = p.cases.sources; load_bound = (p.load_bound.0, p.load_bound.1) }
 
 pub loop-j-preserved : goal.loop-j-preserved
 loop-j-preserved c =
@@ -25,7 +25,7 @@ loop-j-preserved c =
     let i = q.loop-j in
     let s = q.before.before.before.before.before.before.before in
     let k = i.invariant.2 in
-    let rising = s.requires.1.1.0 i.j q.loop-j-test.true in
+    let rising = s.requires.all_rising i.j q.loop-j-test.true in
     let turn = hits_turn k i.j i.least in
     let word = get_or i.auto i.j 0 in
     ⊎_elim
@@ -36,7 +36,7 @@ loop-j-preserved c =
     (λ u. rw (u.1, u.2) (omega arith, i.invariant.1, k, turn word i.invariant.3 (k.lasts i.j q.loop-j-test.true _ (omega arith) u.0.left)))
     t.1.came))
     (λ t.
-    let z = passed_over rising s.args.end i.least word s.requires.1.0.1 (worth_top (omega arith) i.invariant.3) t.0.left (k.bounds i.j q.loop-j-test.true s.args.end (omega arith)) in
+    let z = passed_over rising s.args.end i.least word s.requires.load_bound.1 (worth_top (omega arith) i.invariant.3) t.0.left (k.bounds i.j q.loop-j-test.true s.args.end (omega arith)) in
     rw (t.1, t.2) (omega arith, i.invariant.1, k, rw z.2 at (turn z.0 i.invariant.3 z.1)))
     c.if-w-least.branch
 

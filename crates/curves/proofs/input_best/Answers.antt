@@ -6,7 +6,7 @@ use Rattle.curves.proofs.Laws.{leaf_timely, leaf_late, gate_best, worth_none, fo
 use Rattle.curves.proofs.input_best.Goals as goal
 
 pub leaf_arrival-arrival-requires : goal.leaf_arrival-arrival-requires
-leaf_arrival-arrival-requires c = let s = c.before.before.before.before.before in (c.if-symbol-ge-LEAF.true, s.requires.0.symbols_small s.args.node, s.requires.1.1.load)
+leaf_arrival-arrival-requires c = let s = c.before.before.before.before.before in (c.if-symbol-ge-LEAF.true, s.requires.sources.symbols_small s.args.node, s.requires.node_bound.1.load)
 
 pub returns-then-arrival-end : goal.returns-then-arrival-end
 returns-then-arrival-end c =
