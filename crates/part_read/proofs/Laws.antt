@@ -33,7 +33,6 @@ use Rattle.part_rules.specs.PartRead.{link_number, sheet_read, trees_from, links
 use Rattle.part_read.specs.declared.LinkRecord.{LinkRecord}
 use Rattle.part_read.specs.declared.CountsRead.{CountsRead}
 use Rattle.fields.specs.declared.Finding.{Finding}
-use Rattle.fields.specs.declared.Finding.TheVariants as Finding
 use Rattle.part_read.specs.declared.LinksRead.{LinksRead}
 use Rattle.part_read.specs.Inside.Promises.{no_link, links_laid, SmallLink, SmallLinks, LinkIs, LinksAre, CountsAre}
 use Rattle.fields.specs.Inside.Promises.{Says}

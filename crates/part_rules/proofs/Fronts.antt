@@ -9,7 +9,6 @@ use lib.ListN.{length, length-append, get_or-append}
 use borrow.Table.Steps.{cases}
 use borrow.Author.Tests.{le-leb, leb-true, eqb-true}
 use Rattle.bits.specs.Bits.{bit_at, value_at, place_of, field_at, bytes_to, rest_of, filled_at, ends_at}
-use Rattle.bits.specs.declared.FieldRead as FieldRead
 use Rattle.bits.proofs.Whole.{ends_says}
 use Rattle.fields.specs.declared.Scan.{Scan}
 use Rattle.fields.specs.declared.Scan.TheVariants.{At, Refused}

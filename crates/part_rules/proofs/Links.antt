@@ -148,16 +148,17 @@ fault_same (not_lower n f le) (leaf_taken {y = y} m s) = absurd (f y m s)
 fault_same (not_lower n f le) (not_lower n' f' le') = (refl, refl)
 
 module _ {trees : List Tree} where
+  not_at_fault : {links : List Link} {position : ℕ} {link : Link} {number place : ℕ} → SoundLinks trees links → get_elem? links position ≡ some link → LinkFault trees (take position links) position link number place → ⊥
+  not_at_fault {links} {position} {link} h is (no_leaf n) = n (h.leaf link (at_in links position is))
+  not_at_fault {links} {position} {link} h is (leaf_taken {y = y} m s) =
+      let (k, e) = in_at m in
+      let below : k < position = omega (arith, at_below (take position links) k e, length-take position links) in
+      h.free k position y link below (sym (at_take links position k below) ∙ e) is s
+  not_at_fault {links} {position} {link} h is (not_lower n a le) = omega (arith, h.lower link (at_in links position is))
+
   -- Links are not sound and at fault.
   pub sound_or_fault : {links : List Link} {number place : ℕ} → SoundLinks trees links → FirstFault trees links number place → ⊥
-  sound_or_fault {links} h f = elim f.fault [
-    | no_leaf n ↦ n (h.leaf f.link (at_in links f.position f.link_is))
-    | leaf_taken {y = y} m s ↦
-        let (k, e) = in_at m in
-        let below : k < f.position = omega (arith, at_below (take f.position links) k e, length-take f.position links) in
-        h.free k f.position y f.link below (sym (at_take links f.position k below) ∙ e) f.link_is s
-    | not_lower n a le ↦ omega (arith, h.lower f.link (at_in links f.position f.link_is))
-  ]
+  sound_or_fault h f = not_at_fault h f.link_is f.fault
 
   -- The first at fault is so too where only some links after it are there. So no other is the first.
   among_first : {links : List Link} {number place : ℕ} (k : ℕ) (f : FirstFault trees links number place) → f.position < k → FirstFault trees (take k links) number place
