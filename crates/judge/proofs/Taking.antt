@@ -24,7 +24,7 @@ use Rattle.cells.proofs.Laws.{legal_is}
 use Rattle.overlay.specs.Inside.Promises.{Walkable, Walks, WalkIs}
 use Rattle.overlay.proofs.Patterns.{redrawn_sound, missed, hit}
 use Rattle.judge_rules.specs.Walk.{Uncovered, Walk, inputs_visited, others, match_at, match_taken}
-use Rattle.judge_rules.specs.Inside.Order.{Apart, last, next}
+use Rattle.judge_rules.specs.Inside.Order.{Apart, next}
 use Rattle.judge_rules.proofs.Order.{inputs_apart, apart_few, others_first}
 use Rattle.judge.specs.declared.WalkRecord.{WalkRecord}
 use Rattle.judge.specs.declared.Stepped.{Stepped}
