@@ -1,0 +1,44 @@
+use native.Mathlib.Omega.{arith}
+use native.Mathlib.Nat.{sub-zero}
+use mathlib.Core.Path.{sym, ◌∙◌}
+use Rattle.covers.proofs.Points.{both_nothing}
+use Rattle.curves.proofs.Laws.{match_never, match_stops, match_turn, match_worth}
+use Rattle.curves.proofs.best_match.Goals as goal
+
+pub returns-then-end-eq0 : goal.returns-then-end-eq0
+returns-then-end-eq0 c = let s = c.before.before.before.before.before.before in match_never s.requires.0 s.args.load s.args.end c.if-end-eq0.true
+
+pub loop-k-init : goal.loop-k-init
+loop-k-init c = (omega arith, omega arith, omega (arith, c.if-end-eq0.false), sym (both_nothing _ ∙ rw sub-zero))
+
+pub input_word-w-requires : goal.input_word-w-requires
+input_word-w-requires c =
+    let p = c.requires in
+    (p.0, ((p.0.safe.inputs c.loop-k.k c.loop-k-test.true, omega (arith, p.0.safe.few)), p.1))
+
+pub returns-then-w : goal.returns-then-w
+returns-then-w c =
+    let s = c.before.before.before.before.before.before.before.before.before.before.before in
+    let i = c.loop-k in
+    match_stops s.requires.0 s.args.load s.args.end i.k (record { area = i.area; arrival = i.arrival }) i.invariant.3 c.loop-k-test.true (c.input_word-w.ensures.missing c.if-w.true)
+
+pub loop-k-preserved : goal.loop-k-preserved
+loop-k-preserved c =
+    let s = c.before.before.before.before.before.before.before.before.before.before.before.before in
+    let i = c.loop-k in
+    let g = c.input_word-w.ensures in
+    let z = c.if-w.false in
+    let turn = match_turn s.requires.0 s.args.load s.args.end i.k (record { area = i.area; arrival = i.arrival }) i.invariant.3 c.loop-k-test.true c.input_word-w.result (g.point z) in
+    (omega arith, omega (arith, g.small z, i.invariant.1), omega (arith, g.intime z, i.invariant.2, c.later-arrival.ensures), rw c.later-arrival.ensures turn)
+
+pub returns : goal.returns
+returns c =
+    let s = c.before.before.before.before.before.before.before.before.before.before.before in
+    let i = c.loop-k in
+    rw c.wide.ensures (match_worth s.requires.0 s.args.load s.args.end i.k (record { area = i.area; arrival = i.arrival }) i.invariant.3 c.loop-k-test.false (omega (arith, s.requires.0.safe.few, i.invariant.1)) i.invariant.2 s.requires.1.1)
+
+pub overflow_cast-count : goal.overflow_cast-count
+overflow_cast-count c = omega (arith, c.requires.0.safe.few)
+
+pub overflow_add-area : goal.overflow_add-area
+overflow_add-area c = omega (arith, c.input_word-w.ensures.small c.if-w.false, c.loop-k.invariant.1, c.requires.0.safe.few)

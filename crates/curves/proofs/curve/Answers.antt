@@ -1,0 +1,66 @@
+use native.Mathlib.Omega.{arith}
+use Prim.Native.Nat.{◌+◌, ◌<◌}
+use mathlib.Core.Path.{refl, ◌∙◌}
+use lib.ListN.{length, length-set}
+use Rattle.curves.specs.Inside.Words.{slot}
+use Rattle.curves.proofs.Laws.{SlotWithin, slot_within, matches_in}
+use Rattle.curves.proofs.Frames.{growing_start, growing_rising, growing_kept, growing_next, growing_done, growing_over}
+use Rattle.curves.proofs.curve.Lts as lts
+use Rattle.curves.proofs.curve.Tie as tie
+use Rattle.curves.proofs.curve.Reads as reads
+use Rattle.curves.proofs.curve.Goals as goal
+
+within : (c : lts.Start tie.the-claims reads.Pre reads.Post goal.the-invariant-loop-k goal.the-decreases-loop-k) → SlotWithin c.args.target.most c.args.work.now c.args.target.at
+within c = slot_within c.requires.0.sources.curves c.args.target.at c.requires.1.0.0
+
+-- the next word of the curve is within the work area
+room : (c : lts.Else2 tie.the-claims reads.Pre reads.Post goal.the-invariant-loop-k goal.the-decreases-loop-k) → let a = c.args in let i = c.loop-k in let next = slot a.target.most a.target.at + i.k in
+    (next < 65536) × (next < length i.work)
+room c = let i = c.loop-k in let w = within c.before.before.before.before.before.before.before.before.before.before.before.before.before.before.before.before.before.before.before in (omega (arith, w.0, i.invariant.2.few), omega (arith, w.1, i.invariant.2.few, i.invariant.0))
+
+pub overflow_mul-first : goal.overflow_mul-first
+overflow_mul-first c = record { fits = omega (arith, (within c.before.before.before.before.before.before).0) }
+
+pub keep_all-requires : goal.keep_all-requires
+keep_all-requires c = let p = c.requires in (p.0, ((p.1.0.1, p.1.0.2), p.1.1.1.rising))
+
+pub loop-k-init : goal.loop-k-init
+loop-k-init c =
+    let s = c.before.before.before.before.before.before.before.before.before.before.before in
+    let a = s.args in
+    (refl, refl, growing_start a.target.most a.symbols.now a.work.now a.rows.now a.found.now a.target.load a.count a.target.at _ s.requires.0.sources.curves.small c.keep_all.ensures)
+
+pub best-w-requires : goal.best-w-requires
+best-w-requires c =
+    let p = c.requires in
+    let i = c.loop-k in
+    let g = i.invariant.2 in
+    let area = p.0.sources.curves in
+    (matches_in p.0 (record { bounded = area.bounded; room = omega (arith, area.room, i.invariant.0); small = g.small }), ((p.1.0.1, g.bounded, omega (arith, i.invariant.1, p.1.0.2)), (growing_rising g p.1.1.0 p.1.1.1.rising, growing_kept g p.1.1.0)))
+
+pub returns-then-w : goal.returns-then-w
+returns-then-w c = growing_done c.loop-k.invariant.2 c.requires.1.1.0 c.best-w.ensures c.if-w.true
+
+pub overflow_add-result : goal.overflow_add-result
+overflow_add-result c = omega (arith, c.requires.0.sources.curves.bounded)
+
+pub returns-then-k-most : goal.returns-then-k-most
+returns-then-k-most c = growing_over c.loop-k.invariant.2 c.requires.1.1.0 c.best-w.ensures c.if-w.false c.if-k-most.true
+
+pub loop-k-preserved : goal.loop-k-preserved
+loop-k-preserved c =
+    let s = c.before.before.before.before.before.before.before.before.before.before.before.before.before.before.before.before.before.before.before.before in
+    let i = c.loop-k in
+    (simp length-set i.invariant.0, c.best-w.auto.kept ∙ i.invariant.1, growing_next i.invariant.2 s.requires.1.1.0 c.best-w.ensures c.if-w.false c.if-k-most.false s.requires.1.1.1 (room c.before).1)
+
+pub returns : goal.returns
+returns c = absurd (omega (arith, c.loop-k.invariant.2.few, c.loop-k-test.false))
+
+pub overflow_add-work : goal.overflow_add-work
+overflow_add-work c = omega (arith, (room c.before).0)
+
+pub offset_bounds-work-first : goal.offset_bounds-work-first
+offset_bounds-work-first c = record { fits = omega (arith, (room c.before).0) }
+
+pub bounds-work-first : goal.bounds-work-first
+bounds-work-first c = (room c.before).1
