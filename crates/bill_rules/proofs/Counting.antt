@@ -44,6 +44,7 @@ module _ (l : Library) where
       [ yes e ↦ (x, Memᴰ.head refl, e) | no e ↦ let r = used_by xs n (omega (arith, uses_other x xs n e)) in (r.0, Memᴰ.tail r.1, r.2) ]
 
   pub by_used : (xs : List Placed) {x : Placed} → Memᴰ x xs → 0 < uses l xs (cell x)
+  by_used [] m = elim m [ ]
   by_used (y ∷ ys) {x} (Memᴰ.head f) = omega (arith, uses_same y ys (cell x) (ap cell (sym f)))
   by_used (y ∷ ys) {x} (Memᴰ.tail k) = elim (ℕ_discrete (cell y) (cell x)) [ yes e ↦ omega (arith, uses_same y ys (cell x) e) | no e ↦ omega (arith, by_used ys k, uses_other y ys (cell x) e) ]
 

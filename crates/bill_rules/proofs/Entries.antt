@@ -34,6 +34,7 @@ summed_append figure (e ∷ es) fs = omega (arith, summed_append figure es fs)
 
 pub figure_in : (figure : Entry → ℕ) {e : Entry} (es : List Entry) → Memᴰ e es → figure e ≤ summed figure es
 unfolding summed
+figure_in figure [] m = elim m [ ]
 figure_in figure (x ∷ es) (Memᴰ.head p) = omega (arith, ap figure p)
 figure_in figure (x ∷ es) (Memᴰ.tail m) = omega (arith, figure_in figure es m)
 

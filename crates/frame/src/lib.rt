@@ -10,8 +10,8 @@ ghost use Rattle.frame.specs.Inside.Promises.{most_lengths, PlacesAre, SplitIs};
 use fields::Refusal;
 use sheets_rules::Limits;
 
-// The bytes of one length, how many lengths an input has at the most, how many places that makes, and what standard input is read into and
-// the descriptors that it and the output go by.
+// The bytes of one length, how many lengths an input has at the most, how many places that makes, the descriptors that standard input and the output go by,
+// and what the input is read into.
 #[derive(Clone, Copy)]
 pub struct Frame {}
 

@@ -1,0 +1,16 @@
+use native.Mathlib.Omega.{arith}
+use Rattle.text.specs.Text.{line}
+use Rattle.text.proofs.Laws.{appended_both}
+use Rattle.frame.specs.Framed.{refusal_line}
+use Rattle.frame.proofs.Laws.{refusal_length}
+use Rattle.frame.proofs.put_refusal.Goals as goal
+
+pub put_word-at-requires : goal.put_word-at-requires
+put_word-at-requires c = let a = c.args in omega (arith, refusal_length a.refusal.number a.refusal.place)
+
+pub put_last-requires : goal.put_last-requires
+put_last-requires c = let a = c.args in omega (arith, refusal_length a.refusal.number a.refusal.place)
+
+pub returns : goal.returns
+unfolding refusal_line line
+returns c = appended_both (omega arith) c.put_word-at.ensures c.put_last.ensures
