@@ -1,44 +1,41 @@
 use native.Mathlib.Omega.{arith}
 use mathlib.Core.Path.{◌≡◌, refl}
 use mathlib.Core.Option.{none}
-use mathlib.Core.Logic.{⊎_elim}
 use lib.ListN.{get_or, length-set}
 use Rattle.curves.specs.Inside.Words.{match_limit}
 use Rattle.curves.specs.Inside.Best.{hits_best}
 use Rattle.curves.proofs.Laws.{worth_none, hits_turn, hit_ready}
 use Rattle.curves.proofs.Lasting.{passed_over, worth_top, kept_set}
 use Rattle.curves.proofs.best.Goals as goal
+use Rattle.curves.proofs.best.Goals.{then-w-least, then-end-w, else-end-w, else-w-least}
 
 pub loop-j-init : goal.loop-j-init
 unfolding hits_best
-loop-j-init c = let s = c.before.before.before.before.before.before in (omega arith, refl, s.requires.kept, worth_none match_limit s.args.end none refl)
+loop-j-init c = (omega arith, refl, c.requires.kept, worth_none match_limit c.args.end none refl)
 
 pub match_best-w-requires : goal.match_best-w-requires
 match_best-w-requires c =
-    let q = c.before.before.before.before in
-    let p = q.requires in
-    record { hit_known = hit_ready p.cases q.loop-j.j q.loop-j-test.true; sources = p.cases.sources; load_bound = (p.load_bound.0, p.load_bound.1) }
+    let p = c.requires in
+    record { hit_known = hit_ready p.cases c.loop-j.j c.loop-j-test.true; sources = p.cases.sources; load_bound = (p.load_bound.0, p.load_bound.1) }
 
 pub loop-j-preserved : goal.loop-j-preserved
 loop-j-preserved c =
-    let q = c.before.before.before in
-    let i = q.loop-j in
-    let s = q.before.before.before.before.before.before.before in
+    let i = c.loop-j in
     let k = i.invariant.2 in
-    let rising = s.requires.all_rising i.j q.loop-j-test.true in
+    let rising = c.requires.all_rising i.j c.loop-j-test.true in
     let turn = hits_turn k i.j i.least in
-    let word = get_or i.auto i.j 0 in
-    ⊎_elim
-    (λ t.
-    rw (t.3, t.4, t.2.ensures)
-    (⊎_elim
-    (λ u. rw (u.2, u.3) (omega arith, simp length-set i.invariant.1, kept_set k i.j u.1.result rising (omega arith) (λ k l n. l) u.1.ensures, turn u.1.result i.invariant.3 u.1.ensures))
-    (λ u. rw (u.1, u.2) (omega arith, i.invariant.1, k, turn word i.invariant.3 (k.lasts i.j q.loop-j-test.true _ (omega arith) u.0.left)))
-    t.1.came))
-    (λ t.
-    let z = passed_over rising s.args.end i.least word s.requires.load_bound.1 (worth_top (omega arith) i.invariant.3) t.0.left (k.bounds i.j q.loop-j-test.true s.args.end (omega arith)) in
-    rw (t.1, t.2) (omega arith, i.invariant.1, k, rw z.2 at (turn z.0 i.invariant.3 z.1)))
-    c.if-w-least.branch
+    let word = get_or i.kept i.j 0 in
+    elim c.if-w-least.branch [
+      | then-w-least t ↦
+          rw (t.kept-is, t.least-is, t.lower-least.ensures)
+          (elim t.if-end-w.branch [
+            | then-end-w u ↦ rw (u.kept-is, u.w-is) (omega arith, simp length-set i.invariant.1, kept_set k i.j u.match_best-w.result rising (omega arith) (λ k l n. l) u.match_best-w.ensures, turn u.match_best-w.result i.invariant.3 u.match_best-w.ensures)
+            | else-end-w u ↦ rw (u.kept-is, u.w-is) (omega arith, i.invariant.1, k, turn word i.invariant.3 (k.lasts i.j c.loop-j-test.true _ (omega arith) u.if-end-w.false))
+          ])
+      | else-w-least t ↦
+          let z = passed_over rising c.args.end i.least word c.requires.load_bound.1 (worth_top (omega arith) i.invariant.3) t.if-w-least.false (k.bounds i.j c.loop-j-test.true c.args.end (omega arith)) in
+          rw (t.kept-is, t.least-is) (omega arith, i.invariant.1, k, rw z.2 at (turn z.0 i.invariant.3 z.1))
+    ]
 
 pub returns : goal.returns
 returns c =

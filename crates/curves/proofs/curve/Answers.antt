@@ -16,19 +16,18 @@ within c = slot_within c.requires.cases.sources.curves c.args.target.at c.requir
 -- the next word of the curve is within the work area
 room : (c : lts.Else2 tie.the-claims reads.Pre reads.Post goal.the-invariant-loop-k goal.the-decreases-loop-k tie.handed_clauses) → let a = c.args in let i = c.loop-k in let next = slot a.target.most a.target.at + i.k in
     (next < 65536) × (next < length i.work)
-room c = let i = c.loop-k in let w = within c.before.before.before.before.before.before.before.before.before.before.before.before.before.before.before.before.before.before.before in (omega (arith, w.0, i.invariant.2.few), omega (arith, w.1, i.invariant.2.few, i.invariant.0))
+room c = let i = c.loop-k in let w : SlotWithin c.args.target.most c.args.work.now c.args.target.at = slot_within c.requires.cases.sources.curves c.args.target.at c.requires.at_bound.0 in (omega (arith, w.0, i.invariant.2.few), omega (arith, w.1, i.invariant.2.few, i.invariant.0))
 
 pub overflow_mul-first : goal.overflow_mul-first
 overflow_mul-first c = record { fits = omega (arith, (within c.before.before.before.before.before.before).0) }
 
 pub keep_all-requires : goal.keep_all-requires
-keep_all-requires c = let p = c.requires in (p.cases, ((p.at_bound.1, p.at_bound.2), p.points_fit.rising))
+keep_all-requires c = let p = c.requires in record { cases = p.cases; load_bound = (p.at_bound.1, p.at_bound.2); all_rising = p.points_fit.rising }
 
 pub loop-k-init : goal.loop-k-init
 loop-k-init c =
-    let s = c.before.before.before.before.before.before.before.before.before.before.before in
-    let a = s.args in
-    (refl, refl, growing_start a.target.most a.symbols.now a.work.now a.rows.now a.found.now a.target.load a.count a.target.at _ s.requires.cases.sources.curves.small c.keep_all.ensures)
+    let a = c.args in
+    (refl, refl, growing_start a.target.most a.symbols.now a.work.now a.rows.now a.found.now a.target.load a.count a.target.at _ c.requires.cases.sources.curves.small c.keep_all.ensures)
 
 pub best-w-requires : goal.best-w-requires
 best-w-requires c =
@@ -36,7 +35,12 @@ best-w-requires c =
     let i = c.loop-k in
     let g = i.invariant.2 in
     let area = p.cases.sources.curves in
-    (matches_in p.cases (record { bounded = area.bounded; room = omega (arith, area.room, i.invariant.0); small = g.small }), ((p.at_bound.1, g.bounded, omega (arith, i.invariant.1, p.at_bound.2)), (growing_rising g p.above p.points_fit.rising, growing_kept g p.above)))
+    record {
+      cases = matches_in p.cases (record { bounded = area.bounded; room = omega (arith, area.room, i.invariant.0); small = g.small });
+      load_bound = (p.at_bound.1, g.bounded, omega (arith, i.invariant.1, p.at_bound.2));
+      all_rising = growing_rising g p.above p.points_fit.rising;
+      kept = growing_kept g p.above;
+    }
 
 pub returns-then-w : goal.returns-then-w
 returns-then-w c = growing_done c.loop-k.invariant.2 c.requires.above c.best-w.ensures c.if-w.true
@@ -49,9 +53,8 @@ returns-then-k-most c = growing_over c.loop-k.invariant.2 c.requires.above c.bes
 
 pub loop-k-preserved : goal.loop-k-preserved
 loop-k-preserved c =
-    let s = c.before.before.before.before.before.before.before.before.before.before.before.before.before.before.before.before.before.before.before.before in
     let i = c.loop-k in
-    (simp length-set i.invariant.0, c.best-w.auto.kept ∙ i.invariant.1, growing_next i.invariant.2 s.requires.above c.best-w.ensures c.if-w.false c.if-k-most.false s.requires.points_fit (room c.before).1)
+    (simp length-set i.invariant.0, c.best-w.auto.kept ∙ i.invariant.1, growing_next i.invariant.2 c.requires.above c.best-w.ensures c.if-w.false c.if-k-most.false c.requires.points_fit (room c.before).1)
 
 pub returns : goal.returns
 returns c = absurd (omega (arith, c.loop-k.invariant.2.few, c.loop-k-test.false))

@@ -17,9 +17,8 @@ within c = simp add-sub_cancel_left c.requires.hit_known.0.known
 
 pub legal_match-requires : goal.legal_match-requires
 legal_match-requires c =
-    let s = c.before.before.before.before.before.before.before.before in
-    let p = s.requires in
-    simp add-sub_cancel_left (hit_tables s.args.found.now s.args.j p.hit_known.0 p.hit_known.1 p.sources, p.load_bound)
+    let p = c.requires in
+    simp add-sub_cancel_left (record { tables = hit_tables c.args.found.now c.args.j p.hit_known.0 p.hit_known.1 p.sources; load_bound = p.load_bound })
 
 pub returns : goal.returns
 returns c = simp add-sub_cancel_left at c.legal_match.ensures
