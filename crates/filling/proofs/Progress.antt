@@ -216,6 +216,7 @@ module _ {l : Library} {t : Tree} {rows : List ℕ} {bins : Bins} {tree : TreeRe
               fewer = fewer_from are here p d none;
             },
           )
+      turn_below zero k h p done = elim k [ ]
 
       pub turn_root : Progress most l t 1 work →
           ((s : Shape) → FillReady l t rows tree.symbols tree.sizes (at_root tree most) found work s → NodeDone l s (at_root tree most) work work' r) →

@@ -1,4 +1,3 @@
-use borrow.Author.Rules.{rules}
 use native.Mathlib.Omega.{arith}
 use Prim.Native.Nat.{ℕ}
 use mathlib.Core.Path.{◌≡◌, refl, sym, subst}
@@ -8,28 +7,24 @@ use Rattle.covers.specs.Capacity.{allowed}
 use Rattle.covers.specs.Lending.{lent}
 use Rattle.covers.proofs.Lent.{lent_enough, short_output, short_work}
 use Rattle.lending.specs.declared.Lent.{Lent}
-use Rattle.lending.proofs.lend.Statement.{statement}
-use Rattle.lending.proofs.lend.Tie as tie
+use Rattle.lending.proofs.lend.Goals as goal
 
 -- What a record of that form says.
 abbrev Told : ℕ → ℕ → ℕ → Lent → Type 0
 Told least output work q = Says (λ (m n : ℕ). m ≡ n) (lent least output work) q.finding q.most
 
-returns : tie.Need-returns
+pub returns-then-output-least : goal.returns-then-output-least
 unfolding Bounded
-returns c =
-    let a = c.before.before.args in
+returns-then-output-least c =
+    let a = c.args in
     subst (Told a.least a.output a.work) (sym c.short.ensures) (short_output a.least a.output a.work (omega arith), omega arith)
 
-returns_2 : tie.Need-returns-2
+pub returns-then-work-lt-WORK : goal.returns-then-work-lt-WORK
 unfolding Bounded
-returns_2 c =
-    let a = c.before.before.before.args in
-    subst (Told a.least a.output a.work) (sym c.short2.ensures) (short_work a.least a.output a.work (omega arith) (omega arith), omega arith)
+returns-then-work-lt-WORK c =
+    let a = c.args in
+    subst (Told a.least a.output a.work) (sym c.short-then-work-lt-WORK.ensures) (short_work a.least a.output a.work (omega arith) (omega arith), omega arith)
 
-returns_3 : tie.Need-returns-3
+pub returns : goal.returns
 unfolding allowed
-returns_3 c = let a = c.before.before.args in (allowed a.work, lent_enough a.least a.output a.work (omega arith) (omega arith), refl)
-
-pub lend_spec : {M : Type 1} → statement M
-lend_spec = tie.close (tie.spec (λ c κs. search rules) returns (λ c κs. search rules) returns_2 returns_3)
+returns c = let a = c.args in (allowed a.work, lent_enough a.least a.output a.work (omega arith) (omega arith), refl)
