@@ -19,7 +19,7 @@ PUBLIC = {
     "result_sheets": ["read_cover"],
     "interface": [r"treecover_\w+"],
 }
-USE = re.compile(r"^\s*(?:(?:pub|ghost|unfoldable) )*use Rattle·(\w+?)(?:·specs)?\.specs\.([\w.-]+?)(?:\.\{(.*?)\}|[ ;]|$)", re.M)
+USE = re.compile(r"^\s*(?:(?:pub|ghost|unfoldable) )*use Rattle\.(\w+?)\.specs\.([\w.-]+?)(?:\.\{(.*?)\}|[ ;]|$)", re.M)
 
 
 def text_of(path):

@@ -38,7 +38,7 @@ ALLOWED = {
 }
 # What is not run: comments, characters, strings, ghost uses, contracts; in one pass, as one can hold another.
 IDLE = re.compile(r"""/\*.*?\*/|//[^\n]*|'(?:\\.|[^'\\\n])'|"(?:\\.|[^"\\])*"|\bghost use [^;]*;"""
-                  r"""|\b(?:requires|ensures) \{[^⌜⌝{}]*⌜[^⌝]*⌝\s*\}""", re.S)
+                  r"""|\b(?:requires|ensures)(?: \w+)? \{[^\n]*\}(?=\n)""", re.S)
 # Types whose lists end together: no expression has two `<` before a `>>`.
 TYPES = re.compile(r"\b[A-Z]\w*<[^<>;{}\n]*\b[A-Z]\w*<[^<>;{}\n]*>>")
 FOUND = re.compile(r"/|%|<<|>>|\b(?:\w+_)?(?:shl|shr|div|rem|rotate|multiple_of|ilog\d*)(?:_\w+)?(?=\()")

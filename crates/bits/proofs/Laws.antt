@@ -7,7 +7,7 @@ use Prim.Native.Nat.{ℕ, zero, suc, ◌+◌, ◌-◌, ◌*◌, ◌/◌, ◌%◌
 use native.Mathlib.Nat.{pow-suc, pow-succ', add-mul, mul_assoc, add_assoc, mod-lt, div-lt_iff_lt-mul, mul_left_comm, lt_of_lt_of_le}
 use native.Mathlib.Omega.{arith}
 use native.Mathlib.Numerals.{add-one}
-use lib.Pow.{pow_pos, pow_mono, pow-add, shr-shr, low, field, mod-mod-pow, mod-pow-add}
+use lib.Pow.{pow_pos, pow_mono, pow-add, shr-shr, field, mod-mod-pow, mod-pow-add}
 use lib.Arith.{digits_lt, digits_div, digits_mod}
 use lib.Dec.{eqb, leb}
 use borrow.Author.Tests.{eq-eqb, ne_eqb, le-leb, lt-leb}

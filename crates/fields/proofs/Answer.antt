@@ -7,7 +7,6 @@ use borrow.Table.Steps.{cases}
 use borrow.Author.Tests.{lt-ltb, le-ltb, ltb-true}
 use Rattle.fields.specs.declared.Fault.{Fault}
 use Rattle.fields.specs.declared.Finding.{Finding}
-use Rattle.fields.specs.declared.Finding.TheVariants as Finding
 use Rattle.fields.specs.declared.Scan.{Scan}
 use Rattle.fields.specs.declared.Scan.TheVariants.{At, Refused}
 use Rattle.fields.specs.Reading.{place, Live}

@@ -7,7 +7,7 @@ use Prim.Native.Nat.{ℕ, suc, ◌+◌, ◌*◌, ◌≤◌, ◌<◌}
 use native.Mathlib.Omega.{arith}
 use lib.ListN.{length, get_or, take}
 use borrow.Table.Steps.{cases}
-use Rattle.sheets_rules.specs.Model.{plain_leaf, Shape, leaf, inv, nand, size, leaves, Library, Tree, patterns}
+use Rattle.sheets_rules.specs.Model.{plain_leaf, Shape, leaf, inv, nand, Library, Tree, patterns}
 use Rattle.sheets_rules.specs.Inside.Layout.{table_from, row_words}
 use Rattle.sheets_rules.specs.Inside.Sound.{SoundLibrary}
 use Rattle.covers.specs.Crossing.{redrawn}

@@ -30,7 +30,6 @@ use Rattle.result_sheets.specs.Inside.Promises.{points_of}
 use Rattle.result_sheets.proofs.Laws.{points_few, sheet_short}
 use Rattle.map_core.specs.declared.Solved.{Solved}
 use Rattle.map_core.specs.declared.Task.{Task}
-use Rattle.map_core.specs.declared.Task.TheVariants as Task
 use Rattle.map_core.specs.Inside.Found.{of_finding, of_mapped, of_listed}
 use Rattle.map_core.specs.Inside.Promises.{SolvedIs}
 use Rattle.map_rules.specs.Public.{Operated}

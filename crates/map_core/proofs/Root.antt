@@ -9,7 +9,6 @@ use native.Mathlib.Omega.{arith}
 use borrow.Author.Tests.{le-leb, lt-leb}
 use lib.ListN.{length, get_or}
 use Rattle.fields.specs.Answer.{success}
-use Rattle.shapes_rules.specs.Shape.{symbols, sizes}
 use Rattle.sheets_rules.specs.declared.TreeRecord.{TreeRecord}
 use Rattle.sheets_rules.specs.Model.{Leaf, Shape, leaf, inv, nand, Library, Tree}
 use Rattle.sheets_rules.specs.Inside.Layout.{tree_laid}

@@ -29,7 +29,6 @@ use Rattle.result_sheets.specs.declared.CoverRead.{CoverRead}
 use Rattle.result_sheets.specs.declared.MatchesRead.{MatchesRead}
 use Rattle.result_sheets.specs.Public.{placed_of, cover_of, cover_bits, Written, CoverIs}
 use Rattle.result_sheets.specs.Inside.Promises.{points_of, column, MatchesAre}
-use Rattle.covers.specs.Tradeoff.{nodes}
 use Rattle.covers.specs.Outcome.{map_bytes}
 
 -- ---- elements made zero from the front on

@@ -22,8 +22,6 @@ use Rattle.shapes_rules.specs.Shape.{symbols, inv_symbol, nand_symbol}
 use Rattle.shapes_rules.specs.Drawing.{code_verdict, leaf_verdict, leaf_node, driven_node, pair, branch, node, shape}
 use Rattle.fields.proofs.Answer.{word_reads}
 use Rattle.fields.proofs.Laws.{tailed_wanted}
-use Rattle.sheets_rules.specs.Model.{patterns}
-use Rattle.sheets_rules.specs.LibrarySheet.{cells}
 use Rattle.sheets_rules.specs.TreeSheet.{tree_rules, tail_at, tree_to}
 use Rattle.sheets_rules.specs.Report.{LibraryLimits, library_number, tree_number, TreeRefusal, torn, loose_tail, off_the_scale, overgrown, LibraryCounts, library_word, of_library_word}
 

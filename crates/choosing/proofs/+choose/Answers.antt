@@ -10,7 +10,7 @@ use Rattle.covers.specs.Choice.{choice}
 use Rattle.result_sheets.specs.declared.CoverRecord.{CoverRecord}
 use Rattle.filling.proofs.Node.{gate_here}
 use Rattle.choosing.specs.Inside.Promises.{Chooses, appended}
-use Rattle.choosing.proofs.Gate.{Limits, limits, ready, chosen_there}
+use Rattle.choosing.proofs.Gate.{limits, ready, chosen_there}
 use Rattle.choosing.proofs.Below.{Topmost, placed_to, few_inputs, placed_start, placed_all, Following, following, leaf_appended, gate_top, appended_none, appended_more}
 use Rattle.choosing.proofs.+choose.Goals as goal
 use Rattle.choosing.proofs.+choose.Goals.{After-append-grown, After-input_goal}

@@ -3,7 +3,6 @@ use Prim.Native.Nat.{◌-◌, ◌≤◌}
 use mathlib.Core.Path.{◌≡◌}
 use lib.ListN.{length, get_or}
 use Rattle.sheets_rules.specs.Model.{Library, Tree}
-use Rattle.covers.specs.Choice.{choice}
 use Rattle.choosing.specs.Inside.Promises.{appended}
 use Rattle.choosing.proofs.Below.{Topmost, placed_to}
 use Rattle.choosing.proofs.+choose.Given as goal

@@ -1,4 +1,3 @@
-use borrow.Author.Tests.{not-true, not-false}
 use Rattle.curves.proofs.Laws.{match_illegal, match_legal}
 use Rattle.curves.proofs.legal_match.Goals as goal
 

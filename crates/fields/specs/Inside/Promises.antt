@@ -2,7 +2,6 @@
 use Rattle.std.specs.Prelude.{ℕ, ◌≤◌, ◌≡◌}
 use Rattle.fields.specs.declared.Fault.{Fault}
 use Rattle.fields.specs.declared.Finding.{Finding}
-use Rattle.fields.specs.declared.Finding.TheVariants as Finding
 use Rattle.fields.specs.declared.Got.{Got}
 use Rattle.fields.specs.declared.GotWide.{GotWide}
 use Rattle.fields.specs.declared.Scan.{Scan}

@@ -3,7 +3,6 @@ use Prim.Native.Nat.{◌≤◌}
 use mathlib.Core.Path.{refl, sym, subst}
 use lib.ListN.{length}
 use Rattle.map_core.specs.declared.Task.{Task}
-use Rattle.map_core.specs.declared.Task.TheVariants as Task
 use Rattle.map_core.specs.Inside.Promises.{SolvedIs}
 use Rattle.fields.specs.Answer.{success}
 use Rattle.map_rules.specs.Public.{of_reply}

@@ -17,7 +17,6 @@ use Rattle.map_core.specs.declared.Mapped.{Mapped}
 use Rattle.map_core.specs.declared.Listed.{Listed}
 use Rattle.map_core.specs.declared.Solved.{Solved}
 use Rattle.map_core.specs.declared.Task.{Task}
-use Rattle.map_core.specs.declared.Task.TheVariants as Task
 use Rattle.map_core.specs.Inside.Found.{of_mapped, of_listed}
 
 -- The library and the tree as decoded, with the curves of all nodes, none of which is overfull.

@@ -6,7 +6,7 @@ use mathlib.Core.List.{map}
 use lib.ListN.{length}
 use Rattle.sheets_rules.specs.Model.{Shape, Pattern}
 use Rattle.sheets_rules.specs.Inside.Layout.{table_from}
-use Rattle.covers.specs.Crossing.{is_crossing, crossings}
+use Rattle.covers.specs.Crossing.{is_crossing}
 use Rattle.matching.specs.Inside.Found.{match_bytes, hit_of}
 use Rattle.matching.specs.Inside.Promises.{Trying}
 use Rattle.matching.proofs.Crossings.{matches_below}

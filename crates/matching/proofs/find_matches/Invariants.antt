@@ -3,7 +3,7 @@ use Prim.Native.Nat.{◌*◌, ◌-◌, ◌≤◌}
 use mathlib.Core.Path.{◌≡◌}
 use mathlib.Core.List.{map}
 use lib.ListN.{length}
-use Rattle.sheets_rules.specs.Model.{Shape, Library, Tree, patterns}
+use Rattle.sheets_rules.specs.Model.{Shape, Library, Tree}
 use Rattle.sheets_rules.specs.Inside.Layout.{table_from}
 use Rattle.matching.specs.Inside.Found.{match_bytes, hit_of}
 use Rattle.matching.specs.Inside.Promises.{Ready}
