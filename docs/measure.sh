@@ -16,9 +16,10 @@ sheets="longest_library longest_tree longest_plain_tree longest_functions"
 scratch=$(mktemp -d)
 trap 'rm -rf "$scratch"' EXIT
 
-rt staticlib interface >"$scratch/staticlib" 2>&1
-rt check test_cases >"$scratch/test_cases" 2>&1
-export TREECOVER_LIB_DIR=$PWD/target/staticlib TREECOVER_LIB_NAME=interface TREECOVER_CASES=$PWD/target/bin/test_cases
+tools/c-library >"$scratch/staticlib" 2>&1
+(cd crates/test_cases && rt run <stdin) >"$scratch/test_cases" 2>&1
+export TREECOVER_LIB_DIR=$PWD/target/staticlib TREECOVER_LIB_NAME=interface
+export TREECOVER_CASES=$PWD/crates/test_cases/out/test_cases
 cargo build -q --release --offline --manifest-path reference/Cargo.toml --features "$features" --bins --target-dir target/reference
 bench=$PWD/target/reference/release/bench
 fresh=$PWD/target/reference/release/fresh

@@ -40,7 +40,7 @@ use Rattle.filling.proofs.Hits.{legal_hit}
 use Rattle.filling.proofs.Node.{no_match, here, node_within, gate_here, FoundIs, match_in, found_at, hits_ready}
 use Rattle.choosing.specs.declared.Goal.{Goal}
 use Rattle.choosing.specs.declared.Inputs.{Inputs}
-use Rattle.choosing.specs.Inside.Promises.{FirstHit, HitHolds, InputsAre, Prepared, at_root_lem, below, Driven}
+use Rattle.choosing.specs.Inside.Promises.{FirstHit, HitHolds, InputsAre, Prepared, at_root, below, Driven}
 
 -- ---- the first that passes
 
@@ -104,10 +104,10 @@ module _ {most : ℕ} {l : Library} {t : Tree} {rows ss zs : List ℕ} {room : �
   limits = record {
     node_small = node_within ready;
     load_small = elim drv.drives [
-      | at_root_lem a b c ↦ omega (arith, dec.decoded.tree.load)
+      | at_root a b c ↦ omega (arith, dec.decoded.tree.load)
       | below a b c ↦ omega (arith, at_all (λ x. x ≤ 255) l.bins goal.bin 0 (omega arith) dec.decoded.library.loads)
     ];
-    bin_small = elim drv.drives [ at_root_lem a b c ↦ omega arith | below a b c ↦ omega (arith, dec.decoded.library.few_bins) ];
+    bin_small = elim drv.drives [ at_root a b c ↦ omega arith | below a b c ↦ omega (arith, dec.decoded.library.few_bins) ];
     symbols_long = (here ready).symbols_long;
   }
 
@@ -116,7 +116,7 @@ module _ {most : ℕ} {l : Library} {t : Tree} {rows ss zs : List ℕ} {room : �
 
   curve_here : 0 < gates s → table_of most work goal.node goal.bin ≡ curve covered
   curve_here g = elim drv.drives [
-    | at_root_lem a b c ↦
+    | at_root a b c ↦
         let same : s ≡ t.shape = ap (λ (x : Node). x.shape) (ascending_unique (nodes_ascend 0 t.shape) drv.node (root_in 0 t.shape) a) in
         let e = dec.curves.root (rw same at g) in
         cc

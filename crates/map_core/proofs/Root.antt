@@ -28,7 +28,7 @@ use Rattle.overlay.specs.Inside.Standing.{Stands}
 use Rattle.overlay.proofs.Standing.{heads_everywhere, stands_everywhere, subject_everywhere}
 use Rattle.curves.specs.Inside.Words.{absent, point_limit, stored, curve_at}
 use Rattle.curves.specs.Inside.Promises.{Worth}
-use Rattle.choosing.specs.Inside.Promises.{at_root_lem, Chooses, appended}
+use Rattle.choosing.specs.Inside.Promises.{at_root, Chooses, appended}
 use Rattle.choosing.proofs.Gate.{chosen_there}
 use Rattle.choosing.proofs.Below.{appended_cover}
 use Rattle.result_sheets.specs.declared.CoverRecord.{CoverRecord}
@@ -157,7 +157,7 @@ module _ {most : ℕ} {l : Library} {t : Tree} {rows : List ℕ} {tree : TreeRec
         prepared = given.prepared;
         driven = record {
           node = root_in 0 t.shape;
-          drives = at_root_lem refl load_is refl;
+          drives = at_root refl load_is refl;
           time_small = omega (arith, time_is, given.prepared.decoded.tree.required);
           some_cover = (point_of w, least_here);
         };

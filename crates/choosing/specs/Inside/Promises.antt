@@ -76,7 +76,7 @@ pub record Prepared (most : ℕ) (l : Library) (t : Tree) (rows ss zs : List ℕ
 
 -- What a node drives: the root load at the root, where bin 0 has the root's curve; a bin's load elsewhere.
 pub data Drives (l : Library) (t : Tree) (goal : Goal) : Type 0 where
-  at_root_lem : goal.node ≡ 0 → goal.load ≡ t.load → goal.bin ≡ 0 → Drives l t goal
+  at_root : goal.node ≡ 0 → goal.load ≡ t.load → goal.bin ≡ 0 → Drives l t goal
   below : 0 < goal.node → goal.bin < length l.bins → goal.load ≡ get_or l.bins goal.bin 0 → Drives l t goal
 
 -- What is asked of the node of the subtree s: the load that it drives, and a time by which some cover of it arrives.

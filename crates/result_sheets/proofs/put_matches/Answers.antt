@@ -6,15 +6,6 @@ use Rattle.result_sheets.proofs.put_matches.Goals as goal
 pub loop-k-init : goal.loop-k-init
 loop-k-init c = (omega arith, omega arith, refl, refl)
 
-pub overflow_cast-nodes : goal.overflow_cast-nodes
-overflow_cast-nodes c = omega (arith, c.shared_slice_known-in-loop-k-1.given c.loop-k.k)
-
-pub overflow_cast-patterns : goal.overflow_cast-patterns
-overflow_cast-patterns c = omega (arith, c.shared_slice_known-in-loop-k-2-1.given c.loop-k.k)
-
-pub overflow_cast-crossings : goal.overflow_cast-crossings
-overflow_cast-crossings c = omega (arith, c.shared_slice_known-in-loop-k-3-1.given c.loop-k.k)
-
 pub loop-k-preserved : goal.loop-k-preserved
 loop-k-preserved c =
     let three = c.before.before in

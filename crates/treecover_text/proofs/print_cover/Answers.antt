@@ -1,17 +1,15 @@
 use native.Mathlib.Omega.{arith}
 use Prim.Native.Nat.{ℕ, ◌≤◌}
-use mathlib.Core.Path.{◌≡◌, refl, sym, ap, ap₂, subst, ◌∙◌}
+use mathlib.Core.Path.{refl, sym, ap, ap₂, subst, ◌∙◌}
 use mathlib.Core.Bool.{false}
 use mathlib.Core.List.{List}
-use lib.ListN.{length, get_or, take}
-use Rattle.io.specs.Counts.{IsPrefixLen}
+use lib.ListN.{length, get_or}
 use Rattle.fields.specs.Answer.{Answer}
 use Rattle.result_sheets.specs.Public.{Written}
 use Rattle.text.specs.Text.{spaced, line}
 use Rattle.frame.specs.Framed.{spoiled, sheet, rest, spoiled_line, outcome_text}
 use Rattle.frame.proofs.Laws.{place_in, place_up, not_spoiled, sheet_part, rest_part, text_none, text_spoiled, text_whole, at_front, counted}
 use Rattle.treecover_text.specs.Printed.{map_shown, printed, printed_within, longest_text}
-use Rattle.treecover_text.specs.Demands.{PrintedWhereWhole}
 use Rattle.treecover_text.proofs.Outcome.{text_worth}
 use Rattle.treecover_text.proofs.print_cover.Lts as lts
 use Rattle.treecover_text.proofs.print_cover.Tie as tie

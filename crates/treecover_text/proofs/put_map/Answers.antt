@@ -4,14 +4,10 @@ use mathlib.Core.Path.{sym, ap, subst}
 use mathlib.Core.List.{List}
 use lib.ListN.{length}
 use lib.Seq.{length-take-le}
-use Rattle.fields.specs.Answer.{success}
 use Rattle.map_rules.specs.Public.{of_reply}
 use Rattle.text.specs.Inside.Promises.{Appended}
 use Rattle.frame.proofs.Laws.{refusal_short}
-use Rattle.treecover_text.proofs.Outcome.{Replied, replied}
-use Rattle.treecover_text.proofs.put_map.Lts as lts
-use Rattle.treecover_text.proofs.put_map.Tie as tie
-use Rattle.treecover_text.proofs.put_map.Reads as reads
+use Rattle.treecover_text.proofs.Outcome.{replied}
 use Rattle.treecover_text.proofs.put_map.Goals as goal
 
 pub put_refusal-requires : goal.put_refusal-requires
