@@ -131,17 +131,5 @@ $("$fresh" part 200000 36)
 
 ## The gate
 
-$(grep "passed, [0-9]* failed" "$log" | tail -n 1): $(ls crates | wc -l) crates, $(ls crates/*/must-fail/*.edit | wc -l) edits, on two processors, two jobs at a time.
-By part, the seconds of all jobs added up: $(awk '
-    /^rt: [a-z0-9_]+ proved \([0-9]+ s\)/ { t = $4; sub(/\(/, "", t); proofs += t }
-    /^rt: must-fail / { t = $(NF - 1); sub(/.*; /, "", t); edits += t }
-    /^rt: [a-z0-9_]+ ran/ { t = $(NF - 1); sub(/\(/, "", t); programs += t }
-    END { printf "proofs %d, edits %d, programs run %d.", proofs, edits, programs }' "$log")
-
-| crate | proof, s | edits | an edit, s |
-|---|---|---|---|
-$(awk '
-    /^rt: [a-z0-9_]+ proved \([0-9]+ s\)/ { n = $2; t = $4; sub(/\(/, "", t); order[++k] = n; proof[n] = t }
-    /^rt: must-fail / { split($3, a, "/"); t = $(NF - 1); sub(/.*; /, "", t); n = a[1]; edits[n]++; if (!(n in low) || t + 0 < low[n]) low[n] = t + 0; if (t + 0 > high[n]) high[n] = t + 0 }
-    END { for (i = 1; i <= k; i++) { n = order[i]; printf "| `%s` | %s | %s | %s |\n", n, proof[n], edits[n], (n in low) ? low[n] " to " high[n] : "" } }' "$log")
+$(grep "passed, [0-9]* failed" "$log" | tail -n 1): $(ls crates | wc -l) crates, $(ls crates/*/must-fail/*.edit | wc -l) edits, on $(nproc) processors.
 TEXT
