@@ -6,7 +6,7 @@ import os
 import re
 import sys
 
-# The public operations and readers, by crate; the exported C functions are all that `interface` has.
+# The public operations and readers, by crate; the C functions are all that `interface` and `interface_c` have.
 PUBLIC = {
     "library": ["judge_library"],
     "tree": ["judge_tree"],
@@ -18,6 +18,7 @@ PUBLIC = {
     "bill_text": ["print_bill"],
     "result_sheets": ["read_cover"],
     "interface": [r"treecover_\w+"],
+    "interface_c": [r"treecover_\w+"],
 }
 USE = re.compile(r"^\s*(?:(?:pub|ghost|unfoldable) )*use Rattle\.(\w+?)\.specs\.([\w.-]+?)(?:\.\{(.*?)\}|[ ;]|$)", re.M)
 
