@@ -1,17 +1,15 @@
--- Answers one after another, what a finding says of one, and that a word says its answer.
-use Prim.Native.Nat.{ℕ, ◌+◌, ◌*◌, ◌/◌, ◌%◌, ◌≤◌, ◌<◌}
-use mathlib.Core.Path.{◌≡◌, refl, sym, ap, subst, ◌∙◌}
+-- Answers one after another, and that a word says its answer.
+use Prim.Native.Nat.{ℕ, ◌+◌, ◌*◌, ◌/◌, ◌%◌}
+use mathlib.Core.Path.{◌≡◌, refl, sym, ap}
 use native.Mathlib.Omega.{arith}
 use lib.Dec.{ltb}
 use borrow.Table.Steps.{cases}
 use borrow.Author.Tests.{lt-ltb, le-ltb, ltb-true}
 use Rattle.fields.specs.declared.Fault.{Fault}
-use Rattle.fields.specs.declared.Finding.{Finding}
 use Rattle.fields.specs.declared.Scan.{Scan}
 use Rattle.fields.specs.declared.Scan.TheVariants.{At, Refused}
 use Rattle.fields.specs.Reading.{place, Live}
-use Rattle.fields.specs.Inside.Promises.{finding_of, Says}
-use Rattle.fields.specs.Answer.{Answer, refused_in, refusal, success, said, ◌>>=◌, places, numbers, word, of_word, Bounded, BoundedExactly}
+use Rattle.fields.specs.Answer.{Answer, refused_in, success, said, ◌>>=◌, places, numbers, word, of_word, Bounded, BoundedExactly}
 
 -- An answer refuses or succeeds, with the equation that says which.
 pub answer-cases {χ} : {A : Type 0} {X : Type χ} (o : Answer A) → ((item number place : ℕ) → o ≡ refused_in item number place → X) → ((a : A) → o ≡ success a → X) → X
@@ -53,27 +51,6 @@ pub said_item : {A : Type 0} (number : Fault → ℕ) (x : A × Scan) {item n pl
 unfolding said
 said_item number (a, At c) e = absurd (answer_apart e)
 said_item number (a, Refused f p) e = sym (cc)
-
--- What stands beside a finding holds what the answer hands over.
-pub says_holds : {A B : Type 0} (Holds : A → B → Type 0) (o : Answer A) (f : Finding) (b : B) → Says Holds o f b → (a : A) → o ≡ success a → Holds a b
-says_holds Holds o (Finding.Refused r) b (e, fits) a g = absurd (answer_apart (sym g ∙ e))
-says_holds Holds o Finding.Found b (x, e, h) a g = let both : success x ≡ success a = sym e ∙ g in let same : x ≡ a = cc in subst (λ y. Holds y b) same h
-
--- A refusal that a finding says fits a word.
-pub says_bounded : {A B : Type 0} (Holds : A → B → Type 0) (o : Answer A) (f : Finding) (b : B) → Says Holds o f b → (item number place : ℕ) → o ≡ refused_in item number place → Bounded (refused_in item number place)
-says_bounded Holds o (Finding.Refused r) b (e, fits) item number place g =
-    let both : refusal r ≡ refused_in item number place = sym e ∙ g in
-    let about : r.item ≡ item = cc in
-    let said : r.number ≡ number = cc in
-    let at : r.place ≡ place = cc in
-    subst Bounded (λ i. refused_in (about i) (said i) (at i)) fits
-says_bounded Holds o Finding.Found b (a, e, h) item number place g = absurd (answer_apart (sym e ∙ g))
-
--- The scan after a sheet says what was found of it, if the numbers and the place fit a word.
-pub scan_says : {A B : Type 0} (Holds : A → B → Type 0) (number : Fault → ℕ) (x : A × Scan) (b : B) → ((f : Fault) → (1 ≤ number f) × (number f < numbers)) → place x.1 < places → (Live x.1 → Holds x.0 b) → Says Holds (said number x) (finding_of number x.1) b
-unfolding said Bounded
-scan_says Holds number (a, At c) b few near h = (a, refl, h tt)
-scan_says Holds number (a, Refused f p) b few near h = (refl, (omega arith, (few f).0, (few f).1, near))
 
 pub word_reads : (a : Answer ℕ) → Bounded a → of_word (word a) ≡ a
 unfolding word of_word Bounded

@@ -1,7 +1,6 @@
 -- What every operation answers: refused, with document 01's number and place and the item that the refusal is about; or a success of its own kind.
 use Rattle.std.specs.Prelude.{ℕ, ◌+◌, ◌*◌, ◌/◌, ◌%◌, ◌^◌, ◌≤◌, ◌<◌, ◌≡◌, cond, ltb}
 use Rattle.fields.specs.declared.Fault.{Fault}
-use Rattle.fields.specs.declared.Refusal.{Refusal}
 use Rattle.fields.specs.declared.Scan.{Scan}
 use Rattle.fields.specs.declared.Scan.TheVariants.{At, Refused}
 
@@ -14,10 +13,6 @@ module _ {A : Type 0} where
   -- A refusal that is about no item.
   abbrev pub refused : (number place : ℕ) → Answer A
   refused number place = refused_in 0 number place
-
-  -- The refusal that a record holds.
-  abbrev pub refusal : Refusal → Answer A
-  refusal r = refused_in r.item r.number r.place
 
   -- What a sheet says that was read, or the number and the place of its first fault.
   unfoldable pub said : (Fault → ℕ) → A × Scan → Answer A

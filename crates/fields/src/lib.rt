@@ -28,21 +28,6 @@ pub enum Scan {
     Refused(Fault, usize),
 }
 
-// A refusal: document 01's number and place, and the item that it is about: a tree of a part, or 0 where there is none.
-#[derive(Clone, Copy)]
-pub struct Refusal {
-    pub item: u32,
-    pub number: u32,
-    pub place: usize,
-}
-
-// What was found: a refusal, or that what was asked for is there.
-#[derive(Clone, Copy)]
-pub enum Finding {
-    Refused(Refusal),
-    Found,
-}
-
 // What is to be said of a field's value.
 #[derive(Clone, Copy)]
 pub enum Verdict {

@@ -5,23 +5,26 @@ use Prim.Native.Nat.{ℕ, ◌+◌, ◌≤◌}
 use native.Mathlib.Omega.{arith}
 use lib.ListN.{length, replicate}
 use Rattle.bits.specs.Bits.{ends_at}
-use Rattle.fields.specs.declared.Finding.{Finding}
-use Rattle.fields.specs.declared.Refusal.{Refusal}
-use Rattle.fields.specs.Answer.{refusal, success, on_success, said, Bounded}
+use Rattle.std.specs.Prelude.{Result, Ok, Err}
+use Rattle.bits.specs.declared.Cursor.{Cursor}
+use Rattle.fields.specs.declared.Fault.{Fault}
+use Rattle.fields.specs.Answer.{success, on_success, said, Bounded}
+use Rattle.sheets_rules.specs.declared.Counts.{Counts}
+use Rattle.sheets_rules.specs.declared.Reason.TheVariants.{Library}
+use Rattle.sheets_rules.specs.declared.Refusal.{Refusal}
 use Rattle.fields.specs.declared.Got.{Got}
 use Rattle.fields.specs.declared.Scan.{Scan}
 use Rattle.fields.specs.declared.Scan.TheVariants.{At, Refused}
 use Rattle.fields.specs.Reading.{start, place, times, field, within, ended, Live}
-use Rattle.fields.specs.Inside.Promises.{finding_of, Says, Reads}
-use Rattle.fields.proofs.Answer.{scan_says}
+use Rattle.fields.specs.Inside.Promises.{Reads}
+use Rattle.sheets_rules.proofs.Results.{sound_says, refused_says}
 use Rattle.fields.proofs.Laws.{start_place, value_at_lem, scan_at, length_times, tailed_live, tailed_place}
 use Rattle.sheets_rules.specs.declared.Bins.{Bins}
-use Rattle.sheets_rules.specs.declared.LibraryRecord.{LibraryRecord}
 use Rattle.library.specs.declared.BinsRead.{BinsRead}
 use Rattle.library.specs.declared.CellsRead.{CellsRead}
 use Rattle.sheets_rules.specs.Model.{Pin, bin_load_of, Cell, Pattern, patterns, patterns_from, pins_most}
 use Rattle.sheets_rules.specs.LibrarySheet.{bin_load, bins, cells, library, cell_after}
-use Rattle.sheets_rules.specs.Report.{LibraryLimits, library_number, LibraryCounts, counts_of, library_word, library_said, library_report}
+use Rattle.sheets_rules.specs.Report.{LibraryLimits, LibraryBounded, library_number, counts_of, library_word, library_said, library_report, of_library_judged}
 use Rattle.library.specs.declared.SheetRead.{SheetRead}
 use Rattle.sheets_rules.specs.Inside.Layout.{padded, cell_laid, row_words, table_words, row, table_from, pattern_row, pattern_rows, library_laid}
 use Rattle.sheets_rules.specs.Inside.Readers.{LibraryIs}
@@ -88,44 +91,44 @@ sheet_is s c nb lb nc rc l l' res ec hnb hlb hnc hrc er =
       near = omega (arith, ap place er, tailed_place (ends_at s) rc.scan, hnb.near, hnb.small, hlb.near, hnc.near, hnc.small, hrc.near, ap place ec, start_place);
     }
 
--- With its rows laid out in a table of zeros the library is whole.
-pub library_is : (s l' : List ℕ) (r : SheetRead) (found : Finding) → SheetIs s (replicate table_words 0) l' r → found ≡ finding_of library_number r.scan →
-    LibraryIs s (record { finding = found; library = record { bins = r.bins; count = r.count; total = r.total; rows = l' } })
-unfolding library_laid library_said
-library_is s l' r found h e = record { said = subst (λ (q : Finding). Says LibraryStored (library_said s) q record_is) (ap (finding_of library_number) (sym h.scan_is) ∙ sym e) said; near = λ q g. near r.scan refl (sym g ∙ e) }
-  where
-    record_is : LibraryRecord
-    record_is = record { bins = r.bins; count = r.count; total = r.total; rows = l' }
+-- A library's refusal.
+abbrev pub refused_at : Fault → ℕ → Refusal
+refused_at f p = record { item = 0; reason = Library f; place = p }
 
-    said : Says LibraryStored (library_said s) (finding_of library_number (library s start).1) record_is
-    said =
-        scan_says LibraryStored library_number (library s start) record_is library_number_fits (omega (arith, h.near, ap place h.scan_is))
-        (λ live. let q : Live r.scan = subst Live (sym h.scan_is) live in
-        record { sound = library_limits s live; library_is = λ i. record { bins = h.bins_are q i; count = h.counted q i; total = h.totalled q i; rows = h.laid q i } })
+-- With its rows laid out in a table of zeros the library is whole; or the sheet is refused.
+module _ (s l' : List ℕ) (r : SheetRead) (h : SheetIs s (replicate table_words 0) l' r) where
+  pub library_is : Live r.scan → LibraryIs s (Ok (record { bins = r.bins; count = r.count; total = r.total; rows = l' }))
+  unfolding library_laid library_said
+  library_is q =
+      let live : Live (library s start).1 = subst Live h.scan_is q in
+      record {
+        said = sound_says LibraryStored library_number (library s start) _ live
+            (record { sound = library_limits s live; library_is = λ i. record { bins = h.bins_are q i; count = h.counted q i; total = h.totalled q i; rows = h.laid q i } });
+        near = tt;
+      }
 
-    near : {q : Refusal} (z : Scan) → r.scan ≡ z → Finding.Refused q ≡ finding_of library_number z → q.place ≤ library_bits
-    near (At c) k g = let z : ◌≡◌ {A = ℕ} 0 1 = cc in absurd (omega arith)
-    near {q} (Refused f p) k g = let is : q ≡ record { item = 0; number = library_number f; place = p } = cc in omega (arith, h.near, ap place k, ap (λ (x : Refusal). x.place) is)
+  pub library_refused : {f : Fault} {p : ℕ} → r.scan ≡ Refused f p → LibraryIs s (Err (refused_at f p))
+  unfolding library_said
+  library_refused {f} {p} e =
+      let near : p ≤ library_bits = omega (arith, h.near, ap place e) in
+      record { said = refused_says LibraryStored library_number (library s start) (refused_at f p) (sym h.scan_is ∙ e) refl refl (library_number_fits f) (omega (arith, near)); near = near }
 
 -- ---- what the judge says
 
 module _ (s l l' : List ℕ) (r : SheetRead) (h : SheetIs s l l' r) where
-  abbrev counts : LibraryCounts
-  counts = record { cells = r.count; patterns = r.total }
+  abbrev pub Judged : Result Counts Refusal → Type 0
+  Judged j = (of_library_judged j ≡ library_report s) × LibraryBounded (of_library_judged j)
 
-  abbrev Judged : Finding → Type 0
-  Judged Finding.Found = (success counts ≡ library_report s) × (Bounded (success (library_word counts)) × LibraryLimits (success counts))
-  Judged (Finding.Refused q) = (refusal q ≡ library_report s) × (Bounded (refusal q) × LibraryLimits (refusal q))
+  report : (q : Scan) → r.scan ≡ q → on_success counts_of (said library_number ((library s start).0, q)) ≡ library_report s
+  unfolding library_report
+  report q e = ap (λ (z : Scan). on_success counts_of (said library_number ((library s start).0, z))) (sym e ∙ h.scan_is)
 
-  pub library_judged : (f : Finding) → f ≡ finding_of library_number r.scan → Judged f
-  unfolding library_report library_laid library_word Bounded LibraryLimits
-  library_judged f e = subst Judged (sym e) (go r.scan refl)
-    where
-      report : (q : Scan) → r.scan ≡ q → on_success counts_of (said library_number ((library s start).0, q)) ≡ library_report s
-      report q e = ap (λ (z : Scan). on_success counts_of (said library_number ((library s start).0, z))) (sym e ∙ h.scan_is)
+  pub library_judged : {c : Cursor} → r.scan ≡ At c → Judged (Ok (record { cells = r.count; patterns = r.total }))
+  unfolding of_library_judged library_report library_laid library_word Bounded LibraryLimits on_success said
+  library_judged {c} e =
+      let live : Live r.scan = subst Live (sym e) tt in
+      (ap₂ (λ (n m : ℕ). success (record { cells = n; patterns = m })) (h.counted live) (h.totalled live) ∙ report (At c) e, (omega (arith, h.cells_few, h.patterns_few), (h.cells_few, h.patterns_few)))
 
-      go : (q : Scan) → r.scan ≡ q → Judged (finding_of library_number q)
-      go (At c) e =
-          let live : Live r.scan = subst Live (sym e) tt in
-          (ap₂ (λ (n m : ℕ). success (record { cells = n; patterns = m })) (h.counted live) (h.totalled live) ∙ report (At c) e, (omega (arith, h.cells_few, h.patterns_few), (h.cells_few, h.patterns_few)))
-      go (Refused f p) e = (report (Refused f p) e, (omega (arith, h.near, ap place e, number_bounds f), omega (arith, h.near, ap place e)))
+  pub library_judged_refused : {f : Fault} {p : ℕ} → r.scan ≡ Refused f p → Judged (Err (refused_at f p))
+  unfolding of_library_judged library_report Bounded LibraryLimits on_success said
+  library_judged_refused {f} {p} e = (report (Refused f p) e, (omega (arith, h.near, ap place e, number_bounds f), omega (arith, h.near, ap place e)))

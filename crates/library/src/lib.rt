@@ -3,19 +3,19 @@
 
 ghost use Rattle.std.specs.Prelude.{◌≡◌, cond, ◌||◌, eqb, [], ◌∷◌, ◌+◌, ◌-◌, ◌*◌, ◌≤◌, ◌<◌, length, take};
 ghost use Rattle.std.proofs.lemmas.List.Edits.{sets};
-ghost use Rattle.fields.specs.Inside.Promises.{finding_of};
 ghost use Rattle.sheets_rules.specs.LibrarySheet.{complete, count_verdict};
 ghost use Rattle.sheets_rules.specs.Inside.Layout.{row_words, figures_at, figures, cell_words};
 ghost use Rattle.sheets_rules.specs.Model.{pins_most};
 ghost use Rattle.library.specs.Inside.Promises.{InReach, Tabled, BinsAre, HeadIs, PinIs, PinsAre, PatternIs, RowIs, RowKept, RowsAre, DrawingsAre, CountIs, CellIs, CellsAre, SheetIs};
 ghost use Rattle.sheets_rules.specs.Reach.{bin_bits, head_bits, pin_bits, pattern_bits, count_bits, drawings_bits, cell_bits};
 ghost use Rattle.sheets_rules.specs.Inside.Readers.{LibraryIs};
-ghost use Rattle.sheets_rules.specs.Report.{of_library_judged, LibraryBounded, library_report, library_number};
+ghost use Rattle.sheets_rules.specs.declared.Reason.TheVariants.{Library};
+ghost use Rattle.sheets_rules.specs.Report.{of_library_judged, LibraryBounded, library_report};
 
-use fields::{Fault, Finding, Refusal, Scan, Verdict};
+use fields::{Fault, Scan, Verdict};
 use shapes_rules::Rules;
 use sheets_rules::{
-    Bins, CellRecord, LibraryJudged, LibraryRead, LibraryRecord, Limits, PatternRow, Slots,
+    Bins, CellRecord, Counts, LibraryRecord, Limits, PatternRow, Reason, Refusal, Slots,
 };
 
 // The widths of the library sheet's fields.
@@ -507,65 +507,49 @@ fn read_sheet(s: &[u8], rows: &mut [u32]) -> SheetRead
     }
 }
 
+// A library sheet's refusal.
+fn refuse(fault: Fault, place: usize) -> Refusal
+    ensures { result ≡ record { item = 0; reason = Library fault; place = place } }
+{
+    Refusal {
+        item: 0,
+        reason: Reason::Library(fault),
+        place,
+    }
+}
+
 // The library sheet.
-pub fn read_library(s: &[u8]) -> LibraryRead
+pub fn read_library(s: &[u8]) -> Result<LibraryRecord, Refusal>
     ensures { LibraryIs s.now result }
 {
     let mut rows = [0u32; PatternRow::TABLE];
     let read = read_sheet(s, &mut rows);
     let scan = read.scan;
     let bins = read.bins;
-    LibraryRead {
-        finding: finding_of(scan),
-        library: LibraryRecord {
+    match scan {
+        Scan::At(_) => Ok(LibraryRecord {
             bins,
             count: read.count,
             total: read.total,
             rows,
-        },
+        }),
+        Scan::Refused(fault, place) => Err(refuse(fault, place)),
     }
 }
 
 // Judges a library: its cell count and its pattern count, or what is wrong with it and where. No rows are kept.
-pub fn judge_library(s: &[u8]) -> LibraryJudged
+pub fn judge_library(s: &[u8]) -> Result<Counts, Refusal>
     ensures result_value { of_library_judged result ≡ library_report s.now }
     ensures library_bounded { LibraryBounded (of_library_judged result) }
 {
     let mut none = [0u32; 0];
     let read = read_sheet(s, &mut none);
     let scan = read.scan;
-    match finding_of(scan) {
-        Finding::Found => LibraryJudged::Sound(read.count, read.total),
-        Finding::Refused(refusal) => LibraryJudged::Refused(refusal),
-    }
-}
-
-// What is found of a library by the scan after its sheet.
-fn finding_of(scan: Scan) -> Finding
-    ensures { result ≡ finding_of library_number scan }
-{
     match scan {
-        Scan::At(_) => Finding::Found,
-        Scan::Refused(fault, place) => {
-            let number = library_number(fault);
-            Finding::Refused(Refusal {
-                item: 0,
-                number,
-                place,
-            })
-        }
-    }
-}
-
-// Document 01's number of a fault in a library.
-pub fn library_number(fault: Fault) -> u32
-    ensures { (result ≡ library_number fault) × (result ≤ 6) }
-{
-    match fault {
-        Fault::Truncated => 2,
-        Fault::Tail => 3,
-        Fault::Range => 4,
-        Fault::Drawing => 5,
-        Fault::Size => 6,
+        Scan::At(_) => Ok(Counts {
+            cells: read.count,
+            patterns: read.total,
+        }),
+        Scan::Refused(fault, place) => Err(refuse(fault, place)),
     }
 }

@@ -4,6 +4,7 @@ pub mod Rows
 pub mod Tables
 pub mod LibrarySheet
 pub mod Report
+pub mod Results
 pub mod Examples
 pub mod Sound
 pub mod Patterns

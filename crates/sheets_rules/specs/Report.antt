@@ -1,11 +1,12 @@
 -- What the two judges answer: document 01's number and place of a refusal, or the counts.
-use Rattle.std.specs.Prelude.{ℕ, ◌+◌, ◌*◌, ◌/◌, ◌%◌, ◌≤◌, List, length}
-use Rattle.fields.specs.Answer.{Answer, refused_in, refusal, success, on_success, said, Bounded}
+use Rattle.std.specs.Prelude.{ℕ, ◌+◌, ◌*◌, ◌/◌, ◌%◌, ◌≤◌, List, length, Result, Ok, Err}
+use Rattle.fields.specs.Answer.{Answer, refused_in, success, on_success, said, Bounded}
 use Rattle.fields.specs.Reading.{start}
 use Rattle.fields.specs.declared.Fault.{Fault}
 use Rattle.fields.specs.declared.Fault.TheVariants.{Truncated, Tail, Range, Drawing, Size}
-use Rattle.sheets_rules.specs.declared.LibraryJudged as LibraryJudged
-use Rattle.sheets_rules.specs.declared.TreeJudged as TreeJudged
+use Rattle.sheets_rules.specs.declared.Counts.{Counts}
+use Rattle.sheets_rules.specs.declared.Reason.{Reason}
+use Rattle.sheets_rules.specs.declared.Refusal.{Refusal}
 use Rattle.sheets_rules.specs.Model.{Library, Tree, patterns, size}
 use Rattle.sheets_rules.specs.LibrarySheet.{library}
 use Rattle.sheets_rules.specs.TreeSheet.{tree}
@@ -21,6 +22,26 @@ library_number Size = 6
 
 unfoldable pub tree_number : Fault → ℕ
 tree_number f = library_number f + 10
+
+-- The number of each reason for which a call is refused: these, and documents 01's and 02's others.
+abbrev pub number_of : Reason → ℕ
+number_of Reason.Short = 1
+number_of (Reason.Library f) = library_number f
+number_of (Reason.Tree f) = tree_number f
+number_of Reason.Crowded = 7
+number_of Reason.NoCover = 8
+number_of Reason.CoverSheet = 22
+number_of Reason.Match = 23
+number_of Reason.Figures = 24
+number_of (Reason.FunctionSheet f) = library_number f + 29
+number_of Reason.Function = 33
+number_of Reason.Link = 41
+number_of Reason.Driver = 42
+number_of Reason.Late = 43
+
+-- The refusal that a record holds.
+abbrev pub refusal : {A : Type 0} → Refusal → Answer A
+refusal r = refused_in r.item (number_of r.reason) r.place
 
 -- How many cells and patterns a library has, and the two in one word.
 pub record LibraryCounts : Type 0 where
@@ -76,11 +97,13 @@ unfoldable pub TreeLimits : Answer ℕ → Type 0
 TreeLimits (refused_in item number place) = TreeRefusal number × (place ≤ tree_bits)
 TreeLimits (success nodes) = nodes ≤ 64
 
--- What each case of the judges' enums says.
-unfoldable pub of_library_judged : LibraryJudged.LibraryJudged → Answer LibraryCounts
-of_library_judged (LibraryJudged.TheVariants.Sound cells patterns) = success (record { cells = cells; patterns = patterns })
-of_library_judged (LibraryJudged.TheVariants.Refused r) = refusal r
+-- What each case of a result says: the refusal, or the success, seen as the papers' values.
+abbrev pub answer_by : {A B : Type 0} → (A → B) → Result A Refusal → Answer B
+answer_by f (Ok a) = success (f a)
+answer_by f (Err r) = refusal r
 
-unfoldable pub of_tree_judged : TreeJudged.TreeJudged → Answer ℕ
-of_tree_judged (TreeJudged.TheVariants.Sound nodes) = success nodes
-of_tree_judged (TreeJudged.TheVariants.Refused r) = refusal r
+unfoldable pub of_library_judged : Result Counts Refusal → Answer LibraryCounts
+of_library_judged = answer_by (λ n. record { cells = n.cells; patterns = n.patterns })
+
+unfoldable pub of_tree_judged : Result ℕ Refusal → Answer ℕ
+of_tree_judged = answer_by (λ nodes. nodes)

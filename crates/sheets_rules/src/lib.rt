@@ -1,7 +1,39 @@
 // The library sheet and the tree sheet: the limits, and the types that their definitions and the promises of their readers speak of.
 #![tactic(auto)]
 
-use fields::{Finding, Refusal, Scan};
+use fields::{Fault, Scan};
+
+// Why a call is refused: each reason has its number in the papers.
+#[derive(Clone, Copy)]
+pub enum Reason {
+    // Too little is lent.
+    Short,
+    // A fault of the library sheet, or of a tree sheet.
+    Library(Fault),
+    Tree(Fault),
+    // More trade-offs at a node than it may have; no cover in time.
+    Crowded,
+    NoCover,
+    // The cover sheet is torn or has a bad tail; a match stands wrongly, or the list ends early; a stated figure is not true.
+    CoverSheet,
+    Match,
+    Figures,
+    // A fault of the function sheet; a drawing that computes another function.
+    FunctionSheet(Fault),
+    Function,
+    // A fault of a part's counts and links; a driver that is not lower; a linked arrival that is too late.
+    Link,
+    Driver,
+    Late,
+}
+
+// A refusal: why and where, and the item that it is about: a tree of a part, or 0 where there is none.
+#[derive(Clone, Copy)]
+pub struct Refusal {
+    pub item: u32,
+    pub reason: Reason,
+    pub place: usize,
+}
 
 // The papers' limits: of the sheets, of what the operations are lent, and of the program's input; and the base of a point's word, which they fix.
 #[derive(Clone, Copy)]
@@ -137,18 +169,11 @@ pub struct LibraryRecord {
     pub rows: [u32; PatternRow::TABLE],
 }
 
-// What a judge of libraries answers: the cell count and the pattern count, or the refusal.
+// How many cells and patterns a library has.
 #[derive(Clone, Copy)]
-pub enum LibraryJudged {
-    Sound(usize, usize),
-    Refused(Refusal),
-}
-
-// The whole library, if the sheet is sound, or its refusal.
-#[derive(Clone, Copy)]
-pub struct LibraryRead {
-    pub finding: Finding,
-    pub library: LibraryRecord,
+pub struct Counts {
+    pub cells: usize,
+    pub patterns: usize,
 }
 
 // A tree as decoded: its nodes' symbols in preorder, and how many nodes stand under each.
@@ -161,23 +186,9 @@ pub struct TreeRecord {
     pub sizes: [u8; Limits::TREE_NODES],
 }
 
-// What a judge of trees answers: the node count, or the refusal.
-#[derive(Clone, Copy)]
-pub enum TreeJudged {
-    Sound(usize),
-    Refused(Refusal),
-}
-
 // The whole tree, and the scan after it.
 #[derive(Clone, Copy)]
 pub struct TreeScanned {
     pub scan: Scan,
-    pub tree: TreeRecord,
-}
-
-// The whole tree, if the sheet is sound, or its refusal.
-#[derive(Clone, Copy)]
-pub struct TreeRead {
-    pub finding: Finding,
     pub tree: TreeRecord,
 }

@@ -6,21 +6,25 @@ use native.Mathlib.Omega.{arith}
 use lib.ListN.{replicate}
 use mathlib.Core.Bool.{Bool, true}
 use Rattle.shapes.specs.declared.ShapeRead.{ShapeRead}
-use Rattle.fields.specs.declared.Finding.{Finding}
-use Rattle.fields.specs.Answer.{refusal, success, on_success, said, Bounded}
+use Rattle.std.specs.Prelude.{Result, Ok, Err}
+use Rattle.bits.specs.declared.Cursor.{Cursor}
+use Rattle.fields.specs.declared.Fault.{Fault}
+use Rattle.fields.specs.Answer.{success, on_success, said, Bounded}
+use Rattle.sheets_rules.specs.declared.Reason.TheVariants.{Tree as TreeFault}
+use Rattle.sheets_rules.specs.declared.Refusal.{Refusal}
 use Rattle.fields.specs.declared.Got.{Got}
 use Rattle.fields.specs.declared.Scan.{Scan}
 use Rattle.fields.specs.declared.Scan.TheVariants.{At, Refused}
 use Rattle.fields.specs.Reading.{start, place, field, within, tailed, Live}
 use Rattle.shapes_rules.specs.Drawing.{shape}
-use Rattle.fields.specs.Inside.Promises.{finding_of, Says, Reads}
-use Rattle.fields.proofs.Answer.{scan_says}
+use Rattle.fields.specs.Inside.Promises.{Reads}
+use Rattle.sheets_rules.proofs.Results.{sound_says, refused_says}
 use Rattle.shapes.specs.Inside.Promises.{ShapeIs, Preorder, SizesSet}
 use Rattle.fields.proofs.Laws.{start_place, value_at_lem, scan_at, tailed_live, tailed_place}
 use Rattle.shapes_rules.proofs.Drawing.{length_symbols}
 use Rattle.shapes.proofs.Wholes.{drawn_is}
 use Rattle.sheets_rules.specs.TreeSheet.{tree_rules, tail_at, tree_to, tree}
-use Rattle.sheets_rules.specs.Report.{TreeLimits, tree_number, tree_said, tree_report}
+use Rattle.sheets_rules.specs.Report.{TreeLimits, tree_number, tree_said, tree_report, of_tree_judged}
 use Rattle.tree.specs.declared.TreeHead.{TreeHead}
 use Rattle.sheets_rules.specs.Inside.Layout.{tree_laid}
 use Rattle.sheets_rules.specs.Inside.Readers.{TreeIs, TreeToIs}
@@ -71,28 +75,36 @@ tree_is last s l' m' r h hs = record {
   near = h.near;
 }
 
+-- A tree's refusal.
+abbrev pub refused_at : Fault → ℕ → Refusal
+refused_at f p = record { item = 0; reason = TreeFault f; place = p }
+
 -- A sheet of its own: the tree, or the sheet's refusal.
-pub tree_read : (s : List ℕ) (r : TreeScanned) (found : Finding) → TreeToIs s true r → found ≡ finding_of tree_number r.scan → TreeIs s (record { finding = found; tree = r.tree })
-unfolding tree_said
-tree_read s r found h e =
-    subst (λ (q : Finding). Says TreeStored (tree_said s) q r.tree) (ap (finding_of tree_number) (sym h.scan_is) ∙ sym e)
-    (scan_says TreeStored tree_number (tree s start) r.tree tree_number_fits (omega (arith, h.near, ap place h.scan_is))
-    (λ live. record { sound = tree_limits s live; tree_is = h.laid (subst Live (sym h.scan_is) live) }))
+module _ (s : List ℕ) (r : TreeScanned) (h : TreeToIs s true r) where
+  pub tree_read : Live r.scan → TreeIs s (Ok r.tree)
+  unfolding tree_said
+  tree_read q =
+      let live : Live (tree s start).1 = subst Live h.scan_is q in
+      sound_says TreeStored tree_number (tree s start) r.tree live (record { sound = tree_limits s live; tree_is = h.laid q })
+
+  pub tree_refused : {f : Fault} {p : ℕ} → r.scan ≡ Refused f p → TreeIs s (Err (refused_at f p))
+  unfolding tree_said
+  tree_refused {f} {p} e = refused_says TreeStored tree_number (tree s start) (refused_at f p) (sym h.scan_is ∙ e) refl refl (tree_number_fits f) (omega (arith, h.near, ap place e))
 
 -- ---- what the judge says
 
 module _ (s l' : List ℕ) (r : TreeHead) (h : NodesAre s true l' r) where
-  abbrev Judged : Finding → Type 0
-  Judged Finding.Found = (success r.count ≡ tree_report s) × (Bounded (success r.count) × TreeLimits (success r.count))
-  Judged (Finding.Refused q) = (refusal q ≡ tree_report s) × (Bounded (refusal q) × TreeLimits (refusal q))
+  abbrev pub Judged : Result ℕ Refusal → Type 0
+  Judged j = (of_tree_judged j ≡ tree_report s) × (Bounded (of_tree_judged j) × TreeLimits (of_tree_judged j))
 
-  pub tree_judged_lem : (f : Finding) → f ≡ finding_of tree_number r.scan → Judged f
-  unfolding tree_report tree_number Bounded TreeLimits
-  tree_judged_lem f e = subst Judged (sym e) (go r.scan refl)
-    where
-      report : (q : Scan) → r.scan ≡ q → on_success (λ (t : Tree). size t.shape) (said tree_number ((tree s start).0, q)) ≡ tree_report s
-      report q e = ap (λ (z : Scan). on_success (λ (t : Tree). size t.shape) (said tree_number ((tree s start).0, z))) (sym e ∙ h.scan_is)
+  report : (q : Scan) → r.scan ≡ q → on_success (λ (t : Tree). size t.shape) (said tree_number ((tree s start).0, q)) ≡ tree_report s
+  unfolding tree_report
+  report q e = ap (λ (z : Scan). on_success (λ (t : Tree). size t.shape) (said tree_number ((tree s start).0, z))) (sym e ∙ h.scan_is)
 
-      go : (q : Scan) → r.scan ≡ q → Judged (finding_of tree_number q)
-      go (At c) e = (ap success (h.counted (subst Live (sym e) tt)) ∙ report (At c) e, (omega (arith, h.nodes_few), h.nodes_few))
-      go (Refused f p) e = (report (Refused f p) e, (omega (arith, h.near, ap place e, number_bounds f), (tree_refusal s true (sym h.scan_is ∙ e), omega (arith, h.near, ap place e))))
+  pub tree_judged_lem : {c : Cursor} → r.scan ≡ At c → Judged (Ok r.count)
+  unfolding of_tree_judged tree_report Bounded TreeLimits on_success said
+  tree_judged_lem {c} e = (ap success (h.counted (subst Live (sym e) tt)) ∙ report (At c) e, (omega (arith, h.nodes_few), h.nodes_few))
+
+  pub tree_judged_refused : {f : Fault} {p : ℕ} → r.scan ≡ Refused f p → Judged (Err (refused_at f p))
+  unfolding of_tree_judged tree_report tree_number Bounded TreeLimits on_success said
+  tree_judged_refused {f} {p} e = (report (Refused f p) e, (omega (arith, h.near, ap place e, number_bounds f), (tree_refusal s true (sym h.scan_is ∙ e), omega (arith, h.near, ap place e))))

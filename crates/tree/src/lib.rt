@@ -3,17 +3,17 @@
 
 ghost use Rattle.std.specs.Prelude.{◌≡◌, ◌<◌, ◌≤◌, ◌^◌, replicate};
 ghost use Rattle.fields.specs.Answer.{Bounded};
-ghost use Rattle.fields.specs.Inside.Promises.{finding_of};
 ghost use Rattle.fields.specs.Reading.{place, tailed, Live};
 ghost use Rattle.shapes.specs.Inside.Promises.{Preorder, SizesSet};
 ghost use Rattle.tree.specs.Inside.Promises.{NodesAre};
 ghost use Rattle.sheets_rules.specs.TreeSheet.{tail_at};
 ghost use Rattle.sheets_rules.specs.Inside.Readers.{TreeToIs, TreeIs};
-ghost use Rattle.sheets_rules.specs.Report.{of_tree_judged, TreeLimits, tree_report, tree_number};
+ghost use Rattle.sheets_rules.specs.declared.Reason.TheVariants.{Tree};
+ghost use Rattle.sheets_rules.specs.Report.{of_tree_judged, TreeLimits, tree_report};
 
-use fields::{Fault, Finding, Refusal, Scan};
+use fields::{Fault, Scan};
 use shapes_rules::Rules;
-use sheets_rules::{Limits, TreeJudged, TreeRead, TreeRecord, TreeScanned};
+use sheets_rules::{Limits, Reason, Refusal, TreeRecord, TreeScanned};
 
 // The widths of the tree sheet's fields.
 #[derive(Clone, Copy)]
@@ -109,61 +109,39 @@ pub fn read_tree_to(s: &[u8], last: bool) -> TreeScanned
     }
 }
 
+// A tree sheet's refusal.
+fn refuse(fault: Fault, place: usize) -> Refusal
+    ensures { result ≡ record { item = 0; reason = Tree fault; place = place } }
+{
+    Refusal {
+        item: 0,
+        reason: Reason::Tree(fault),
+        place,
+    }
+}
+
 // The tree sheet.
-pub fn read_tree(s: &[u8]) -> TreeRead
+pub fn read_tree(s: &[u8]) -> Result<TreeRecord, Refusal>
     ensures { TreeIs s.now result }
 {
     let read = read_tree_to(s, true);
     let scan = read.scan;
-    let tree = read.tree;
-    TreeRead {
-        finding: finding_of(scan),
-        tree,
-    }
-}
-
-// What is found of a tree by the scan after its sheet.
-fn finding_of(scan: Scan) -> Finding
-    ensures { result ≡ finding_of tree_number scan }
-{
     match scan {
-        Scan::At(_) => Finding::Found,
-        Scan::Refused(fault, place) => {
-            let number = tree_number(fault);
-            Finding::Refused(Refusal {
-                item: 0,
-                number,
-                place,
-            })
-        }
+        Scan::At(_) => Ok(read.tree),
+        Scan::Refused(fault, place) => Err(refuse(fault, place)),
     }
 }
 
 // Judges a tree: its node count, or what is wrong with it and where. No sizes are set.
-pub fn judge_tree(s: &[u8]) -> TreeJudged
+pub fn judge_tree(s: &[u8]) -> Result<usize, Refusal>
     ensures result_value { of_tree_judged result ≡ tree_report s.now }
     ensures bounded { Bounded (of_tree_judged result) × TreeLimits (of_tree_judged result) }
 {
     let mut symbols = [0u32; Limits::TREE_NODES];
     let read = read_nodes(s, true, &mut symbols);
     let scan = read.scan;
-    match finding_of(scan) {
-        Finding::Found => TreeJudged::Sound(read.count),
-        Finding::Refused(refusal) => TreeJudged::Refused(refusal),
+    match scan {
+        Scan::At(_) => Ok(read.count),
+        Scan::Refused(fault, place) => Err(refuse(fault, place)),
     }
-}
-
-// How far the numbers of a tree's faults stand above those of a library's.
-#[derive(Clone, Copy)]
-struct Numbers {}
-
-impl Numbers {
-    const TREE: u32 = 10;
-}
-
-// Document 01's number of a fault in a tree.
-pub fn tree_number(fault: Fault) -> u32
-    ensures { (result ≡ tree_number fault) × (result ≤ 16) }
-{
-    library::library_number(fault) + Numbers::TREE
 }

@@ -1,14 +1,11 @@
 -- What the readers of this crate promise, each by the definitions of Reading.
 use Rattle.std.specs.Prelude.{ℕ, ◌≤◌, ◌≡◌}
-use Rattle.fields.specs.declared.Fault.{Fault}
-use Rattle.fields.specs.declared.Finding.{Finding}
 use Rattle.fields.specs.declared.Got.{Got}
 use Rattle.fields.specs.declared.GotWide.{GotWide}
 use Rattle.fields.specs.declared.Scan.{Scan}
 use Rattle.fields.specs.declared.Scan.TheVariants.{At, Refused}
 use Rattle.fields.specs.declared.Verdict.{Verdict}
 use Rattle.fields.specs.declared.Verdict.TheVariants.{Sound, Faulty}
-use Rattle.fields.specs.Answer.{Answer, refusal, success, Bounded}
 use Rattle.fields.specs.Reading.{place}
 
 -- The field x was read: its value, at most `most`, and the scan after it, at `reach` at the most.
@@ -30,13 +27,3 @@ settling_at before got (Refused f p) verdict = got
 
 abbrev pub settling : Scan → Got → Verdict → Got
 settling before got verdict = settling_at before got got.scan verdict
-
--- What is found of a sheet by the scan after it.
-abbrev pub finding_of : (Fault → ℕ) → Scan → Finding
-finding_of number (At c) = Finding.Found
-finding_of number (Refused f p) = Finding.Refused (record { item = 0; number = number f; place = p })
-
--- What a finding says of an answer: its refusal, which fits a word; or that it is a success, and what stands beside the finding holds it.
-abbrev pub Says : {A B : Type 0} → (A → B → Type 0) → Answer A → Finding → B → Type 0
-Says Holds o (Finding.Refused r) b = (o ≡ refusal r) × Bounded (refusal r)
-Says {A} Holds o Finding.Found b = (a : A) × (o ≡ success a) × Holds a b

@@ -1,26 +1,30 @@
 -- What the readers of whole sheets promise.
-use Rattle.std.specs.Prelude.{ℕ, ◌≤◌, ◌≡◌, List, Bool}
-use Rattle.fields.specs.declared.Finding.TheVariants.{Refused}
-use Rattle.fields.specs.declared.Refusal.{Refusal}
+use Rattle.std.specs.Prelude.{ℕ, ◌≤◌, ◌≡◌, List, Bool, Result, Ok, Err, IfErr}
 use Rattle.fields.specs.Reading.{place, start, Live}
-use Rattle.fields.specs.Inside.Promises.{Says}
-use Rattle.sheets_rules.specs.declared.LibraryRead.{LibraryRead}
-use Rattle.sheets_rules.specs.declared.TreeRead.{TreeRead}
+use Rattle.fields.specs.Answer.{Answer, success, Bounded}
+use Rattle.sheets_rules.specs.declared.LibraryRecord.{LibraryRecord}
+use Rattle.sheets_rules.specs.declared.TreeRecord.{TreeRecord}
+use Rattle.sheets_rules.specs.declared.Refusal.{Refusal}
 use Rattle.sheets_rules.specs.declared.TreeScanned.{TreeScanned}
 use Rattle.sheets_rules.specs.TreeSheet.{tree_to}
 use Rattle.sheets_rules.specs.Reach.{library_bits, tree_bits}
-use Rattle.sheets_rules.specs.Report.{library_said, tree_said}
+use Rattle.sheets_rules.specs.Report.{refusal, library_said, tree_said}
 use Rattle.sheets_rules.specs.Inside.Layout.{tree_laid}
 use Rattle.sheets_rules.specs.Inside.Sound.{LibraryStored, TreeStored}
 
+-- What a result says of an answer: its refusal, which fits a word; or that it is a success, and what the result hands over holds it.
+abbrev pub Says : {A B : Type 0} → (A → B → Type 0) → Answer A → Result B Refusal → Type 0
+Says Holds o (Err r) = (o ≡ refusal r) × Bounded (refusal r)
+Says {A} Holds o (Ok b) = (a : A) × (o ≡ success a) × Holds a b
+
 module _ (s : List ℕ) where
   -- The library and the tree on a whole sheet, or the sheet's refusal.
-  pub record LibraryIs (r : LibraryRead) : Type 0 where
-    pub said : Says LibraryStored (library_said s) r.finding r.library
-    pub near : (q : Refusal) → r.finding ≡ Refused q → q.place ≤ library_bits
+  pub record LibraryIs (r : Result LibraryRecord Refusal) : Type 0 where
+    pub said : Says LibraryStored (library_said s) r
+    pub near : IfErr r (λ (q : Refusal). q.place ≤ library_bits)
 
-  abbrev pub TreeIs : TreeRead → Type 0
-  TreeIs r = Says TreeStored (tree_said s) r.finding r.tree
+  abbrev pub TreeIs : Result TreeRecord Refusal → Type 0
+  TreeIs = Says TreeStored (tree_said s)
 
   -- A tree, before another of a part or not: the sheet's scan and, if it was not refused, the record that lays out its value. The nodes keep their limit either way.
   pub record TreeToIs (last : Bool) (r : TreeScanned) : Type 0 where
