@@ -2,11 +2,9 @@
 
 #![tactic(auto)]
 
-use fields::Refusal;
-
-// What the judge of covers answers: area and arrival, or the refusal.
+// The area and the arrival of an accepted cover.
 #[derive(Clone, Copy)]
-pub enum CoverJudged {
-    Accepted(u32, u32),
-    Refused(Refusal),
+pub struct Figures {
+    pub area: u32,
+    pub arrival: u32,
 }

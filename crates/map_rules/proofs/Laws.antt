@@ -12,16 +12,16 @@ use lib.Seq.{take-append_seam, drop-append_seam}
 use borrow.Rule.Slice.PartMut.{mid_of, put_mid, mid_len, drop_put}
 use Rattle.fields.specs.declared.Fault.{Fault}
 use Rattle.fields.specs.declared.Fault.TheVariants.{Truncated, Tail, Range, Drawing, Size}
-use Rattle.fields.specs.declared.Refusal.{Refusal}
 use Rattle.fields.specs.declared.Scan.{Scan}
 use Rattle.fields.specs.declared.Scan.TheVariants.{At, Refused}
 use Rattle.fields.specs.Reading.{start}
-use Rattle.fields.specs.Answer.{Answer, refused_in, refusal, success, said, in_item, ◌>>=◌, on_success, Bounded}
+use Rattle.fields.specs.Answer.{Answer, refused_in, success, said, in_item, ◌>>=◌, on_success, Bounded}
 use Rattle.fields.proofs.Answer.{after_success, after_refused}
 use Rattle.sheets_rules.specs.Model.{Library, Tree}
 use Rattle.sheets_rules.specs.LibrarySheet.{library}
 use Rattle.sheets_rules.specs.TreeSheet.{tree}
-use Rattle.sheets_rules.specs.Report.{library_number, tree_number, library_said, tree_said}
+use Rattle.sheets_rules.specs.declared.Refusal.{Refusal}
+use Rattle.sheets_rules.specs.Report.{library_number, tree_number, number_of, refusal, library_said, tree_said}
 use Rattle.sheets_rules.specs.Inside.Sound.{SoundTree}
 use Rattle.covers.specs.Tradeoff.{nodes, tradeoffs, overfull, overfull_node}
 use Rattle.covers.specs.Choice.{choice}
@@ -151,7 +151,7 @@ followed f {output = output} {output'} {work} {work'} {a} e = subst (λ (o : Ans
 pub stopped : {A : Type 0} (f : A → Answer (List ℕ)) {r : Answer A} (q : Refusal) (output work : List ℕ) → Sparing r → r ≡ refusal q → Bounded (refusal q) → Operated (r >>= f) output output work work (refusal q)
 unfolding told on_success output_after work_after
 stopped f q output work spared e fits =
-    let spares : Spares q.number = subst Sparing e spared in
+    let spares : Spares (number_of q.reason) = subst Sparing e spared in
     subst (λ (o : Answer (List ℕ)). Operated o output output work work (refusal q)) (sym (after_refused f e)) (record { told_is = refl; output_is = refl; work_is = rw spares refl; bounded = fits })
 
 -- ---- what it is worth

@@ -1,16 +1,16 @@
 -- What an operation replies, what it leaves in what it is lent, and the whole contracts of map and list.
-use Rattle.std.specs.Prelude.{◌≡◌, List, ℕ, length}
-use Rattle.fields.specs.Answer.{Answer, refused_in, refusal, success, Bounded}
+use Rattle.std.specs.Prelude.{◌≡◌, List, ℕ, length, Result, Ok, Err}
+use Rattle.fields.specs.Answer.{Answer, refused_in, success, Bounded}
+use Rattle.sheets_rules.specs.declared.Refusal.{Refusal}
+use Rattle.sheets_rules.specs.Report.{refusal}
 use Rattle.covers.specs.Lending.{told, output_after, observed, work_after}
 use Rattle.covers.specs.Outcome.{map_bytes, list_bytes, map_outcome, list_outcome}
 use Rattle.covers.specs.Demands.{MapDemands, ListDemands, WhereSound}
-use Rattle.map_rules.specs.declared.Reply.{Reply}
-use Rattle.map_rules.specs.declared.Reply.TheVariants.{Refused, Sheets}
 
 -- What each case of the reply says: the refusal, or how many bytes the sheets take.
-unfoldable pub of_reply : Reply → Answer ℕ
-of_reply (Refused r) = refusal r
-of_reply (Sheets n) = success n
+unfoldable pub of_reply : Result ℕ Refusal → Answer ℕ
+of_reply (Err r) = refusal r
+of_reply (Ok n) = success n
 
 -- What the caller is told is the outcome's, within the bounds of a word, and output and work area are what the outcome leaves.
 pub record Operated (o : Answer (List ℕ)) (output output' work work' : List ℕ) (a : Answer ℕ) : Type 0 where

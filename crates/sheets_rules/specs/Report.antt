@@ -97,13 +97,11 @@ unfoldable pub TreeLimits : Answer ℕ → Type 0
 TreeLimits (refused_in item number place) = TreeRefusal number × (place ≤ tree_bits)
 TreeLimits (success nodes) = nodes ≤ 64
 
--- What each case of a result says: the refusal, or the success, seen as the papers' values.
-abbrev pub answer_by : {A B : Type 0} → (A → B) → Result A Refusal → Answer B
-answer_by f (Ok a) = success (f a)
-answer_by f (Err r) = refusal r
-
+-- What each case of the judges' results says.
 unfoldable pub of_library_judged : Result Counts Refusal → Answer LibraryCounts
-of_library_judged = answer_by (λ n. record { cells = n.cells; patterns = n.patterns })
+of_library_judged (Ok n) = success (record { cells = n.cells; patterns = n.patterns })
+of_library_judged (Err r) = refusal r
 
 unfoldable pub of_tree_judged : Result ℕ Refusal → Answer ℕ
-of_tree_judged = answer_by (λ nodes. nodes)
+of_tree_judged (Ok nodes) = success nodes
+of_tree_judged (Err r) = refusal r

@@ -1,20 +1,16 @@
 use native.Mathlib.Omega.{arith}
-use Rattle.covers.specs.Capacity.{work_words}
+use Prim.Native.Nat.{ℕ}
+use mathlib.Core.Path.{◌≡◌, ap, ◌∙◌}
+use mathlib.Core.List.{List, ◌++◌}
+use lib.ListN.{drop, take, length, replicate}
+use Rattle.std.proofs.lemmas.List.{length-take-le}
 use Rattle.covers.specs.Lending.{cleared}
-use Rattle.result_sheets.proofs.Laws.{clear_none, clear_turn, clear_done}
 use Rattle.lending.proofs.clear.Goals as goal
-
-pub loop-k-init : goal.loop-k-init
-loop-k-init c = (omega arith, clear_none c.args.work.now)
-
-pub loop-k-preserved : goal.loop-k-preserved
-loop-k-preserved c =
-    let i = c.loop-k in
-    (omega arith, clear_turn c.args.work.now i.work i.k (omega arith) i.invariant.1)
 
 pub returns : goal.returns
 unfolding cleared
 returns c =
-    let a = c.args in
-    let i = c.loop-k in
-    clear_done a.work.now i.work i.k (work_words a.most) (omega (arith, c.words-count.ensures)) i.invariant.1
+    let n = c.words.result in
+    let long : length (take n c.args.work.now) ≡ n = length-take-le n _ (omega (arith, c.words.ensures)) in
+    ap (λ (zeros : List ℕ). zeros ++ drop n c.args.work.now) (c.fill.ensures.after (λ y e. e) ∙ ap (λ (k : ℕ). replicate k 0) long)
+    ∙ ap (λ (k : ℕ). replicate k 0 ++ drop k c.args.work.now) c.words.ensures
