@@ -95,7 +95,10 @@ impl Cursor {
         let Cursor { byte, used } = self;
         let next = self.on(width);
         if next.inside(bytes) {
-            return Some((cut(word(opening, byte), Cursor::WORD_BITS, used, width), next));
+            return Some((
+                cut(word(opening, byte), Cursor::WORD_BITS, used, width),
+                next,
+            ));
         }
         None
     }

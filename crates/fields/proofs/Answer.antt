@@ -7,8 +7,8 @@ use borrow.Table.Steps.{cases}
 use borrow.Author.Tests.{lt-ltb, le-ltb, ltb-true}
 use Rattle.fields.specs.declared.Fault.{Fault}
 use Rattle.fields.specs.declared.Finding.{Finding}
-use Rattle.fields.specs.declared.Scan.{Scan}
-use Rattle.fields.specs.declared.Scan.TheVariants.{At, Refused}
+use Rattle.fields.specs.Reading.{Scan}
+use Rattle.fields.specs.Reading.{At, Refused}
 use Rattle.fields.specs.Reading.{place, Live}
 use Rattle.fields.specs.Inside.Promises.{finding_of, Says}
 use Rattle.fields.specs.Answer.{Answer, refused_in, refusal, success, said, ◌>>=◌, places, numbers, word, of_word, Bounded, BoundedExactly}
