@@ -1,6 +1,6 @@
 -- Laws about fields written one after another, matches appended, and a cover read.
-use Prim.Native.Nat.{ℕ, zero, suc, ◌+◌, ◌*◌, ◌/◌, ◌%◌, ◌≤◌, ◌<◌}
-use mathlib.Core.Path.{◌≡◌, refl, sym, ap, ap₂, ◌∙◌}
+use Prim.Native.Nat.{ℕ, zero, suc, ◌+◌, ◌-◌, ◌*◌, ◌/◌, ◌%◌, ◌^◌, ◌≤◌, ◌<◌}
+use mathlib.Core.Path.{◌≡◌, refl, sym, ap, ap₂, subst, ◌∙◌}
 use mathlib.Core.List.{List, [], ◌∷◌, ◌++◌, map, map-append, reverse, reverse-append}
 use native.Mathlib.Nat.{add-zero, zero-add, add_assoc}
 use native.Mathlib.Omega.{arith}
@@ -8,15 +8,18 @@ use native.Mathlib.Numerals.{add-one}
 use lib.ListN.{length, take, drop, get_or, set, replicate, length-replicate, length-reverse, length-map, length-append, get_or-append, length-take}
 use lib.Seq.{sets, set-append_left, take-suc, take_all, drop-cons, length-take-le}
 use Rattle.std.proofs.lemmas.List.{get_or-take, drop_all}
-use Rattle.bits.specs.Bits.{ends_at, cursor_at, after, with_digit, with_bit, with_field, bytes_to}
+use Rattle.bits.specs.Bits.{place_of, after, with_digit, with_bit, with_field, bytes_to}
 use Rattle.bits.proofs.Laws.{length_bit, length_field}
-use Rattle.fields.specs.declared.Scan.{Scan}
-use Rattle.fields.specs.declared.Got.{Got}
-use Rattle.fields.specs.Reading.{place, start, times, free, field, ended}
-use Rattle.fields.specs.Inside.Promises.{Reads}
+use Rattle.std.specs.Prelude.{Result, Ok, Err, IsErrAnd}
+use Rattle.std.proofs.lemmas.Result.{err_from_is_err_and}
+use Rattle.bits.specs.declared.Cursor.{Cursor}
+use Rattle.fields.specs.declared.Fault.{Fault}
+use Rattle.fields.specs.declared.Flaw.{Flaw}
+use Rattle.fields.specs.Reading.{Scan, At, Refused, Live, start, times, free, field, ended}
+use Rattle.fields.specs.Inside.Promises.{Took, Flawed, UpTo, Told}
+use Rattle.fields.proofs.Readers.{keeps_times}
 use Rattle.fields.proofs.Lists.{sets_append, take_sets, at_map}
-use Rattle.fields.proofs.Laws.{value_at_lem, scan_at, length_times, tailed_place}
-use Rattle.fields.specs.declared.Scan.TheVariants.{At}
+use Rattle.fields.proofs.Laws.{length_times}
 use Rattle.covers.specs.Cover.{Point, Placed, Cover}
 use Rattle.fields.specs.Written.{Field, widths, written, packed}
 use Rattle.fields.proofs.Written.{length_packed}
@@ -25,9 +28,8 @@ use Rattle.covers.proofs.SheetLengths.{cover_sheet_length, list_sheet_length, co
 use Rattle.covers.specs.Inside.Curve.{base, point_of}
 use Rattle.result_sheets.specs.declared.MatchRecord.{MatchRecord}
 use Rattle.result_sheets.specs.declared.CoverRecord.{CoverRecord}
-use Rattle.result_sheets.specs.declared.CoverRead.{CoverRead}
-use Rattle.result_sheets.specs.Public.{placed_of, record_of, bare_cover, appended, cover_of, cover_bits, Written, CoverIs}
-use Rattle.result_sheets.specs.Inside.Promises.{points_of, MatchesAre}
+use Rattle.result_sheets.specs.Public.{placed_of, record_of, no_match, bare_cover, appended, cover_of, cover_bits, Written, CoverHolds, CoverIs}
+use Rattle.result_sheets.specs.Inside.Promises.{points_of, MatchHolds}
 use Rattle.covers.specs.Outcome.{map_bytes}
 
 -- ---- what is written at the front keeps what stands behind
@@ -200,37 +202,73 @@ appended_cover c xs e h =
     let front : take (length xs) (sets c.matches 0 (map record_of xs)) ≡ map record_of xs = rw (← many) (ap (λ (k : ℕ). take k (sets c.matches 0 (map record_of xs))) (sym (zero-add _)) ∙ take_sets c.matches 0 (map record_of xs) (omega (arith, many))) in
     rw (e, zero-add (length xs), front, recorded xs)
 
--- By what the parts promise: the three fields, the matches, the end.
-pub cover_read_lem : (s : List ℕ) (area arrival count : Got) (at : Scan) (begun r : CoverRecord) (c end : Scan) {i j k a t n : ℕ} → c ≡ start →
-    Reads area (field s area_width free c) i a → Reads arrival (field s arrival_width free area.scan) j t → Reads count (field s match_count_width free arrival.scan) k n → n ≤ 63 → k ≤ cover_bits 0 →
-    begun ≡ bare_cover area.value arrival.value → MatchesAre s count.value count.scan begun r at → end ≡ ended s at → CoverIs s (record { scan = end; cover = r })
-unfolding cover_read
-cover_read_lem s area arrival count at begun r c end e ha ht hn few reach eb hm he =
-    let ea = scan_at s area_width free c ha e in
-    let et = scan_at s arrival_width free area.scan ht ea in
-    let vn = value_at_lem s match_count_width free arrival.scan hn et in
-    let en = scan_at s match_count_width free arrival.scan hn et in
-    let small : count.value ≤ 63 = omega (arith, hn.small) in
-    let x = times count.value (placed_read s) count.scan in
-    let many = length_times count.value (placed_read s) count.scan in
-    let same = ap₂ (λ (m : ℕ) (q : Scan). times m (placed_read s) q) vn en in
-    let from = hm.cover ∙ ap (λ (q : CoverRecord). appended q x.0) eb in
-    let is : cover_of r ≡ record { point = record { area = area.value; arrival = arrival.value }; placed = x.0 } =
-    ap cover_of from ∙ appended_cover (bare_cover area.value arrival.value) x.0 refl (omega (arith, many, length-replicate {A = MatchRecord} 64 (record { node = 0; pattern = 0; crossing = 0 }))) in
-    record {
-      scan_is = he ∙ ap (ended s) (hm.scan_is ∙ ap (λ (y : List Placed × Scan). y.1) same);
-      cover_is =
-          is ∙ (λ d. record {
-            point = record { area = value_at_lem s area_width free c ha e d; arrival = value_at_lem s arrival_width free area.scan ht ea d };
-            placed = ap (λ (y : List Placed × Scan). y.0) same d;
-          });
-      few = omega (arith, ap (λ (q : CoverRecord). q.count) from, many);
-      near = omega (arith, ap place he, tailed_place (ends_at s) at, hm.near, hn.near);
-    }
+-- One match more.
+pub pushed : (c q : CoverRecord) (xs : List Placed) (x : Placed) (m : MatchRecord) {r : CoverRecord} → q ≡ appended c xs → MatchHolds x m → r ≡ appended q (placed_of m ∷ []) → r ≡ appended c (xs ++ (x ∷ []))
+pushed c q xs x m h g e =
+    let is : placed_of m ≡ x = λ i. record { node = g.node i; pattern = g.pattern i; crossing = g.crossing i } in
+    e ∙ ap (λ (k : CoverRecord). appended k (placed_of m ∷ [])) h ∙ appended_more c xs (placed_of m ∷ []) ∙ ap (λ (y : Placed). appended c (xs ++ (y ∷ []))) is
+
+-- What `?` hands on is the flaw that was found.
+pub cover_refused : (s : List ℕ) (r : Result CoverRecord Flaw) {e : Flaw} → IsErrAnd r (λ y. y ≡ e) → Flawed (cover_read s start) (cover_bits 63) e → CoverIs s r
+cover_refused s r is h = let p = err_from_is_err_and r is in rw (p.1, p.2) h
+
+module _ (s : List ℕ) where
+  -- The matches and the end keep a refusal.
+  matches_keep : (n : ℕ) (f : Fault) (p : ℕ) → ended s (times n (placed_read s) (Refused f p)).1 ≡ Refused f p
+  unfolding placed_read
+  matches_keep n f p = ap (ended s) (keeps_times (placed_read s) (λ xs f p. refl) n f p)
+
+  pub area_flawed : {i : ℕ} (e : Flaw) → i ≤ 1186 → Flawed (field s area_width free start) i e → Flawed (cover_read s start) (cover_bits 63) e
+  unfolding cover_read
+  area_flawed e l h = record { says = rw h.says (matches_keep _ e.fault e.place); near = omega (arith, h.near) }
+
+  module _ {a i : ℕ} {at : Cursor} (area : Took (UpTo (2 ^ area_width - 1)) (field s area_width free start) i at a) where
+    pub arrival_flawed : {j : ℕ} (e : Flaw) → j ≤ 1186 → Flawed (field s arrival_width free (At at)) j e → Flawed (cover_read s start) (cover_bits 63) e
+    unfolding cover_read
+    arrival_flawed e l h = record { says = rw (area.at, h.says) (matches_keep _ e.fault e.place); near = omega (arith, h.near) }
+
+    module _ {t j : ℕ} {from : Cursor} (arrival : Took (UpTo (2 ^ arrival_width - 1)) (field s arrival_width free (At at)) j from t) where
+      pub count_flawed : {k : ℕ} (e : Flaw) → k ≤ 1186 → Flawed (field s match_count_width free (At from)) k e → Flawed (cover_read s start) (cover_bits 63) e
+      unfolding cover_read
+      count_flawed e l h = record { says = rw (area.at, arrival.at, h.says) (matches_keep _ e.fault e.place); near = omega (arith, h.near) }
+
+      module _ {n k : ℕ} {then : Cursor} (count : Took (UpTo (2 ^ match_count_width - 1)) (field s match_count_width free (At from)) k then n) where
+        pub matches_flawed : {m : ℕ} (e : Flaw) → m ≤ 1186 → Flawed (times n (placed_read s) (At then)) m e → Flawed (cover_read s start) (cover_bits 63) e
+        unfolding cover_read
+        matches_flawed e l h = record { says = rw (area.at, arrival.at, count.at, ← count.holds.0, h.says) refl; near = omega (arith, h.near) }
+
+        module _ {m : ℕ} {last : Cursor} {begun r : CoverRecord} {u : Unit {0}} (bare : begun ≡ bare_cover a t) (matches : Took (λ xs _. r ≡ appended begun xs) (times n (placed_read s) (At then)) m last u) where
+          pub end_flawed : (e : Flaw) → m ≤ 1186 → ended s (At last) ≡ Refused e.fault e.place → e.place ≡ place_of last → Flawed (cover_read s start) (cover_bits 63) e
+          unfolding cover_read
+          end_flawed e l h q = record { says = rw (area.at, arrival.at, count.at, ← count.holds.0, matches.at) h; near = omega (arith, matches.near) }
+
+          pub cover_told : ended s (At last) ≡ At last → Told CoverHolds (cover_read s start) r
+          unfolding cover_read
+          cover_told h =
+              let xs = (times n (placed_read s) (At then)).0 in
+              let late = ap (field s arrival_width free) area.at in
+              let many = ap (field s match_count_width free) (ap (λ (x : ℕ × Scan). x.1) late ∙ arrival.at) in
+              let all = ap₂ (λ (k : ℕ) (q : Scan). times k (placed_read s) q) (ap (λ (x : ℕ × Scan). x.0) many ∙ sym count.holds.0) (ap (λ (x : ℕ × Scan). x.1) many ∙ count.at) in
+              let kept : r ≡ appended (bare_cover a t) xs = matches.holds ∙ ap (λ (q : CoverRecord). appended q xs) bare in
+              let few = length_times n (placed_read s) (At then) in
+              let end : (cover_read s start).1 ≡ At last = ap (λ (x : List Placed × Scan). ended s x.1) all ∙ ap (ended s) matches.at ∙ h in
+              record {
+                live = subst Live (sym end) tt;
+                holds = record {
+                  cover_is =
+                      ap cover_of kept ∙ appended_cover (bare_cover a t) xs refl (omega (arith, few, count.holds.1, length-replicate {A = MatchRecord} 64 no_match))
+                      ∙ (λ i. record {
+                        point = record { area = area.holds.0 i; arrival = (arrival.holds.0 ∙ sym (ap (λ (x : ℕ × Scan). x.0) late)) i };
+                        placed = ap (λ (x : List Placed × Scan). x.0) (sym all) i;
+                      });
+                  few = omega (arith, ap (λ (q : CoverRecord). q.count) kept, few, count.holds.1);
+                };
+              }
 
 -- Bytes that say a cover are read as that cover, and not refused.
-pub cover_back : {c : Cover} {s : List ℕ} {r : CoverRead} → CoverReads c s → CoverIs s r → (cover_of r.cover ≡ c) × (r.scan ≡ At (cursor_at (widths (cover_fields c))))
-cover_back h g = (g.cover_is ∙ ap (λ (x : Cover × Scan). x.0) h.reads, g.scan_is ∙ ap (λ (x : Cover × Scan). x.1) h.reads)
+pub cover_back : {c : Cover} {s : List ℕ} (r : Result CoverRecord Flaw) → CoverReads c s → CoverIs s r → (k : CoverRecord) × (r ≡ Ok k) × (cover_of k ≡ c)
+cover_back (Ok k) h g = (k, refl, g.holds.cover_is ∙ ap (λ (x : Cover × Scan). x.0) h.reads)
+cover_back (Err e) h g = absurd (subst Live (sym (ap (λ (x : Cover × Scan). x.1) h.reads) ∙ g.says) tt)
 
 pub points_few : (count : ℕ) (ws : List ℕ) → length (points_of count ws) ≤ count
 unfolding points_of

@@ -1,24 +1,15 @@
 -- What the functions inside promise each other.
-use Rattle.std.specs.Prelude.{ℕ, ◌+◌, ◌*◌, ◌^◌, ◌≤◌, ◌<◌, ◌≡◌, List, [], map, reverse, length, take, get_or}
-use Rattle.fields.specs.declared.Scan.{Scan}
-use Rattle.fields.specs.Reading.{place, times}
-use Rattle.covers.specs.Cover.{Point}
-use Rattle.covers.specs.CoverSheet.{placed_read, area_width, arrival_width, point_count_width}
-use Rattle.result_sheets.specs.Public.{placed_of, appended, match_width}
-use Rattle.result_sheets.specs.declared.CoverRecord.{CoverRecord}
-use Rattle.result_sheets.specs.declared.MatchRead.{MatchRead}
+use Rattle.std.specs.Prelude.{ℕ, ◌+◌, ◌*◌, ◌^◌, ◌≤◌, ◌<◌, ◌≡◌, List, map, reverse, length, take, get_or}
+use Rattle.covers.specs.Cover.{Placed, Point}
+use Rattle.covers.specs.CoverSheet.{area_width, arrival_width, point_count_width}
+use Rattle.result_sheets.specs.declared.MatchRecord.{MatchRecord}
 use Rattle.covers.specs.Inside.Curve.{point_of}
 
-module _ (s : List ℕ) where
-  pub record MatchIs (scan : Scan) (r : MatchRead) : Type 0 where
-    pub found : placed_of r.found ≡ (placed_read s [] scan).0
-    pub scan_is : r.scan ≡ (placed_read s [] scan).1
-    pub near : place r.scan ≤ place scan + match_width
-
-  pub record MatchesAre (count : ℕ) (scan : Scan) (entry exit : CoverRecord) (r : Scan) : Type 0 where
-    pub cover : exit ≡ appended entry (times count (placed_read s) scan).0
-    pub scan_is : r ≡ (times count (placed_read s) scan).1
-    pub near : place r ≤ place scan + match_width * count
+-- A record keeps a match that was read.
+pub record MatchHolds (x : Placed) (m : MatchRecord) : Type 0 where
+  pub node : m.node ≡ x.node
+  pub pattern : m.pattern ≡ x.pattern
+  pub crossing : m.crossing ≡ x.crossing
 
 -- The points of the first `count` words, the last word's first.
 unfoldable pub points_of : ℕ → List ℕ → List Point
