@@ -1,21 +1,24 @@
 // The cover sheet and the list sheet, written into a lent output and read back.
 #![tactic(auto)]
 
-ghost use Rattle.std.specs.Prelude.{◌≡◌, ◌++◌, ◌+◌, ◌*◌, ◌<◌, ◌≤◌, ◌^◌, length, take, drop, replicate};
-ghost use Rattle.fields.specs.Reading.{place};
+ghost use Rattle.std.specs.Prelude.{◌≡◌, [], ◌∷◌, ◌++◌, ◌+◌, ◌*◌, ◌/◌, ◌<◌, ◌≤◌, ◌^◌, map, reverse, length, drop, replicate};
+ghost use Rattle.bits.specs.Bits.{place_of};
+ghost use Rattle.fields.specs.Reading.{times};
+ghost use Rattle.fields.specs.Inside.Promises.{Reads};
 ghost use Rattle.fields.specs.Written.{written};
-ghost use Rattle.covers.specs.CoverSheet.{match_count_width, point_count_width, placed_fields, point_fields, cover_sheet, list_sheet};
-ghost use Rattle.result_sheets.specs.Public.{placed_of, cover_of, cover_bits, Written, CoverIs};
-ghost use Rattle.result_sheets.specs.Inside.Promises.{points_of, Listable, MatchIs, MatchesAre};
+ghost use Rattle.covers.specs.CoverSheet.{match_count_width, point_count_width, placed_fields, point_fields, cover_sheet, list_sheet, placed_read};
+ghost use Rattle.result_sheets.specs.Public.{placed_of, bare_cover, appended, cover_of, match_width, cover_bits, Written, CoverIs};
+ghost use Rattle.covers.specs.Inside.Curve.{point_of};
+ghost use Rattle.result_sheets.specs.Inside.Promises.{points_of, Listable, MatchHolds};
 
-use fields::Scan;
+use fields::{Flaw, Sheet};
 use sheets_rules::Limits;
 
 // How wide the fields of the cover sheet and the list sheet are, in bits.
 #[derive(Clone, Copy)]
-pub struct Sheet {}
+pub struct Layout {}
 
-impl Sheet {
+impl Layout {
     pub const AREA: usize = 22;
 
     pub const ARRIVAL: usize = 24;
@@ -31,77 +34,82 @@ impl Sheet {
     pub const POINT_COUNT: usize = 5;
 
     // An area and an arrival, the fields before the matches, and one match.
-    pub const POINT: usize = Sheet::AREA + Sheet::ARRIVAL;
+    pub const POINT: usize = Layout::AREA + Layout::ARRIVAL;
 
-    pub const MATCHES_AT: usize = Sheet::POINT + Sheet::MATCH_COUNT;
+    pub const MATCHES_AT: usize = Layout::POINT + Layout::MATCH_COUNT;
 
-    pub const MATCH: usize = Sheet::NODE + Sheet::PATTERN + Sheet::CROSSING;
+    pub const MATCH: usize = Layout::NODE + Layout::PATTERN + Layout::CROSSING;
 }
 
-// A cover: its area, its arrival, and the nodes, patterns and crossings of its `count` matches.
+// A match: its node, its pattern's number and its crossing number.
 #[derive(Clone, Copy)]
-pub struct CoverRecord {
-    pub area: u32,
-    pub arrival: u32,
-    pub count: usize,
-    pub nodes: [u8; Limits::TREE_NODES],
-    pub patterns: [u8; Limits::TREE_NODES],
-    pub crossings: [u8; Limits::TREE_NODES],
-}
-
-// A cover that was read, and the scan after it.
-#[derive(Clone, Copy)]
-pub struct CoverRead {
-    pub scan: Scan,
-    pub cover: CoverRecord,
-}
-
-#[derive(Clone, Copy)]
-pub struct MatchRead {
-    pub scan: Scan,
+pub struct MatchRecord {
     pub node: u8,
     pub pattern: u8,
     pub crossing: u8,
 }
 
+// A cover: its area, its arrival, and its `count` matches, the first of the array.
 #[derive(Clone, Copy)]
-pub struct MatchesRead {
-    pub scan: Scan,
-    pub nodes: [u8; Limits::TREE_NODES],
-    pub patterns: [u8; Limits::TREE_NODES],
-    pub crossings: [u8; Limits::TREE_NODES],
+pub struct CoverRecord {
+    pub area: u32,
+    pub arrival: u32,
+    pub count: usize,
+    pub matches: [MatchRecord; Limits::TREE_NODES],
 }
 
-// Makes the first `count` bytes zero.
-fn clear(output: &mut [u8], count: usize)
-    requires { count ≤ length output.old }
-    ensures { output.new ≡ replicate count 0 ++ drop count output.old }
-{
-    let mut k = 0;
-    while k < count {
-        output[k] = 0;
-        k += 1;
+impl CoverRecord {
+    // A cover with no match yet.
+    pub fn bare(area: u32, arrival: u32) -> Self
+        ensures { result ≡ bare_cover area arrival }
+    {
+        let blank = MatchRecord {
+            node: 0,
+            pattern: 0,
+            crossing: 0,
+        };
+        CoverRecord {
+            area,
+            arrival,
+            count: 0,
+            matches: [blank; Limits::TREE_NODES],
+        }
+    }
+
+    // One match more, after those that it has.
+    pub fn push(&mut self, one: MatchRecord)
+        requires { self.old.count < 64 }
+        ensures { self.new ≡ appended self.old (placed_of one ∷ []) }
+    {
+        self.matches[self.count] = one;
+        self.count += 1;
     }
 }
 
-// Puts the fields of the first `count` matches.
-fn put_matches(output: &mut [u8], nodes: &[u8], patterns: &[u8], crossings: &[u8], count: usize)
-    requires { (count < 2 ^ match_count_width) × (count ≤ length nodes.now) × (count ≤ length patterns.now) × (count ≤ length crossings.now) × (cover_bits count ≤ 8 * length output.old) }
-    ensures { output.new ≡ written (placed_fields (placed_of (take count nodes.now) (take count patterns.now) (take count crossings.now))) (cover_bits 0) output.old }
+// Makes the bytes that `width` bits take zero, and answers how many they are.
+fn clear(output: &mut [u8], width: usize) -> usize
+    requires { width ≤ 8 * length output.old }
+    ensures cleared { output.new ≡ replicate result 0 ++ drop result output.old }
+    ensures bytes { result ≡ (width + 7) / 8 }
 {
-    let mut at = Sheet::MATCHES_AT;
-    let mut k = 0;
-    while k < count {
-        bits::put(output, at, Sheet::NODE, nodes[k] as u32);
-        bits::put(output, at + Sheet::NODE, Sheet::PATTERN, patterns[k] as u32);
-        bits::put(
-            output,
-            at + Sheet::NODE + Sheet::PATTERN,
-            Sheet::CROSSING,
-            crossings[k] as u32,
-        );
-        at += Sheet::MATCH;
-        k += 1;
+    let bytes = width.div_ceil(8);
+    output[..bytes].fill(0);
+    bytes
+}
+
+// Puts the fields of the matches, after a cover's other fields.
+fn put_matches(output: &mut [u8], matches: &[MatchRecord])
+    requires { (length matches.now < 2 ^ match_count_width) × (cover_bits (length matches.now) ≤ 8 * length output.old) }
+    ensures { output.new ≡ written (placed_fields (map placed_of matches.now)) (cover_bits 0) output.old }
+{
+    let mut at = Layout::MATCHES_AT;
+    for one in matches {
+        bits::put(output, at, Layout::NODE, u32::from(one.node));
+        at += Layout::NODE;
+        bits::put(output, at, Layout::PATTERN, u32::from(one.pattern));
+        at += Layout::PATTERN;
+        bits::put(output, at, Layout::CROSSING, u32::from(one.crossing));
+        at += Layout::CROSSING;
     }
 }
 
@@ -111,36 +119,26 @@ pub fn write_cover(output: &mut [u8], cover: CoverRecord) -> usize
     ensures { Written (cover_sheet (cover_of cover)) output.old output.new result }
 {
     let count = cover.count;
-    let nodes = cover.nodes;
-    let patterns = cover.patterns;
-    let crossings = cover.crossings;
-    let bytes = (Sheet::MATCHES_AT + Sheet::MATCH * count + 7) / 8;
-    clear(output, bytes);
-    bits::put(output, 0, Sheet::AREA, cover.area);
-    bits::put(output, Sheet::AREA, Sheet::ARRIVAL, cover.arrival);
-    bits::put(output, Sheet::POINT, Sheet::MATCH_COUNT, count as u32);
-    put_matches(output, &nodes, &patterns, &crossings, count);
+    let bytes = clear(output, Layout::MATCHES_AT + Layout::MATCH * count);
+    bits::put(output, 0, Layout::AREA, cover.area);
+    bits::put(output, Layout::AREA, Layout::ARRIVAL, cover.arrival);
+    bits::put(output, Layout::POINT, Layout::MATCH_COUNT, count as u32);
+    put_matches(output, &cover.matches[..count]);
     bytes
 }
 
-// Puts the fields of the first `count` words' points, the last first.
-fn put_points(output: &mut [u8], points: &[u64], count: usize)
-    requires { Listable count points.now output.old }
-    ensures { output.new ≡ written (point_fields (points_of count points.now)) point_count_width output.old }
+// Puts the fields of the words' points, the last first, after a list's count.
+fn put_points(output: &mut [u8], points: &[u64])
+    requires { Listable (length points.now) points.now output.old }
+    ensures { output.new ≡ written (point_fields (reverse (map point_of points.now))) point_count_width output.old }
 {
-    let mut at = Sheet::POINT_COUNT;
-    let mut k = count;
-    while 0 < k {
-        k -= 1;
+    let mut at = Layout::POINT_COUNT;
+    for k in (0..points.len()).rev() {
         let word = points[k];
-        bits::put(output, at, Sheet::ARRIVAL, (word % Limits::TIMES) as u32);
-        bits::put(
-            output,
-            at + Sheet::ARRIVAL,
-            Sheet::AREA,
-            (word / Limits::TIMES) as u32,
-        );
-        at += Sheet::POINT;
+        bits::put(output, at, Layout::ARRIVAL, (word % Limits::TIMES) as u32);
+        at += Layout::ARRIVAL;
+        bits::put(output, at, Layout::AREA, (word / Limits::TIMES) as u32);
+        at += Layout::AREA;
     }
 }
 
@@ -149,83 +147,50 @@ pub fn write_list(output: &mut [u8], points: &[u64], count: usize) -> usize
     requires { Listable count points.now output.old }
     ensures { Written (list_sheet (points_of count points.now)) output.old output.new result }
 {
-    let bytes = (Sheet::POINT_COUNT + Sheet::POINT * count + 7) / 8;
-    clear(output, bytes);
-    bits::put(output, 0, Sheet::POINT_COUNT, count as u32);
-    put_points(output, points, count);
+    let bytes = clear(output, Layout::POINT_COUNT + Layout::POINT * count);
+    bits::put(output, 0, Layout::POINT_COUNT, count as u32);
+    put_points(output, &points[..count]);
     bytes
 }
 
 // One match.
-fn read_match(scan: Scan, s: &[u8]) -> MatchRead
-    requires { place scan ≤ cover_bits 63 }
-    ensures { MatchIs s.now scan result }
+#[tactic(auto, unfolding(covers::specs::CoverSheet::placed_read))]
+fn read_match(sheet: &mut Sheet<'_>) -> Result<MatchRecord, Flaw>
+    requires { place_of sheet.old.at ≤ cover_bits 63 }
+    ensures { Reads sheet.old sheet.new (λ s. placed_read s []) MatchHolds match_width result }
 {
-    let node = fields::raw(scan, s, Sheet::NODE);
-    let at = node.scan;
-    let pattern = fields::raw(at, s, Sheet::PATTERN);
-    let at = pattern.scan;
-    let crossing = fields::raw(at, s, Sheet::CROSSING);
-    let at = crossing.scan;
-    MatchRead {
-        scan: at,
-        node: node.value as u8,
-        pattern: pattern.value as u8,
-        crossing: crossing.value as u8,
-    }
+    let node = sheet.raw(Layout::NODE)? as u8;
+    let pattern = sheet.raw(Layout::PATTERN)? as u8;
+    let crossing = sheet.raw(Layout::CROSSING)? as u8;
+    Ok(MatchRecord {
+        node,
+        pattern,
+        crossing,
+    })
 }
 
-// The matches.
-fn read_matches(scan: Scan, s: &[u8], count: u32) -> MatchesRead
-    requires { (count < 2 ^ match_count_width) × (place scan ≤ cover_bits 0) }
-    ensures { MatchesAre s.now count scan result }
+// The matches, put into the cover one after another.
+fn read_matches(sheet: &mut Sheet<'_>, count: u32, cover: &mut CoverRecord) -> Result<(), Flaw>
+    requires { (cover.old.count + count ≤ 63) × (place_of sheet.old.at ≤ cover_bits 0) }
+    ensures { Reads sheet.old sheet.new (λ s. times count (placed_read s)) (λ xs _. cover.new ≡ appended cover.old xs) (match_width * count) result }
 {
-    let mut nodes = [0u8; Limits::TREE_NODES];
-    let mut patterns = [0u8; Limits::TREE_NODES];
-    let mut crossings = [0u8; Limits::TREE_NODES];
-    let mut at = scan;
-    let mut k: u32 = 0;
-    while k < count {
-        let one = read_match(at, s);
-        at = one.scan;
-        nodes[k as usize] = one.node;
-        patterns[k as usize] = one.pattern;
-        crossings[k as usize] = one.crossing;
-        k += 1;
+    for _ in 0..count {
+        let one = read_match(sheet)?;
+        cover.push(one);
     }
-    MatchesRead {
-        scan: at,
-        nodes,
-        patterns,
-        crossings,
-    }
+    Ok(())
 }
 
-// The cover that a sheet says, and whether anything is wrong with the sheet.
-pub fn read_cover(s: &[u8]) -> CoverRead
+// The cover that a sheet says, or what is wrong with the sheet.
+pub fn read_cover(s: &[u8]) -> Result<CoverRecord, Flaw>
     ensures { CoverIs s.now result }
 {
-    let area = fields::raw(fields::begin(), s, Sheet::AREA);
-    let at = area.scan;
-    let arrival = fields::raw(at, s, Sheet::ARRIVAL);
-    let at = arrival.scan;
-    let count = fields::raw(at, s, Sheet::MATCH_COUNT);
-    let at = count.scan;
-    let matches = read_matches(at, s, count.value);
-    let at = matches.scan;
-    let nodes = matches.nodes;
-    let patterns = matches.patterns;
-    let crossings = matches.crossings;
-    let end = fields::end(at, s);
-    CoverRead {
-        scan: end,
-        cover: CoverRecord {
-            area: area.value,
-            arrival: arrival.value,
-            count: count.value as usize,
-            nodes,
-            patterns,
-            crossings,
-        },
-    }
+    let mut sheet = Sheet::open(s);
+    let area = sheet.raw(Layout::AREA)?;
+    let arrival = sheet.raw(Layout::ARRIVAL)?;
+    let count = sheet.raw(Layout::MATCH_COUNT)?;
+    let mut cover = CoverRecord::bare(area, arrival);
+    read_matches(&mut sheet, count, &mut cover)?;
+    sheet.end()?;
+    Ok(cover)
 }

@@ -1,46 +1,38 @@
 use native.Mathlib.Omega.{arith}
-use Prim.Native.Nat.{ℕ}
-use mathlib.Core.Path.{◌≡◌, refl, sym, ap, ◌∙◌}
-use mathlib.Core.List.{List, []}
-use Rattle.fields.specs.Reading.{Scan}
-use Rattle.fields.specs.Reading.{times}
-use Rattle.fields.proofs.Laws.{times_scan}
-use Rattle.sheets_rules.proofs.Laid.{filled_more}
+use Prim.Native.Nat.{ℕ, ◌*◌}
+use mathlib.Core.Path.{◌≡◌, refl, ap, subst}
+use mathlib.Core.List.{List}
+use Rattle.std.specs.Prelude.{Ok}
+use Rattle.fields.specs.Reading.{At, times}
+use Rattle.fields.specs.Inside.Promises.{Reads}
+use Rattle.fields.proofs.Laws.{length_times}
+use Rattle.fields.proofs.Readers.{none_yet, one_more, one_stops, stopped}
 use Rattle.covers.specs.Cover.{Placed}
 use Rattle.covers.specs.CoverSheet.{placed_read}
-use Rattle.result_sheets.specs.Inside.Promises.{column}
+use Rattle.result_sheets.specs.declared.CoverRecord.{CoverRecord}
+use Rattle.result_sheets.specs.Public.{appended}
+use Rattle.result_sheets.proofs.Laws.{appended_none, pushed}
 use Rattle.result_sheets.proofs.read_matches.Goals as goal
 
-pub loop-k-init : goal.loop-k-init
-unfolding times
-loop-k-init c = (omega arith, refl, refl, refl, refl, omega arith)
+pub loop-init : goal.loop-init
+loop-init c = none_yet placed_read c.args.sheet.now (appended_none c.args.cover.now)
 
-pub loop-k-preserved : goal.loop-k-preserved
+pub push-requires : goal.push-requires
+push-requires c =
+    omega (arith, ap (λ (r : CoverRecord). r.count) c.loop.invariant.takes.holds, length_times c.loop.counter (placed_read c.args.sheet.now.bytes.now) (At c.args.sheet.now.at))
+
+pub loop-preserved : goal.loop-preserved
 unfolding placed_read
-loop-k-preserved c =
-    let a = c.args in
-    let i = c.loop-k in
-    let r = placed_read a.s.now in
-    let e = i.invariant.4 in
-    let p = c.read_match-one.ensures in (
-      omega arith,
-      filled_more 64 0 (λ (x : Placed). x.node) r a.scan i.k i.nodes c.read_match-one.result.node i.invariant.1 (p.node ∙ ap (λ (q : Scan). (r [] q).0.node) e),
-      filled_more 64 0 (λ (x : Placed). x.pattern) r a.scan i.k i.patterns c.read_match-one.result.pattern i.invariant.2 (p.pattern ∙ ap (λ (q : Scan). (r [] q).0.pattern) e),
-      filled_more 64 0 (λ (x : Placed). x.crossing) r a.scan i.k i.crossings c.read_match-one.result.crossing i.invariant.3 (p.crossing ∙ ap (λ (q : Scan). (r [] q).0.crossing) e),
-      p.scan_is ∙ ap (λ (q : Scan). (r [] q).1) e ∙ sym (times_scan i.k r a.scan),
-      omega (arith, p.near, i.invariant.5),
-    )
+loop-preserved c =
+    let so = c.loop.invariant in
+    one_more placed_read c.loop.counter so c.in_ok-one.ensures (omega arith) (λ xs x h g. pushed c.args.cover.now c.loop.cover xs x c.in_ok-one.one h g c.push.ensures)
+
+pub returns-in_err-one : goal.returns-in_err-one
+unfolding placed_read
+returns-in_err-one c = stopped _ c.from_residual.ensures.1 (one_stops placed_read c.loop.counter c.loop.invariant c.in_err-one.ensures (omega arith) (omega arith) (λ s xs f p. refl))
 
 pub returns : goal.returns
 returns c =
     let a = c.args in
-    let i = c.loop-k in
-    let done : i.k ≡ a.count = omega arith in
-    let x : ℕ → List Placed × Scan = λ k. times k (placed_read a.s.now) a.scan in
-    record {
-      nodes = i.invariant.1 ∙ ap (λ (k : ℕ). column (λ y. y.node) (x k).0) done;
-      patterns = i.invariant.2 ∙ ap (λ (k : ℕ). column (λ y. y.pattern) (x k).0) done;
-      crossings = i.invariant.3 ∙ ap (λ (k : ℕ). column (λ y. y.crossing) (x k).0) done;
-      scan_is = i.invariant.4 ∙ ap (λ (k : ℕ). (x k).1) done;
-      near = omega (arith, i.invariant.5);
-    }
+    let all : c.loop.counter ≡ a.count = omega arith in
+    subst (λ (n : ℕ). Reads a.sheet.now c.loop.sheet (λ s. times n (placed_read s)) (λ (xs : List Placed) u. c.loop.cover ≡ appended a.cover.now xs) (18 * n) (Ok (tt {0}))) all c.loop.invariant

@@ -1,14 +1,11 @@
-use Prim.Native.Nat.{◌≤◌, ◌+◌, ◌-◌, ◌*◌}
+use Prim.Native.Nat.{◌*◌}
 use mathlib.Core.Path.{◌≡◌}
-use Rattle.fields.specs.Reading.{place, times}
+use Rattle.std.specs.Prelude.{Ok}
+use Rattle.fields.specs.Reading.{times}
+use Rattle.fields.specs.Inside.Promises.{Reads}
 use Rattle.covers.specs.CoverSheet.{placed_read}
-use Rattle.result_sheets.specs.Inside.Promises.{column}
+use Rattle.result_sheets.specs.Public.{appended}
 use Rattle.result_sheets.proofs.read_matches.Given as goal
 
-abbrev pub invariant-loop-k : goal.invariant-loop-k
-invariant-loop-k l =
-    let x = times l.k (placed_read l.s) l.initial.at in
-    (l.k ≤ l.count) × (l.nodes ≡ column (λ y. y.node) x.0) × (l.patterns ≡ column (λ y. y.pattern) x.0) × (l.crossings ≡ column (λ y. y.crossing) x.0) × (l.at ≡ x.1) × (place l.at ≤ place l.initial.at + 18 * l.k)
-
-abbrev pub decreases-loop-k : goal.decreases-loop-k
-decreases-loop-k l = l.count - l.k
+abbrev pub invariant-loop : goal.invariant-loop
+invariant-loop l = Reads l.fn.sheet l.sheet (λ s. times l.counter (placed_read s)) (λ xs _. l.cover ≡ appended l.fn.cover xs) (18 * l.counter) (Ok (tt {0}))
