@@ -2,7 +2,7 @@
 use mathlib.Core.Path.{◌≡◌, refl, sym, ap, subst, ◌∙◌}
 use mathlib.Core.List.{List, [], ◌∷◌}
 use mathlib.Core.Logic.{⊎_elim}
-use mathlib.Core.Bool.{Bool, true, false}
+use mathlib.Core.Bool.{Bool, true, false, cond}
 use native.Mathlib.Decide.{ℕ_discrete}
 use mathlib.Core.Option.{Option, none, some, map}
 use Prim.Native.Nat.{ℕ, zero, suc, ◌+◌, ◌-◌, ◌*◌, ◌/◌, ◌%◌, ◌≤◌, ◌<◌, min, max}
@@ -10,8 +10,15 @@ use native.Mathlib.Nat.{div-add-mod', mul-suc, mul-le-mul_left}
 use native.Mathlib.Numerals.{add-one}
 use native.Mathlib.Omega.{arith}
 use lib.ListN.{length, get_or, take, drop, length-drop, length-take, drop_of_length-le, get_or-eq_default}
-use lib.Seq.{length-take-le, get_or-take, get_or-drop, drop-cons}
-use borrow.Author.Tests.{eq-eqb, ne_eqb, lt-ltb, le-ltb, le-leb, lt-leb}
+use lib.Seq.{take_all, length-take-le, get_or-take, get_or-drop, drop-cons}
+use lib.Dec.{eqb, ltb}
+use borrow.Author.Tests.{eqb-true, ltb-true, ltb-false, eq-eqb, ne_eqb, lt-ltb, le-ltb, le-leb, lt-leb}
+use borrow.Table.Steps.{cases}
+use Rattle.std.specs.Prelude.{Option as Maybe, None, Some, unwrap_or}
+use Rattle.std.specs.Option.{option_or}
+use Rattle.std.proofs.lemmas.List.{take-append-drop}
+use Rattle.std.proofs.lemmas.List.Folds.{find-append}
+use Rattle.std.proofs.lemmas.Option.{none-some, same_Some}
 use Rattle.sheets_rules.specs.Inside.Layout.{row_words}
 use Rattle.covers.specs.Cover.{Point, late, raised, beside, leaf_arrival, leaf_point}
 use Rattle.covers.specs.Choice.{before, lesser}
@@ -23,7 +30,7 @@ use Rattle.cells.specs.declared.PinFigures.{PinFigures}
 use Rattle.cells.specs.Inside.Cell.{row_legal, delay_of}
 use Rattle.matching.specs.Inside.Found.{match_bytes}
 use Rattle.curves.specs.Inside.Best.{hit_at, pattern_of, row_area, hit_count, input_node, input_figures, input_best, input_late, inputs_best, hit_best, legal_best, hits_best, Sources, Tables, HitKnown, Matches}
-use Rattle.curves.specs.Inside.Promises.{Worth, match_before, Kept}
+use Rattle.curves.specs.Inside.Promises.{first_before, Worth, match_before, Kept}
 use Rattle.leaves.specs.Inside.Leaf.{leaf_of}
 
 -- ---- words
@@ -94,22 +101,42 @@ unfolding lookup
 found_never [] end e = refl
 found_never (p ∷ ps) end e = rw (le-ltb p.arrival end (omega arith)) (found_never ps end e)
 
--- That word is before the instant, or is not.
-module _ (curve : List ℕ) (end k : ℕ) where
-  pub found_end : get_or curve k 0 ≡ 0 → lookup end (stored (drop k curve)) ≡ none
-  unfolding lookup
-  found_end e = ap (lookup end) (stored_end curve k e)
+-- The first word before an instant, of a line of words and of the rest.
+pub probed_line : (n end : ℕ) (curve : List ℕ) → option_or (first_before end (take n curve)) (first_before end (drop n curve)) ≡ first_before end curve
+probed_line n end curve = sym (find-append (λ w. ltb (w % base) end) (take n curve) (drop n curve)) ∙ ap (first_before end) (take-append-drop n curve)
 
-  pub found_here : (get_or curve k 0 ≡ 0 → ⊥) → get_or curve k 0 % base < end → lookup end (stored (drop k curve)) ≡ some (point_of (get_or curve k 0))
-  unfolding lookup point_of
-  found_here n t = ap (lookup end) (stored_more curve k n) ∙ rw (lt-ltb (get_or curve k 0 % base) end t)
+pub probed_rest : (n m end : ℕ) (curve : List ℕ) → None ≡ first_before end (take n curve) → length curve ≤ n + m → first_before end (take m (drop n curve)) ≡ first_before end curve
+probed_rest n m end curve e h =
+    ap (first_before end) (take_all m (drop n curve) (omega (arith, length-drop n curve)))
+    ∙ ap (λ (o : Maybe ℕ). option_or o (first_before end (drop n curve))) e
+    ∙ probed_line n end curve
 
-  pub found_later : end ≤ get_or curve k 0 % base → lookup end (stored (drop k curve)) ≡ lookup end (stored (drop (k + 1) curve))
-  unfolding lookup point_of
-  found_later t = ⊎_elim
-      (λ z. ap (lookup end) (stored_more curve k (λ e. absurd (omega arith))) ∙ rw (le-ltb (get_or curve k 0 % base) end t))
-      (λ z. found_never (stored (drop k curve)) end (omega arith) ∙ sym (found_never (stored (drop (k + 1) curve)) end (omega arith)))
-      (lt_or_le 0 end)
+-- What the first word before an instant says of the first point there.
+module _ (end : ℕ) where
+  found_nothing : (ws : List ℕ) → first_before end ws ≡ None → lookup end (stored ws) ≡ none
+  unfolding lookup stored point_of
+  found_nothing [] e = refl
+  found_nothing (x ∷ xs) e = cases (ltb (x % base) end)
+      (λ t. absurd (none-some x (sym (rw t at e))))
+      (λ t. cases (eqb x 0) (λ z. rw z refl) (λ z. rw (z, t) (found_nothing xs (rw t at e))))
+
+  found_word : (w : ℕ) (ws : List ℕ) → first_before end ws ≡ Some w → Small ws → (w < point_limit) × (w % base < end) × (lookup end (stored ws) ≡ cond (eqb w 0) none (some (point_of w)))
+  unfolding lookup stored point_of
+  found_word w [] e s = absurd (none-some w e)
+  found_word w (x ∷ xs) e s = cases (ltb (x % base) end)
+      (λ t. let same : x ≡ w = same_Some x w (rw t at e) in
+      rw (← same) (s 0, ltb-true _ _ t, cases (eqb x 0) (λ z. rw z refl) (λ z. rw (z, t) refl)))
+      (λ t. let r = found_word w xs (rw t at e) (λ k. s (suc k)) in
+      (r.0, r.1, cases (eqb x 0) (λ z. absurd (omega (arith, eqb-true _ _ z, ltb-false _ _ t, r.1))) (λ z. rw (z, t) r.2)))
+
+module _ (end : ℕ) (curve : List ℕ) where
+  pub found_none : (o : Maybe ℕ) → o ≡ first_before end curve → Small curve → unwrap_or o 0 ≡ 0 → Worth point_limit end absent (lookup end (stored curve))
+  found_none None e s z = worth_none point_limit end _ (found_nothing end curve (sym e))
+  found_none (Some w) e s z = worth_none point_limit end _ ((found_word end w curve (sym e) s).2 ∙ rw (eq-eqb w 0 z) refl)
+
+  pub found_point : (o : Maybe ℕ) → o ≡ first_before end curve → Small curve → (unwrap_or o 0 ≡ 0 → ⊥) → Worth point_limit end (unwrap_or o 0) (lookup end (stored curve))
+  found_point None e s n = absurd (n refl)
+  found_point (Some w) e s n = let r = found_word end w curve (sym e) s in worth_point point_limit end w _ r.0 (omega arith) r.1 (r.2 ∙ rw (ne_eqb w 0 n) refl)
 
 pub one_less : (n k : ℕ) → k < n → n - k ≡ suc (n - (k + 1))
 one_less n k h = omega arith

@@ -1,13 +1,13 @@
 // Curves by deadline: the least point of a node before an instant, and the curve of a node under a load.
 #![tactic(auto)]
 
-ghost use Rattle.std.specs.Prelude.{◌≡◌, ◌+◌, ◌-◌, ◌*◌, ◌<◌, ◌≤◌, min, max, length, drop};
+ghost use Rattle.std.specs.Prelude.{◌≡◌, ◌+◌, ◌*◌, ◌<◌, ◌≤◌, length};
 ghost use Rattle.covers.specs.Inside.Curve.{base, lookup};
 ghost use Rattle.cells.specs.Inside.Cell.{PinSafe};
 ghost use Rattle.matching.specs.Inside.Found.{match_bytes};
 ghost use Rattle.curves.specs.Inside.Words.{point_limit, match_limit, stored, curve_at, Small, WorkArea};
 ghost use Rattle.curves.specs.Inside.Best.{hit_at, pattern_of, input_best, input_late, hit_best, legal_best, InputSafe, Sources, Tables, HitKnown, Matches, Above};
-ghost use Rattle.curves.specs.Inside.Promises.{Probed, Worth, AllRising, PointsFit, Kept, Least, CurveStored};
+ghost use Rattle.curves.specs.Inside.Promises.{first_before, Worth, AllRising, PointsFit, Kept, Least, CurveStored};
 
 use cells::PinFigures;
 use matching::Hit;
@@ -34,56 +34,36 @@ pub struct Target {
     pub most: usize,
 }
 
-// What a look at some words of a curve tells: the first point that they have before an instant, or that they have none.
-#[derive(Clone, Copy)]
-pub enum Probe {
-    Found(u64),
-    Beyond,
+// The first of these words before an instant: a point that arrives before it, or the 0 that ends a curve.
+fn probe_words(words: &[u64], end: u64) -> Option<u64>
+    ensures { result ≡ first_before end words.now }
+{
+    words.iter().copied().find(|w| *w % Limits::TIMES < end)
 }
 
-// The words from `first` on, `count` of them. None is tested for 0, which ends the curve, unless it passes the other test.
-fn probe_words(curve: &[u64], first: usize, count: usize, end: u64) -> Probe
-    requires { Small curve.now × (first + count ≤ length curve.now) }
-    ensures { Probed curve.now end first count result }
+// The same of a whole curve. A fixed count of words comes first: a straight line of tests, so that each place of a curve has a branch of its own.
+fn probe(curve: &[u64], end: u64) -> Option<u64>
+    ensures { result ≡ first_before end curve.now }
 {
-    let mut k = 0;
-    while k < count {
-        let w = curve[first + k];
-        if w % Limits::TIMES < end {
-            if w == 0 {
-                return Probe::Found(Words::ABSENT);
-            }
-            return Probe::Found(w);
-        }
-        k += 1;
+    if curve.len() < Words::LINE {
+        return probe_words(curve, end);
     }
-    Probe::Beyond
-}
-
-// All the words from `first` on.
-fn find_from(curve: &[u64], first: usize, end: u64) -> u64
-    requires { Small curve.now × (first ≤ length curve.now) }
-    ensures { Worth point_limit end result (lookup end (stored (drop first curve.now))) }
-{
-    match probe_words(curve, first, curve.len() - first, end) {
-        Probe::Found(w) => w,
-        Probe::Beyond => Words::ABSENT,
+    match probe_words(&curve[..Words::LINE], end) {
+        None => probe_words(&curve[Words::LINE..], end),
+        first => first,
     }
 }
 
-// The first point of a curve that arrives before `end`. A fixed count of words comes first: a straight line of tests, so that each place of a
-// curve has a branch of its own.
+// The first point of a curve that arrives before `end`.
 pub fn find(curve: &[u64], end: u64) -> u64
     requires { Small curve.now }
     ensures { Worth point_limit end result (lookup end (stored curve.now)) }
 {
-    if curve.len() < Words::LINE {
-        return find_from(curve, 0, end);
+    let w = probe(curve, end).unwrap_or(0);
+    if w == 0 {
+        return Words::ABSENT;
     }
-    match probe_words(curve, 0, Words::LINE, end) {
-        Probe::Found(w) => w,
-        Probe::Beyond => find_from(curve, Words::LINE, end),
-    }
+    w
 }
 
 // The first point before `end` of the curve with a number: that of node n under bin b has the number 4 * n + b.
@@ -122,32 +102,6 @@ fn input_best(
     look_up(work, most, Words::BINS * node + pin.bin as usize, end)
 }
 
-fn wide(x: u32) -> u64
-    ensures { result ≡ x }
-{
-    x as u64
-}
-
-// What is left of a bound.
-fn less(end: u64, d: u64) -> u64
-    ensures { result ≡ end - d }
-{
-    if end < d {
-        return 0;
-    }
-    end - d
-}
-
-// The later of two times.
-fn later(a: u64, b: u64) -> u64
-    ensures { result ≡ max a b }
-{
-    if a < b {
-        return b;
-    }
-    a
-}
-
 // The least point before `end` of input k of a match, as the match sees it: its pin and its node stand in the hit, the pin's figures in
 // the pattern's row.
 fn input_word(
@@ -167,9 +121,9 @@ fn input_word(
 {
     let place = Hit::INPUTS + Hit::INPUT * k;
     let pin = cells::pin_figures(pattern, hit[place] as usize);
-    let d = wide(cells::delay(pin, load));
+    let d = u64::from(cells::delay(pin, load));
     let node = hit[place + Hit::NODE] as usize;
-    let w = input_best(symbols, work, most, node, pin, less(end, d));
+    let w = input_best(symbols, work, most, node, pin, end.saturating_sub(d));
     if w == Words::ABSENT {
         return Words::ABSENT;
     }
@@ -193,30 +147,17 @@ fn best_match(
     if end == 0 {
         return Words::ABSENT;
     }
-    let count = hit[Hit::COUNT] as usize;
     let mut area: u64 = 0;
     let mut arrival: u64 = 0;
-    let mut k = 0;
-    while k < count {
+    for k in 0..hit[Hit::COUNT] as usize {
         let w = input_word(pattern, hit, symbols, work, most, load, end, k);
         if w == Words::ABSENT {
             return Words::ABSENT;
         }
         area += w / Limits::TIMES;
-        arrival = later(arrival, w % Limits::TIMES);
-        k += 1;
+        arrival = arrival.max(w % Limits::TIMES);
     }
-    (wide(pattern[PatternRow::AREA]) + area) * Limits::TIMES + arrival
-}
-
-// The lesser of two words.
-fn lower(a: u64, b: u64) -> u64
-    ensures { result ≡ min a b }
-{
-    if b < a {
-        return b;
-    }
-    a
+    (u64::from(pattern[PatternRow::AREA]) + area) * Limits::TIMES + arrival
 }
 
 // The least point of a match before `end`, if the match is legal under the load.
@@ -279,10 +220,8 @@ fn keep_all(
 {
     let load = target.load;
     let most = target.most;
-    let mut j = 0;
-    while j < count {
+    for j in 0..count {
         kept[j] = match_best(rows, found, j, symbols, work, most, load, Limits::TIMES);
-        j += 1;
     }
 }
 
@@ -307,17 +246,15 @@ fn best(
     let load = target.load;
     let most = target.most;
     let mut least = Words::ABSENT;
-    let mut j = 0;
-    while j < count {
+    for j in 0..count {
         let mut w = kept[j];
         if w < least {
             if end <= w % Limits::TIMES {
                 w = match_best(rows, found, j, symbols, work, most, load, end);
                 kept[j] = w;
             }
-            least = lower(least, w);
+            least = least.min(w);
         }
-        j += 1;
     }
     least
 }
@@ -344,18 +281,16 @@ pub fn curve(
     let first = (most + 1) * at;
     keep_all(rows, found, count, symbols, work, kept, target);
     let mut end = Limits::TIMES;
-    let mut k = 0;
-    while k <= most {
+    for k in 0..most {
         let w = best(rows, found, count, symbols, work, kept, target, end);
         if w == Words::ABSENT {
             return k;
         }
-        if k == most {
-            return most + 1;
-        }
         work[first + k] = w;
         end = w % Limits::TIMES;
-        k += 1;
     }
-    k
+    if best(rows, found, count, symbols, work, kept, target, end) == Words::ABSENT {
+        return most;
+    }
+    most + 1
 }

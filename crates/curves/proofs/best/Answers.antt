@@ -11,7 +11,7 @@ use Rattle.curves.proofs.best.Goals.{then-w-least, then-end-w, else-end-w, else-
 
 pub loop-j-init : goal.loop-j-init
 unfolding hits_best
-loop-j-init c = (omega arith, refl, c.requires.kept, worth_none match_limit c.args.end none refl)
+loop-j-init c = (refl, c.requires.kept, worth_none match_limit c.args.end none refl)
 
 pub match_best-w-requires : goal.match_best-w-requires
 match_best-w-requires c =
@@ -21,20 +21,20 @@ match_best-w-requires c =
 pub loop-j-preserved : goal.loop-j-preserved
 loop-j-preserved c =
     let i = c.loop-j in
-    let k = i.invariant.2 in
+    let k = i.invariant.1 in
     let rising = c.requires.all_rising i.j c.loop-j-test.true in
     let turn = hits_turn k i.j i.least in
     let word = get_or i.kept i.j 0 in
     elim c.if-w-least.branch [
       | then-w-least t ↦
-          rw (t.kept-is, t.least-is, t.lower-least.ensures)
+          rw (t.kept-is, t.least-is, t.min-least.ensures)
           (elim t.if-end-w.branch [
-            | then-end-w u ↦ rw (u.kept-is, u.w-is) (omega arith, simp length-set i.invariant.1, kept_set k i.j u.match_best-w.result rising (omega arith) (λ k l n. l) u.match_best-w.ensures, turn u.match_best-w.result i.invariant.3 u.match_best-w.ensures)
-            | else-end-w u ↦ rw (u.kept-is, u.w-is) (omega arith, i.invariant.1, k, turn word i.invariant.3 (k.lasts i.j c.loop-j-test.true _ (omega arith) u.if-end-w.false))
+            | then-end-w u ↦ rw (u.kept-is, u.w-is) (simp length-set i.invariant.0, kept_set k i.j u.match_best-w.result rising (omega arith) (λ k l n. l) u.match_best-w.ensures, turn u.match_best-w.result i.invariant.2 u.match_best-w.ensures)
+            | else-end-w u ↦ rw (u.kept-is, u.w-is) (i.invariant.0, k, turn word i.invariant.2 (k.lasts i.j c.loop-j-test.true _ (omega arith) u.if-end-w.false))
           ])
       | else-w-least t ↦
-          let z = passed_over rising c.args.end i.least word c.requires.load_bound.1 (worth_top (omega arith) i.invariant.3) t.if-w-least.false (k.bounds i.j c.loop-j-test.true c.args.end (omega arith)) in
-          rw (t.kept-is, t.least-is) (omega arith, i.invariant.1, k, rw z.2 at (turn z.0 i.invariant.3 z.1))
+          let z = passed_over rising c.args.end i.least word c.requires.load_bound.1 (worth_top (omega arith) i.invariant.2) t.if-w-least.false (k.bounds i.j c.loop-j-test.true c.args.end (omega arith)) in
+          rw (t.kept-is, t.least-is) (i.invariant.0, k, rw z.2 at (turn z.0 i.invariant.2 z.1))
     ]
 
 pub returns : goal.returns
@@ -42,4 +42,4 @@ returns c =
     let a = c.args in
     let i = c.loop-j in
     let done : i.j ≡ a.count = omega arith in
-    record { least = rw done at i.invariant.3; lasting = i.invariant.2 }
+    record { least = rw done at i.invariant.2; lasting = i.invariant.1 }

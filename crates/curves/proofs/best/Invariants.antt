@@ -1,4 +1,3 @@
-use Prim.Native.Nat.{◌-◌, ◌≤◌}
 use mathlib.Core.Path.{◌≡◌}
 use lib.ListN.{length}
 use Rattle.curves.specs.Inside.Words.{match_limit}
@@ -7,7 +6,4 @@ use Rattle.curves.specs.Inside.Promises.{Worth, Kept}
 use Rattle.curves.proofs.best.Given as goal
 
 abbrev pub invariant-loop-j : goal.invariant-loop-j
-invariant-loop-j l = (l.j ≤ l.count) × (length l.kept ≡ length l.initial.kept) × Kept l.most l.symbols l.work l.rows l.found l.load l.count l.end l.kept × Worth match_limit l.end l.least (hits_best l.most l.symbols l.work l.rows l.found l.load l.end l.j)
-
-abbrev pub decreases-loop-j : goal.decreases-loop-j
-decreases-loop-j l = l.count - l.j
+invariant-loop-j l = (length l.kept ≡ length l.initial.kept) × Kept l.most l.symbols l.work l.rows l.found l.load l.count l.end l.kept × Worth match_limit l.end l.least (hits_best l.most l.symbols l.work l.rows l.found l.load l.end l.j)

@@ -29,16 +29,13 @@ loop-k-preserved c =
     let g = c.input_word-w.ensures in
     let z = c.if-w.false in
     let turn = match_turn s.requires.tables s.args.load s.args.end i.k (record { area = i.area; arrival = i.arrival }) i.invariant.3 c.loop-k-test.true c.input_word-w.result (g.point z) in
-    (omega arith, omega (arith, g.small z, i.invariant.1), omega (arith, g.intime z, i.invariant.2, c.later-arrival.ensures), rw c.later-arrival.ensures turn)
+    (omega arith, omega (arith, g.small z, i.invariant.1), omega (arith, g.intime z, i.invariant.2, c.max-arrival.ensures), rw c.max-arrival.ensures turn)
 
 pub returns : goal.returns
 returns c =
     let s = c.before.before.before.before.before.before.before.before.before.before.before in
     let i = c.loop-k in
-    rw c.wide.ensures (match_worth s.requires.tables s.args.load s.args.end i.k (record { area = i.area; arrival = i.arrival }) i.invariant.3 c.loop-k-test.false (omega (arith, s.requires.tables.safe.few, i.invariant.1)) i.invariant.2 s.requires.load_bound.1)
-
-pub overflow_cast-count : goal.overflow_cast-count
-overflow_cast-count c = omega (arith, c.requires.tables.safe.few)
+    rw c.from.ensures (match_worth s.requires.tables s.args.load s.args.end i.k (record { area = i.area; arrival = i.arrival }) i.invariant.3 c.loop-k-test.false (omega (arith, s.requires.tables.safe.few, i.invariant.1)) i.invariant.2 s.requires.load_bound.1)
 
 pub overflow_add-area : goal.overflow_add-area
 overflow_add-area c = omega (arith, c.input_word-w.ensures.small c.if-w.false, c.loop-k.invariant.1, c.requires.tables.safe.few)

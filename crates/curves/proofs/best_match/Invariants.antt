@@ -11,6 +11,3 @@ invariant-loop-k l = (l.k ≤ hit_count l.hit)
     × (l.area ≤ area_limit * l.k)
     × (l.arrival < l.end)
     × (inputs_best l.most l.symbols l.work l.pattern l.hit l.load l.end 0 (hit_count l.hit) ≡ both (some (record { area = l.area; arrival = l.arrival })) (inputs_best l.most l.symbols l.work l.pattern l.hit l.load l.end l.k (hit_count l.hit - l.k)))
-
-abbrev pub decreases-loop-k : goal.decreases-loop-k
-decreases-loop-k l = hit_count l.hit - l.k

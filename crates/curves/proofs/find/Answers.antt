@@ -1,14 +1,9 @@
-use mathlib.Core.Path.{sym, subst}
-use Rattle.curves.specs.Inside.Words.{point_limit}
-use Rattle.curves.specs.Inside.Promises.{Worth, Probed}
+use mathlib.Core.Path.{sym, ◌∙◌}
+use Rattle.curves.proofs.Laws.{found_none, found_point}
 use Rattle.curves.proofs.find.Goals as goal
 
-pub returns-in-Found : goal.returns-in-Found
-returns-in-Found c =
-    let a = c.args in
-    subst (Probed a.curve.now a.end 0 32) c.in-Found.is c.probe_words.ensures
+pub returns-then-w-eq0 : goal.returns-then-w-eq0
+returns-then-w-eq0 c = found_none c.args.end c.args.curve.now c.probe.result c.probe.ensures c.requires (sym c.unwrap_or-w.ensures ∙ c.if-w-eq0.true)
 
-pub returns-in-Beyond : goal.returns-in-Beyond
-returns-in-Beyond c =
-    let a = c.args in
-    subst (Worth point_limit a.end c.find_from-in-Beyond.result) (sym (subst (Probed a.curve.now a.end 0 32) c.in-Beyond.is c.probe_words.ensures)) c.find_from-in-Beyond.ensures
+pub returns : goal.returns
+returns c = rw c.unwrap_or-w.ensures (found_point c.args.end c.args.curve.now c.probe.result c.probe.ensures c.requires (rw c.unwrap_or-w.ensures at c.if-w-eq0.false))

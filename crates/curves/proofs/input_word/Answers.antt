@@ -24,19 +24,19 @@ pub returns-then-w : goal.returns-then-w
 returns-then-w c =
     let q = c.before.before.before.before.before.before.before in
     let s = q.before.before.before.before.before.before in
-    let d = c.wide-d in
-    let l = c.less in
+    let d = c.from-d in
+    let l = c.saturating_sub in
     let w = c.input_best-w in
     input_missing s.requires.tables s.args.load s.args.end s.args.k q.pin_figures-pin.result d.result l.result w.result q.pin_figures-pin.ensures (d.ensures ∙ c.delay.ensures.0) l.ensures w.ensures c.if-w.true
 
 pub overflow_add-result : goal.overflow_add-result
-overflow_add-result c = omega (arith, c.input_best-w.ensures.small c.if-w.false, c.wide-d.ensures, c.delay.ensures.1)
+overflow_add-result c = omega (arith, c.input_best-w.ensures.small c.if-w.false, c.from-d.ensures, c.delay.ensures.1)
 
 pub returns : goal.returns
 returns c =
     let q = c.before.before.before.before.before.before.before in
     let s = q.before.before.before.before.before.before in
-    let d = c.wide-d in
-    let l = c.less in
+    let d = c.from-d in
+    let l = c.saturating_sub in
     let w = c.input_best-w in
     input_found s.requires.tables s.args.load s.args.end s.args.k q.pin_figures-pin.result d.result l.result w.result q.pin_figures-pin.ensures (d.ensures ∙ c.delay.ensures.0) l.ensures s.requires.load_bound.1 w.ensures c.if-w.false

@@ -1,4 +1,3 @@
-use Prim.Native.Nat.{◌-◌, ◌≤◌}
 use mathlib.Core.Path.{◌≡◌}
 use lib.ListN.{length}
 use Rattle.covers.specs.Inside.Curve.{base}
@@ -6,7 +5,4 @@ use Rattle.curves.specs.Inside.Promises.{Kept}
 use Rattle.curves.proofs.keep_all.Given as goal
 
 abbrev pub invariant-loop-j : goal.invariant-loop-j
-invariant-loop-j l = (l.j ≤ l.count) × (length l.kept ≡ length l.initial.kept) × Kept l.most l.symbols l.work l.rows l.found l.load l.j base l.kept
-
-abbrev pub decreases-loop-j : goal.decreases-loop-j
-decreases-loop-j l = l.count - l.j
+invariant-loop-j l = (length l.kept ≡ length l.initial.kept) × Kept l.most l.symbols l.work l.rows l.found l.load l.j base l.kept

@@ -1,13 +1,12 @@
 -- What the functions of this crate promise.
-use Rattle.std.specs.Prelude.{ℕ, ◌+◌, ◌%◌, ◌≤◌, ◌<◌, ◌≡◌, List, map, length, get_or, take, drop}
+use Rattle.std.specs.Prelude.{ℕ, ◌+◌, ◌%◌, ◌≤◌, ◌<◌, ◌≡◌, ltb, Option as Maybe, List, map, length, get_or, take}
+use Rattle.std.specs.List.{find}
 use Rattle.std.proofs.lemmas.List.Edits.{sets}
 use Rattle.std.proofs.Math.Option.{Option, none, some}
 use Rattle.covers.specs.Cover.{Point}
-use Rattle.covers.specs.Inside.Curve.{base, by_deadline, lookup, point_of, word_of}
-use Rattle.curves.specs.Inside.Words.{absent, area_limit, point_limit, match_limit, stored, slot, Small}
+use Rattle.covers.specs.Inside.Curve.{base, by_deadline, point_of, word_of}
+use Rattle.curves.specs.Inside.Words.{absent, area_limit, match_limit, slot, Small}
 use Rattle.curves.specs.Inside.Best.{hit_at, pattern_of, legal_best, hits_best}
-use Rattle.curves.specs.declared.Probe.{Probe}
-use Rattle.curves.specs.declared.Probe.TheVariants.{Found, Beyond}
 
 -- A word below the limit for a point that arrives before an instant, or what stands for no point.
 pub record Worth (limit end r : ℕ) (o : Option Point) : Type 0 where
@@ -16,10 +15,9 @@ pub record Worth (limit end r : ℕ) (o : Option Point) : Type 0 where
   pub small : (r ≡ absent → ⊥) → r < limit
   pub intime : (r ≡ absent → ⊥) → r % base < end
 
--- Of n words of a curve from place k on: the first point before an instant, or that they have none.
-abbrev pub Probed : List ℕ → ℕ → ℕ → ℕ → Probe → Type 0
-Probed curve end k n (Found w) = Worth point_limit end w (lookup end (stored (drop k curve)))
-Probed curve end k n Beyond = lookup end (stored (drop k curve)) ≡ lookup end (stored (drop (k + n) curve))
+-- The first of some words before an instant: a point's, or the 0 that ends a curve.
+abbrev pub first_before : ℕ → List ℕ → Maybe ℕ
+first_before end = find (λ w. ltb (w % base) end)
 
 -- A point fits a word of the work area, which is then not 0.
 pub record Fit (p : Point) : Type 0 where
