@@ -3,6 +3,7 @@ use mathlib.Core.Path.{◌≡◌, refl, sym, ap, ap₂, subst, ◌∙◌}
 use mathlib.Core.List.Memᴰ
 use mathlib.Core.List.{List, [], ◌∷◌, ◌++◌, map, map-append, append_assoc, append-nil, Memᴰ}
 use mathlib.Core.Option.{Option, none, some}
+use Rattle.std.specs.Prelude.{None, Some}
 use mathlib.Core.Logic.{⊎_elim}
 use borrow.Author.Tests.{eq-eqb, ne_eqb}
 use Prim.Native.Nat.{ℕ, zero, suc, ◌+◌, ◌-◌, ◌*◌, ◌%◌, ◌≤◌, ◌<◌}
@@ -16,10 +17,10 @@ use Rattle.covers.specs.Cover.{Point}
 use Rattle.covers.specs.Choice.{lesser}
 use Rattle.covers.proofs.Basics.{option_cases, lt_or_le}
 use Rattle.covers.specs.Inside.Curve.{base, by_deadline, chained, point_of, word_of}
-use Rattle.curves.specs.Inside.Words.{absent, point_limit, match_limit, stored, slot, curve_at, Small, AgreeFrom}
+use Rattle.curves.specs.Inside.Words.{point_limit, match_limit, stored, slot, curve_at, Small, AgreeFrom}
 use Rattle.cells.specs.Inside.Cell.{delay_of}
 use Rattle.curves.specs.Inside.Best.{hit_at, pattern_of, hit_count, input_node, input_figures, input_best, input_late, inputs_best, hit_best, legal_best, hits_best, Above}
-use Rattle.curves.specs.Inside.Promises.{Worth, match_before, AllRising, best_before, node_points, PointsFit, Kept, Least, CurveStored, Fit}
+use Rattle.curves.specs.Inside.Promises.{Held, match_before, AllRising, best_before, node_points, PointsFit, Kept, Least, CurveStored, Fit}
 use Rattle.curves.proofs.Laws.{word_point, point_word_lem, apart, part_word_lem}
 
 -- ---- the other curves
@@ -73,7 +74,7 @@ module _ (most : ℕ) (symbols work work' : List ℕ) (at : ℕ) (a : AgreeFrom 
 
   pub kept_same : {end : ℕ} {kept : List ℕ} → Kept most symbols work rows found load n end kept → Kept most symbols work' rows found load n end kept
   kept_same {kept = kept} k = record {
-    lasts = λ j l e h t. subst (Worth match_limit e (get_or kept j 0)) (match_same j l e) (k.lasts j l e h t);
+    lasts = λ j l e h t. subst (Held match_limit e (get_or kept j 0)) (match_same j l e) (k.lasts j l e h t);
     bounds = λ j l e h p q. k.bounds j l e h p (match_same j l e ∙ q);
   }
 
@@ -138,30 +139,30 @@ module _ {most : ℕ} {symbols work rows found : List ℕ} {load count at k end 
   finished : (ps : List Point) (r : ℕ) → node_points most symbols work rows found load count ≡ ps → r ≡ length ps → take most ps ≡ g.points → CurveStored most symbols work rows found load count at work' r
   finished ps r e l t = record { counted = rw e l; laid = rw (e, t) g.laid; small = g.small }
 
-  module _ {kept' : List ℕ} {w : ℕ} (o : Least most symbols work' rows found load count end kept' w) where
-    pub growing_done : w ≡ absent → CurveStored most symbols work rows found load count at work' k
-    unfolding chained
-    growing_done z = finished g.points k (step none (o.least.missing z) ∙ append-nil g.points) (sym g.many) (take_all most g.points (omega (arith, g.many, g.few)))
+  pub growing_done : {kept' : List ℕ} → Least most symbols work' rows found load count end kept' None → CurveStored most symbols work rows found load count at work' k
+  unfolding chained
+  growing_done o = finished g.points k (step none o.least ∙ append-nil g.points) (sym g.many) (take_all most g.points (omega (arith, g.many, g.few)))
 
-    pub growing_over : (w ≡ absent → ⊥) → k ≡ most → CurveStored most symbols work rows found load count at work' (most + 1)
+  module _ {kept' : List ℕ} {w : ℕ} (o : Least most symbols work' rows found load count end kept' (Some w)) where
+    pub growing_over : k ≡ most → CurveStored most symbols work rows found load count at work' (most + 1)
     unfolding chained by_deadline
-    growing_over n e =
+    growing_over e =
         let done : most - k ≡ 0 = omega arith in
-        finished (g.points ++ (point_of w ∷ [])) (most + 1) (rw done at (step (some (point_of w)) (o.least.point n)))
+        finished (g.points ++ (point_of w ∷ [])) (most + 1) (rw done at (step (some (point_of w)) o.least.point))
         (simp length-append (omega (arith, g.many))) (take_at g.points (point_of w ∷ []) most (g.many ∙ e))
 
-    pub growing_next : (w ≡ absent → ⊥) → (k ≡ most → ⊥) → PointsFit most symbols work rows found load count → slot most at + k < length work' →
+    pub growing_next : (k ≡ most → ⊥) → PointsFit most symbols work rows found load count → slot most at + k < length work' →
         Growing most symbols work rows found load count at (k + 1) (w % base) (set work' (slot most at + k) w) kept'
     unfolding chained point_of
-    growing_next n m fit l =
+    growing_next m fit l =
         let left : most - k ≡ most + 1 - (k + 1) = omega (arith, g.few) in
-        let now : best_before most symbols work rows found load count end ≡ some (point_of w) = sym (hits_same most symbols work' work at agrees rows found load count above end) ∙ o.least.point n in
-        let earlier : w % base ≤ end = omega (arith, o.least.intime n) in
+        let now : best_before most symbols work rows found load count end ≡ some (point_of w) = sym (hits_same most symbols work' work at agrees rows found load count above end) ∙ o.least.point in
+        let earlier : w % base ≤ end = omega (arith, o.least.intime) in
         record {
           points = g.points ++ (point_of w ∷ []);
           many = simp length-append (omega (arith, g.many));
           few = omega (arith, g.few);
-          so_far = (rw left at (step (some (point_of w)) (o.least.point n))) ∙ sym (append_assoc g.points (point_of w ∷ []) _);
+          so_far = (rw left at (step (some (point_of w)) o.least.point)) ∙ sym (append_assoc g.points (point_of w ∷ []) _);
           laid = rw (map-append word_of g.points, sets_append, length-map, g.many, word_point w, ← g.laid);
           small = small_set work' (slot most at + k) w l g.small (omega (arith, (fit.fit end (point_of w) now).area));
           bounded = omega (arith, g.bounded);

@@ -2,7 +2,7 @@
 use mathlib.Core.Path.{◌≡◌, refl, sym, ap, subst, ◌∙◌}
 use mathlib.Core.List.{List, [], ◌∷◌}
 use mathlib.Core.Logic.{⊎_elim}
-use mathlib.Core.Bool.{Bool, true, false, cond}
+use mathlib.Core.Bool.{Bool, true, false, not, cond}
 use native.Mathlib.Decide.{ℕ_discrete}
 use mathlib.Core.Option.{Option, none, some, map}
 use Prim.Native.Nat.{ℕ, zero, suc, ◌+◌, ◌-◌, ◌*◌, ◌/◌, ◌%◌, ◌≤◌, ◌<◌, min, max}
@@ -15,6 +15,7 @@ use lib.Dec.{eqb, ltb}
 use borrow.Author.Tests.{eqb-true, ltb-true, ltb-false, eq-eqb, ne_eqb, lt-ltb, le-ltb, le-leb, lt-leb}
 use borrow.Table.Steps.{cases}
 use Rattle.std.specs.Prelude.{Option as Maybe, None, Some, unwrap_or}
+use Rattle.std.specs.Bool.{then_some}
 use Rattle.std.specs.Option.{option_or}
 use Rattle.std.proofs.lemmas.List.{take-append-drop}
 use Rattle.std.proofs.lemmas.List.Folds.{find-append}
@@ -30,7 +31,7 @@ use Rattle.cells.specs.declared.PinFigures.{PinFigures}
 use Rattle.cells.specs.Inside.Cell.{row_legal, delay_of}
 use Rattle.matching.specs.Inside.Found.{match_bytes}
 use Rattle.curves.specs.Inside.Best.{hit_at, pattern_of, row_area, hit_count, input_node, input_figures, input_best, input_late, inputs_best, hit_best, legal_best, hits_best, Sources, Tables, HitKnown, Matches}
-use Rattle.curves.specs.Inside.Promises.{first_before, Worth, match_before, Kept}
+use Rattle.curves.specs.Inside.Promises.{first_before, PointWord, Worth, Held, match_before, Kept}
 use Rattle.leaves.specs.Inside.Leaf.{leaf_of}
 
 -- ---- words
@@ -48,12 +49,20 @@ pub word_arrival : (p : Point) → p.arrival < base → word_of p % base ≡ p.a
 unfolding word_of
 word_arrival p h = omega arith
 
--- A word that is in use, and one that is not.
-pub worth_point : (limit end w : ℕ) (o : Option Point) → w < limit → w < absent → w % base < end → o ≡ some (point_of w) → Worth limit end w o
-worth_point limit end w o h l t e = record { missing = λ z. absurd (omega arith); point = λ n. e; small = λ n. h; intime = λ n. t }
+-- A kept word that is in use, and one that is not.
+pub held_point : (limit end w : ℕ) (o : Option Point) → w < absent → PointWord limit end w o → Held limit end w o
+held_point limit end w o l g = record { missing = λ z. absurd (omega arith); point = λ n. g }
 
-pub worth_none : (limit end : ℕ) (o : Option Point) → o ≡ none → Worth limit end absent o
-worth_none limit end o e = record { missing = λ z. e; point = λ n. absurd (n refl); small = λ n. absurd (n refl); intime = λ n. absurd (n refl) }
+pub held_none : (limit end : ℕ) (o : Option Point) → o ≡ none → Held limit end absent o
+held_none limit end o e = record { missing = λ z. e; point = λ n. absurd (n refl) }
+
+-- What is kept of what was found, and what is found of what is kept.
+pub held : (limit end : ℕ) (r : Maybe ℕ) (o : Option Point) → limit ≤ absent → Worth limit end r o → Held limit end (unwrap_or r absent) o
+held limit end None o h e = held_none limit end o e
+held limit end (Some w) o h g = held_point limit end w o (omega (arith, g.small)) g
+
+pub told : (limit end w : ℕ) (o : Option Point) → Held limit end w o → Worth limit end (then_some (not (eqb w absent)) w) o
+told limit end w o g = elim (ℕ_discrete w absent) [ yes e ↦ rw (eq-eqb w absent e) (g.missing e) | no n ↦ rw (ne_eqb w absent n) (g.point n) ]
 
 -- ---- stored curves
 
@@ -113,7 +122,7 @@ probed_rest n m end curve e h =
 
 -- What the first word before an instant says of the first point there.
 module _ (end : ℕ) where
-  found_nothing : (ws : List ℕ) → first_before end ws ≡ None → lookup end (stored ws) ≡ none
+  pub found_nothing : (ws : List ℕ) → first_before end ws ≡ None → lookup end (stored ws) ≡ none
   unfolding lookup stored point_of
   found_nothing [] e = refl
   found_nothing (x ∷ xs) e = cases (ltb (x % base) end)
@@ -129,14 +138,10 @@ module _ (end : ℕ) where
       (λ t. let r = found_word w xs (rw t at e) (λ k. s (suc k)) in
       (r.0, r.1, cases (eqb x 0) (λ z. absurd (omega (arith, eqb-true _ _ z, ltb-false _ _ t, r.1))) (λ z. rw (z, t) r.2)))
 
-module _ (end : ℕ) (curve : List ℕ) where
-  pub found_none : (o : Maybe ℕ) → o ≡ first_before end curve → Small curve → unwrap_or o 0 ≡ 0 → Worth point_limit end absent (lookup end (stored curve))
-  found_none None e s z = worth_none point_limit end _ (found_nothing end curve (sym e))
-  found_none (Some w) e s z = worth_none point_limit end _ ((found_word end w curve (sym e) s).2 ∙ rw (eq-eqb w 0 z) refl)
-
-  pub found_point : (o : Maybe ℕ) → o ≡ first_before end curve → Small curve → (unwrap_or o 0 ≡ 0 → ⊥) → Worth point_limit end (unwrap_or o 0) (lookup end (stored curve))
-  found_point None e s n = absurd (n refl)
-  found_point (Some w) e s n = let r = found_word end w curve (sym e) s in worth_point point_limit end w _ r.0 (omega arith) r.1 (r.2 ∙ rw (ne_eqb w 0 n) refl)
+pub found_worth : (end : ℕ) (curve : List ℕ) (w : ℕ) → Some w ≡ first_before end curve → Small curve → Worth point_limit end (then_some (not (eqb w 0)) w) (lookup end (stored curve))
+found_worth end curve w e s =
+    let r = found_word end w curve (sym e) s in
+    cases (eqb w 0) (λ z. rw z (r.2 ∙ rw z refl)) (λ z. rw z (record { point = r.2 ∙ rw z refl; small = r.0; intime = r.1 }))
 
 pub one_less : (n k : ℕ) → k < n → n - k ≡ suc (n - (k + 1))
 one_less n k h = omega arith
@@ -144,16 +149,16 @@ one_less n k h = omega arith
 -- ---- an input
 
 module _ (most : ℕ) (symbols work : List ℕ) (node bin load end : ℕ) where
-  pub leaf_timely : (x : ℕ) → 2 ≤ get_or symbols node 0 → x ≡ leaf_arrival (leaf_of (get_or symbols node 0)) load → x < base → x < end →
-      Worth point_limit end x (input_best most symbols work node bin load end)
+  pub leaf_worth : (x : ℕ) → 2 ≤ get_or symbols node 0 → x ≡ leaf_arrival (leaf_of (get_or symbols node 0)) load → x < base →
+      Worth point_limit end (then_some (ltb x end) x) (input_best most symbols work node bin load end)
   unfolding input_best before point_of leaf_point
-  leaf_timely x h e l t =
-      worth_point point_limit end x _ (omega arith) (omega arith) (omega arith)
-      (rw (le-leb 2 (get_or symbols node 0) h, ← e, lt-ltb x end t) (ap {B = Option Point} some (point_path (omega arith) (omega arith))))
-
-  pub leaf_late : (x : ℕ) → 2 ≤ get_or symbols node 0 → x ≡ leaf_arrival (leaf_of (get_or symbols node 0)) load → end ≤ x → input_best most symbols work node bin load end ≡ none
-  unfolding input_best before leaf_point
-  leaf_late x h e t = rw (le-leb 2 (get_or symbols node 0) h, ← e, le-ltb x end t)
+  leaf_worth x h e l = cases (ltb x end)
+      (λ t. rw t (record {
+        point = rw (le-leb 2 (get_or symbols node 0) h, ← e, t) (ap {B = Option Point} some (point_path (omega arith) (omega arith)));
+        small = omega arith;
+        intime = omega (arith, ltb-true x end t);
+      }))
+      (λ t. rw t (rw (le-leb 2 (get_or symbols node 0) h, ← e, t) refl))
 
   pub gate_best : get_or symbols node 0 < 2 → lookup end (table_of most work node bin) ≡ input_best most symbols work node bin load end
   unfolding input_best
@@ -161,12 +166,12 @@ module _ (most : ℕ) (symbols work : List ℕ) (node bin load end : ℕ) where
 
 -- ---- an input as its match sees it
 
-pub worth_late : (end d w : ℕ) (o : Option Point) → end ≤ base → Worth point_limit (end - d) w o → (w ≡ absent → ⊥) → Worth point_limit end (w + d) (map (late d) o)
+pub word_late : (end d w : ℕ) (o : Option Point) → end ≤ base → PointWord point_limit (end - d) w o → PointWord point_limit end (w + d) (map (late d) o)
 unfolding late point_of
-worth_late end d w o h g n =
-    let t = g.intime n in
-    let l = g.small n in
-    worth_point point_limit end (w + d) _ (omega arith) (omega arith) (omega arith) (rw (g.point n) (ap {B = Option Point} some (point_path (omega arith) (omega arith))))
+word_late end d w o h g =
+    let t = g.intime in
+    let l = g.small in
+    record { point = rw g.point (ap {B = Option Point} some (point_path (omega arith) (omega arith))); small = omega arith; intime = omega arith }
 
 module _ {most : ℕ} {pattern hit symbols work : List ℕ} (t : Tables most pattern hit symbols work) (load end : ℕ) where
   abbrev one : ℕ → Option Point
@@ -179,7 +184,7 @@ module _ {most : ℕ} {pattern hit symbols work : List ℕ} (t : Tables most pat
   all = hit_best most symbols work pattern hit load end
 
   -- Input k, from its pin's figures and its least point before what the pin leaves of the bound.
-  module _ (k : ℕ) (pin : PinFigures) (d left w : ℕ) where
+  module _ (k : ℕ) (pin : PinFigures) (d left : ℕ) where
     abbrev own : Option Point
     own = input_best most symbols work (input_node pattern hit k) pin.bin pin.load left
 
@@ -188,11 +193,11 @@ module _ {most : ℕ} {pattern hit symbols work : List ℕ} (t : Tables most pat
       unfolding input_late
       seen = rw (el, ed, ep)
 
-      pub input_missing : Worth point_limit left w own → w ≡ absent → Worth point_limit end absent (one k)
-      input_missing g z = worth_none point_limit end (one k) (sym seen ∙ ap (map (late d)) (g.missing z))
+      pub input_missing : own ≡ none → one k ≡ none
+      input_missing e = sym seen ∙ ap (map (late d)) e
 
-      pub input_found : end ≤ base → Worth point_limit left w own → (w ≡ absent → ⊥) → Worth point_limit end (w + d) (one k)
-      input_found h g n = subst (Worth point_limit end (w + d)) seen (worth_late end d w own h (subst (λ (b : ℕ). Worth point_limit b w own) el g) n)
+      pub input_found : (w : ℕ) → end ≤ base → PointWord point_limit left w own → PointWord point_limit end (w + d) (one k)
+      input_found w h g = subst (PointWord point_limit end (w + d)) seen (word_late end d w own h (subst (λ (b : ℕ). PointWord point_limit b w own) el g))
 
   -- ---- a match: its inputs one after another
 
@@ -210,11 +215,11 @@ module _ {most : ℕ} {pattern hit symbols work : List ℕ} (t : Tables most pat
     unfolding both beside point_of
     match_turn h w e = next h (some (point_of w)) e ∙ sym (both_assoc (some p) (some (point_of w)) (rest (k + 1) (many - (k + 1))))
 
-    pub match_stops : k < many → one k ≡ none → Worth match_limit end absent all
+    pub match_stops : k < many → one k ≡ none → all ≡ none
     unfolding hit_best both
-    match_stops h e = worth_none match_limit end all (rw (next h none e))
+    match_stops h e = rw (next h none e) refl
 
-    pub match_worth : many ≤ k → p.area ≤ 6 * area_limit → p.arrival < end → end ≤ base → Worth match_limit end ((row_area pattern + p.area) * base + p.arrival) all
+    pub match_worth : many ≤ k → p.area ≤ 6 * area_limit → p.arrival < end → end ≤ base → PointWord match_limit end ((row_area pattern + p.area) * base + p.arrival) all
     unfolding hit_best raised point_of inputs_best both beside before
     match_worth h hp ht he =
         let a = row_area pattern in
@@ -222,16 +227,16 @@ module _ {most : ℕ} {pattern hit symbols work : List ℕ} (t : Tables most pat
         let small : a ≤ 65535 = t.safe.area in
         let done : many - k ≡ 0 = omega arith in
         let whole : rest 0 many ≡ some p = i ∙ rw (done, lt-ltb 0 end (omega arith)) (ap {B = Option Point} some (point_path (omega arith) (omega arith))) in
-        worth_point match_limit end w all (omega arith) (omega arith) (omega arith) (rw whole (ap {B = Option Point} some (point_path (omega arith) (omega arith))))
+        record { point = rw whole (ap {B = Option Point} some (point_path (omega arith) (omega arith))); small = omega arith; intime = omega arith }
 
   nothing : (n k : ℕ) → end ≡ 0 → rest k n ≡ none
   unfolding inputs_best before
   nothing zero k e = rw (le-ltb 0 end (omega arith))
   nothing (suc n) k e = ap (both (one k)) (nothing n (suc k) e) ∙ (both_carries (one k)).on_none
 
-  pub match_never : end ≡ 0 → Worth match_limit end absent all
+  pub match_never : end ≡ 0 → all ≡ none
   unfolding hit_best
-  match_never e = worth_none match_limit end all (ap (map (raised (row_area pattern))) (nothing (hit_count hit) 0 e))
+  match_never e = ap (map (raised (row_area pattern))) (nothing (hit_count hit) 0 e)
 
   -- ---- a match, if it is legal
 
@@ -239,11 +244,11 @@ module _ {most : ℕ} {pattern hit symbols work : List ℕ} (t : Tables most pat
   allowed = legal_best most symbols work pattern hit load end
 
   module _ {b : Bool} (e : b ≡ row_legal pattern load) where
-    pub match_illegal : b ≡ false → Worth match_limit end absent allowed
+    pub match_illegal : b ≡ false → allowed ≡ none
     unfolding legal_best
-    match_illegal f = worth_none match_limit end allowed (rw (← e, f))
+    match_illegal f = rw (← e, f) refl
 
-    pub match_legal : b ≡ true → (r : ℕ) → Worth match_limit end r all → Worth match_limit end r allowed
+    pub match_legal : b ≡ true → (r : Maybe ℕ) → Worth match_limit end r all → Worth match_limit end r allowed
     unfolding legal_best
     match_legal f r g = rw (← e, f) g
 
@@ -258,34 +263,36 @@ unfolding word_of
 point_order (smaller l) h = omega arith
 point_order (earlier e l) h = omega arith
 
-module _ (limit end v w : ℕ) (o o' : Option Point) (fits : limit ≤ absent) (a : Worth limit end v o) (b : Worth limit end w o') where
+module _ (limit end v w : ℕ) (o o' : Option Point) (fits : limit ≤ absent) (a : Held limit end v o) (b : Held limit end w o') where
   -- The later one is the lesser word.
-  lesser_new : w < v → Worth limit end w (lesser o o')
+  lesser_new : w < v → Held limit end w (lesser o o')
   unfolding lesser
   lesser_new h = elim (ℕ_discrete v absent) [
     | yes e ↦ rw (a.missing e) b
     | no e ↦
-        let f : w ≡ absent → ⊥ = λ z. omega (arith, a.small e) in
-        worth_point limit end w _ (b.small f) (omega (arith, b.small f)) (b.intime f) (rw (a.point e, b.point f) (ap {B = Option Point} some (pick_right (word_order w v (omega arith)))))
+        let p = a.point e in
+        let q = b.point (λ z. omega (arith, p.small)) in
+        held_point limit end w _ (omega (arith, q.small)) (record { point = rw (p.point, q.point) (ap {B = Option Point} some (pick_right (word_order w v (omega arith)))); small = q.small; intime = q.intime })
   ]
 
-  lesser_old : v ≤ w → Worth limit end v (lesser o o')
+  lesser_old : v ≤ w → Held limit end v (lesser o o')
   unfolding lesser
   lesser_old h = elim (ℕ_discrete w absent) [
     | yes f ↦ rw (b.missing f, lesser_none o) a
     | no f ↦
-        let e : v ≡ absent → ⊥ = λ z. omega (arith, b.small f) in
-        worth_point limit end v _ (a.small e) (omega (arith, a.small e)) (a.intime e) (rw (a.point e, b.point f) (ap {B = Option Point} some (pick_left (word_order v w h))))
+        let q = b.point f in
+        let p = a.point (λ z. omega (arith, q.small)) in
+        held_point limit end v _ (omega (arith, p.small)) (record { point = rw (p.point, q.point) (ap {B = Option Point} some (pick_left (word_order v w h))); small = p.small; intime = p.intime })
   ]
 
-  pub lesser_word : Worth limit end (min v w) (lesser o o')
+  pub lesser_word : Held limit end (min v w) (lesser o o')
   lesser_word = ⊎_elim (λ h. let e : min v w ≡ w = omega arith in rw e (lesser_new h)) (λ h. let e : min v w ≡ v = omega arith in rw e (lesser_old h)) (lt_or_le w v)
 
 -- ---- the hits of a node
 
 pub hits_turn : {most : ℕ} {symbols work rows found : List ℕ} {load count end : ℕ} {kept : List ℕ} → Kept most symbols work rows found load count end kept → (j v w : ℕ) →
-    Worth match_limit end v (hits_best most symbols work rows found load end j) → Worth match_limit end w (match_before most symbols work rows found load j end) →
-    Worth match_limit end (min v w) (hits_best most symbols work rows found load end (j + 1))
+    Held match_limit end v (hits_best most symbols work rows found load end j) → Held match_limit end w (match_before most symbols work rows found load j end) →
+    Held match_limit end (min v w) (hits_best most symbols work rows found load end (j + 1))
 unfolding hits_best
 hits_turn {end = end} k j v w a b = rw add-one (lesser_word match_limit end v w _ _ (omega arith) a b)
 

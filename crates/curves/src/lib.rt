@@ -14,12 +14,13 @@ use matching::Hit;
 use shapes_rules::Packed;
 use sheets_rules::{Limits, PatternRow, Slots};
 
-// The word for no point; how many curves a node has: one for each load bin; and how many words of a curve are tested in a straight line.
+// How many curves a node has: one for each load bin; and how many words of a curve are tested in a straight line.
 #[derive(Clone, Copy)]
 pub struct Words {}
 
 impl Words {
-    pub const ABSENT: u64 = 9223372036854775808;
+    // A kept word that says that there is no point: it is above every point's word, so that the least of kept words is found by `min` alone.
+    const ABSENT: u64 = 9223372036854775808;
 
     pub const BINS: usize = Slots::BINS;
 
@@ -55,19 +56,16 @@ fn probe(curve: &[u64], end: u64) -> Option<u64>
 }
 
 // The first point of a curve that arrives before `end`.
-pub fn find(curve: &[u64], end: u64) -> u64
+pub fn find(curve: &[u64], end: u64) -> Option<u64>
     requires { Small curve.now }
     ensures { Worth point_limit end result (lookup end (stored curve.now)) }
 {
-    let w = probe(curve, end).unwrap_or(0);
-    if w == 0 {
-        return Words::ABSENT;
-    }
-    w
+    let w = probe(curve, end)?;
+    (w != 0).then_some(w)
 }
 
 // The first point before `end` of the curve with a number: that of node n under bin b has the number 4 * n + b.
-pub fn look_up(work: &[u64], most: usize, at: usize, end: u64) -> u64
+pub fn look_up(work: &[u64], most: usize, at: usize, end: u64) -> Option<u64>
     requires { WorkArea most work.now × (at < 256) }
     ensures { Worth point_limit end result (lookup end (stored (curve_at most work.now at))) }
 {
@@ -83,7 +81,7 @@ fn input_best(
     node: usize,
     pin: PinFigures,
     end: u64,
-) -> u64
+) -> Option<u64>
     requires sources { Sources most symbols.now work.now }
     requires node_bound { (node < 64) × PinSafe pin }
     ensures { Worth point_limit end result (input_best most symbols.now work.now node pin.bin pin.load end) }
@@ -91,13 +89,10 @@ fn input_best(
     let symbol = symbols[node];
     if Packed::LEAF <= symbol {
         let arrival = leaves::leaf_arrival(symbol, pin.load);
-        if arrival < end {
-            return arrival;
-        }
-        return Words::ABSENT;
+        return (arrival < end).then_some(arrival);
     }
     if end == 0 {
-        return Words::ABSENT;
+        return None;
     }
     look_up(work, most, Words::BINS * node + pin.bin as usize, end)
 }
@@ -113,7 +108,7 @@ fn input_word(
     load: u32,
     end: u64,
     k: usize,
-) -> u64
+) -> Option<u64>
     requires tables { Tables most pattern.now hit.now symbols.now work.now }
     requires input_safe { InputSafe pattern.now hit.now k × (k < 6) }
     requires load_bound { (load ≤ 255) × (end ≤ base) }
@@ -123,11 +118,8 @@ fn input_word(
     let pin = cells::pin_figures(pattern, hit[place] as usize);
     let d = u64::from(cells::delay(pin, load));
     let node = hit[place + Hit::NODE] as usize;
-    let w = input_best(symbols, work, most, node, pin, end.saturating_sub(d));
-    if w == Words::ABSENT {
-        return Words::ABSENT;
-    }
-    w + d
+    let w = input_best(symbols, work, most, node, pin, end.saturating_sub(d))?;
+    Some(w + d)
 }
 
 // The least point of a match before `end`: its cell on top of its inputs side by side.
@@ -139,25 +131,22 @@ fn best_match(
     most: usize,
     load: u32,
     end: u64,
-) -> u64
+) -> Option<u64>
     requires tables { Tables most pattern.now hit.now symbols.now work.now }
     requires load_bound { (load ≤ 255) × (end ≤ base) }
     ensures { Worth match_limit end result (hit_best most symbols.now work.now pattern.now hit.now load end) }
 {
     if end == 0 {
-        return Words::ABSENT;
+        return None;
     }
     let mut area: u64 = 0;
     let mut arrival: u64 = 0;
     for k in 0..hit[Hit::COUNT] as usize {
-        let w = input_word(pattern, hit, symbols, work, most, load, end, k);
-        if w == Words::ABSENT {
-            return Words::ABSENT;
-        }
+        let w = input_word(pattern, hit, symbols, work, most, load, end, k)?;
         area += w / Limits::TIMES;
         arrival = arrival.max(w % Limits::TIMES);
     }
-    (u64::from(pattern[PatternRow::AREA]) + area) * Limits::TIMES + arrival
+    Some((u64::from(pattern[PatternRow::AREA]) + area) * Limits::TIMES + arrival)
 }
 
 // The least point of a match before `end`, if the match is legal under the load.
@@ -169,13 +158,13 @@ fn legal_match(
     most: usize,
     load: u32,
     end: u64,
-) -> u64
+) -> Option<u64>
     requires tables { Tables most pattern.now hit.now symbols.now work.now }
     requires load_bound { (load ≤ 255) × (end ≤ base) }
     ensures { Worth match_limit end result (legal_best most symbols.now work.now pattern.now hit.now load end) }
 {
     if !cells::is_legal(pattern, load) {
-        return Words::ABSENT;
+        return None;
     }
     best_match(pattern, hit, symbols, work, most, load, end)
 }
@@ -190,7 +179,7 @@ pub fn match_best(
     most: usize,
     load: u32,
     end: u64,
-) -> u64
+) -> Option<u64>
     requires hit_known { HitKnown rows.now (hit_at found.now j) × (match_bytes * (j + 1) ≤ length found.now) }
     requires sources { Sources most symbols.now work.now }
     requires load_bound { (load ≤ 255) × (end ≤ base) }
@@ -221,7 +210,9 @@ fn keep_all(
     let load = target.load;
     let most = target.most;
     for j in 0..count {
-        kept[j] = match_best(rows, found, j, symbols, work, most, load, Limits::TIMES);
+        kept[j] = match_best(rows, found, j, symbols, work, most, load, Limits::TIMES).unwrap_or(
+            Words::ABSENT,
+        );
     }
 }
 
@@ -236,7 +227,7 @@ fn best(
     kept: &mut [u64],
     target: Target,
     end: u64,
-) -> u64
+) -> Option<u64>
     requires cases { Matches target.most rows.now found.now count symbols.now work.now }
     requires load_bound { (target.load ≤ 255) × (end ≤ base) × (count ≤ length kept.old) }
     requires all_rising { AllRising target.most symbols.now work.now rows.now found.now target.load count }
@@ -250,13 +241,15 @@ fn best(
         let mut w = kept[j];
         if w < least {
             if end <= w % Limits::TIMES {
-                w = match_best(rows, found, j, symbols, work, most, load, end);
+                w = match_best(rows, found, j, symbols, work, most, load, end).unwrap_or(
+                    Words::ABSENT,
+                );
                 kept[j] = w;
             }
             least = least.min(w);
         }
     }
-    least
+    (least != Words::ABSENT).then_some(least)
 }
 
 // The curve of a node under a load, stored as the curve with the target's number: its points, latest first. Of more than `most` points, `most`
@@ -282,15 +275,14 @@ pub fn curve(
     keep_all(rows, found, count, symbols, work, kept, target);
     let mut end = Limits::TIMES;
     for k in 0..most {
-        let w = best(rows, found, count, symbols, work, kept, target, end);
-        if w == Words::ABSENT {
+        let Some(w) = best(rows, found, count, symbols, work, kept, target, end) else {
             return k;
-        }
+        };
         work[first + k] = w;
         end = w % Limits::TIMES;
     }
-    if best(rows, found, count, symbols, work, kept, target, end) == Words::ABSENT {
-        return most;
+    match best(rows, found, count, symbols, work, kept, target, end) {
+        None => most,
+        Some(_) => most + 1,
     }
-    most + 1
 }

@@ -4,17 +4,17 @@ use mathlib.Core.Option.{none}
 use lib.ListN.{get_or, length-set}
 use Rattle.curves.specs.Inside.Words.{match_limit}
 use Rattle.curves.specs.Inside.Best.{hits_best}
-use Rattle.curves.proofs.Laws.{worth_none, hits_turn, hit_ready}
-use Rattle.curves.proofs.Lasting.{passed_over, worth_top, kept_set}
+use Rattle.curves.proofs.Laws.{held_none, held, told, hits_turn, hit_ready}
+use Rattle.curves.proofs.Lasting.{passed_over, held_top, kept_set}
 use Rattle.curves.proofs.best.Goals as goal
 use Rattle.curves.proofs.best.Goals.{then-w-least, then-end-w, else-end-w, else-w-least}
 
 pub loop-j-init : goal.loop-j-init
 unfolding hits_best
-loop-j-init c = (refl, c.requires.kept, worth_none match_limit c.args.end none refl)
+loop-j-init c = (refl, c.requires.kept, held_none match_limit c.args.end none refl)
 
-pub match_best-w-requires : goal.match_best-w-requires
-match_best-w-requires c =
+pub match_best-requires : goal.match_best-requires
+match_best-requires c =
     let p = c.requires in
     record { hit_known = hit_ready p.cases c.loop-j.j c.loop-j-test.true; sources = p.cases.sources; load_bound = (p.load_bound.0, p.load_bound.1) }
 
@@ -29,11 +29,14 @@ loop-j-preserved c =
       | then-w-least t ↦
           rw (t.kept-is, t.least-is, t.min-least.ensures)
           (elim t.if-end-w.branch [
-            | then-end-w u ↦ rw (u.kept-is, u.w-is) (simp length-set i.invariant.0, kept_set k i.j u.match_best-w.result rising (omega arith) (λ k l n. l) u.match_best-w.ensures, turn u.match_best-w.result i.invariant.2 u.match_best-w.ensures)
+            | then-end-w u ↦
+                let w = u.unwrap_or-w.result in
+                let h = rw (← u.unwrap_or-w.ensures) at (held match_limit c.args.end u.match_best.result _ (omega arith) u.match_best.ensures) in
+                rw (u.kept-is, u.w-is) (simp length-set i.invariant.0, kept_set k i.j w rising (omega arith) (λ k l n. l) h, turn w i.invariant.2 h)
             | else-end-w u ↦ rw (u.kept-is, u.w-is) (i.invariant.0, k, turn word i.invariant.2 (k.lasts i.j c.loop-j-test.true _ (omega arith) u.if-end-w.false))
           ])
       | else-w-least t ↦
-          let z = passed_over rising c.args.end i.least word c.requires.load_bound.1 (worth_top (omega arith) i.invariant.2) t.if-w-least.false (k.bounds i.j c.loop-j-test.true c.args.end (omega arith)) in
+          let z = passed_over rising c.args.end i.least word c.requires.load_bound.1 (held_top (omega arith) i.invariant.2) t.if-w-least.false (k.bounds i.j c.loop-j-test.true c.args.end (omega arith)) in
           rw (t.kept-is, t.least-is) (i.invariant.0, k, rw z.2 at (turn z.0 i.invariant.2 z.1))
     ]
 
@@ -42,4 +45,4 @@ returns c =
     let a = c.args in
     let i = c.loop-j in
     let done : i.j ≡ a.count = omega arith in
-    record { least = rw done at i.invariant.2; lasting = i.invariant.1 }
+    record { least = rw c.then_some.ensures (told match_limit a.end i.least _ (rw done at i.invariant.2)); lasting = i.invariant.1 }

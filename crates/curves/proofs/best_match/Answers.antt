@@ -11,25 +11,24 @@ returns-then-end-eq0 c = let s = c.before.before.before.before.before.before in 
 pub loop-k-init : goal.loop-k-init
 loop-k-init c = (omega arith, omega arith, omega (arith, c.if-end-eq0.false), sym (both_nothing _ ∙ rw sub-zero))
 
-pub input_word-w-requires : goal.input_word-w-requires
-input_word-w-requires c =
+pub input_word-requires : goal.input_word-requires
+input_word-requires c =
     let p = c.requires in
     record { tables = p.tables; input_safe = (p.tables.safe.inputs c.loop-k.k c.loop-k-test.true, omega (arith, p.tables.safe.few)); load_bound = p.load_bound }
 
-pub returns-then-w : goal.returns-then-w
-returns-then-w c =
+pub returns-in_err-w : goal.returns-in_err-w
+returns-in_err-w c =
     let s = c.before.before.before.before.before.before.before.before.before.before.before in
     let i = c.loop-k in
-    match_stops s.requires.tables s.args.load s.args.end i.k (record { area = i.area; arrival = i.arrival }) i.invariant.3 c.loop-k-test.true (c.input_word-w.ensures.missing c.if-w.true)
+    rw c.from_residual.ensures (match_stops s.requires.tables s.args.load s.args.end i.k (record { area = i.area; arrival = i.arrival }) i.invariant.3 c.loop-k-test.true c.in_err-w.ensures)
 
 pub loop-k-preserved : goal.loop-k-preserved
 loop-k-preserved c =
     let s = c.before.before.before.before.before.before.before.before.before.before.before.before in
     let i = c.loop-k in
-    let g = c.input_word-w.ensures in
-    let z = c.if-w.false in
-    let turn = match_turn s.requires.tables s.args.load s.args.end i.k (record { area = i.area; arrival = i.arrival }) i.invariant.3 c.loop-k-test.true c.input_word-w.result (g.point z) in
-    (omega arith, omega (arith, g.small z, i.invariant.1), omega (arith, g.intime z, i.invariant.2, c.max-arrival.ensures), rw c.max-arrival.ensures turn)
+    let g = c.in_ok-w.ensures in
+    let turn = match_turn s.requires.tables s.args.load s.args.end i.k (record { area = i.area; arrival = i.arrival }) i.invariant.3 c.loop-k-test.true c.in_ok-w.w g.point in
+    (omega arith, omega (arith, g.small, i.invariant.1), omega (arith, g.intime, i.invariant.2, c.max-arrival.ensures), rw c.max-arrival.ensures turn)
 
 pub returns : goal.returns
 returns c =
@@ -38,4 +37,4 @@ returns c =
     rw c.from.ensures (match_worth s.requires.tables s.args.load s.args.end i.k (record { area = i.area; arrival = i.arrival }) i.invariant.3 c.loop-k-test.false (omega (arith, s.requires.tables.safe.few, i.invariant.1)) i.invariant.2 s.requires.load_bound.1)
 
 pub overflow_add-area : goal.overflow_add-area
-overflow_add-area c = omega (arith, c.input_word-w.ensures.small c.if-w.false, c.loop-k.invariant.1, c.requires.tables.safe.few)
+overflow_add-area c = omega (arith, c.in_ok-w.ensures.small, c.loop-k.invariant.1, c.requires.tables.safe.few)

@@ -1,9 +1,9 @@
-use mathlib.Core.Path.{sym, ◌∙◌}
-use Rattle.curves.proofs.Laws.{found_none, found_point}
+use mathlib.Core.Path.{sym}
+use Rattle.curves.proofs.Laws.{found_nothing, found_worth}
 use Rattle.curves.proofs.find.Goals as goal
 
-pub returns-then-w-eq0 : goal.returns-then-w-eq0
-returns-then-w-eq0 c = found_none c.args.end c.args.curve.now c.probe.result c.probe.ensures c.requires (sym c.unwrap_or-w.ensures ∙ c.if-w-eq0.true)
+pub returns-in_err-w : goal.returns-in_err-w
+returns-in_err-w c = let h = c.from_residual.ensures in rw h (found_nothing c.args.end c.args.curve.now (sym c.in_err-w.ensures))
 
 pub returns : goal.returns
-returns c = rw c.unwrap_or-w.ensures (found_point c.args.end c.args.curve.now c.probe.result c.probe.ensures c.requires (rw c.unwrap_or-w.ensures at c.if-w-eq0.false))
+returns c = rw c.then_some.ensures (found_worth c.args.end c.args.curve.now c.in_ok-w.w c.in_ok-w.ensures c.requires)

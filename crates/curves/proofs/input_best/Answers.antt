@@ -2,27 +2,22 @@ use native.Mathlib.Omega.{arith}
 use mathlib.Core.Path.{sym, subst, ◌∙◌}
 use Rattle.curves.specs.Inside.Words.{point_limit, table_of}
 use Rattle.curves.specs.Inside.Promises.{Worth}
-use Rattle.curves.proofs.Laws.{leaf_timely, leaf_late, gate_best, worth_none, found_never}
+use Rattle.curves.proofs.Laws.{leaf_worth, gate_best, found_never}
 use Rattle.curves.proofs.input_best.Goals as goal
 
 pub leaf_arrival-arrival-requires : goal.leaf_arrival-arrival-requires
 leaf_arrival-arrival-requires c = let s = c.before.before.before.before.before in (c.if-symbol-ge-LEAF.true, s.requires.sources.symbols_small s.args.node, s.requires.node_bound.1.load)
 
-pub returns-then-arrival-end : goal.returns-then-arrival-end
-returns-then-arrival-end c =
-    let a = c.args in
-    let e = c.leaf_arrival-arrival.ensures in
-    leaf_timely a.most a.symbols.now a.work.now a.node a.pin.bin a.pin.load a.end c.leaf_arrival-arrival.result c.if-symbol-ge-LEAF.true e.0 e.1 c.if-arrival-end.true
-
 pub returns-then-symbol-ge-LEAF : goal.returns-then-symbol-ge-LEAF
 returns-then-symbol-ge-LEAF c =
     let a = c.args in
-    worth_none point_limit a.end _ (leaf_late a.most a.symbols.now a.work.now a.node a.pin.bin a.pin.load a.end c.leaf_arrival-arrival.result c.if-symbol-ge-LEAF.true c.leaf_arrival-arrival.ensures.0 c.if-arrival-end.false)
+    let e = c.leaf_arrival-arrival.ensures in
+    rw c.then_some.ensures (leaf_worth a.most a.symbols.now a.work.now a.node a.pin.bin a.pin.load a.end c.leaf_arrival-arrival.result c.if-symbol-ge-LEAF.true e.0 e.1)
 
 pub returns-then-end-eq0 : goal.returns-then-end-eq0
 returns-then-end-eq0 c =
     let a = c.args in
-    worth_none point_limit a.end _ (sym (gate_best a.most a.symbols.now a.work.now a.node a.pin.bin a.pin.load a.end (omega (arith, c.if-symbol-ge-LEAF.false))) ∙ found_never (table_of a.most a.work.now a.node a.pin.bin) a.end c.if-end-eq0.true)
+    sym (gate_best a.most a.symbols.now a.work.now a.node a.pin.bin a.pin.load a.end (omega (arith, c.if-symbol-ge-LEAF.false))) ∙ found_never (table_of a.most a.work.now a.node a.pin.bin) a.end c.if-end-eq0.true
 
 pub returns : goal.returns
 returns c =

@@ -14,23 +14,22 @@ safe c = subst PinSafe (sym c.pin_figures-pin.ensures) c.requires.input_safe.0.f
 pub delay-requires : goal.delay-requires
 delay-requires c = (safe c.before, c.requires.load_bound.0)
 
-pub input_best-w-requires : goal.input_best-w-requires
-input_best-w-requires c =
+pub input_best-requires : goal.input_best-requires
+input_best-requires c =
     let q = c.before.before.before.before.before in
     let p = q.requires in
     record { sources = p.tables.sources; node_bound = (p.input_safe.0.node, safe q) }
 
-pub returns-then-w : goal.returns-then-w
-returns-then-w c =
+pub returns-in_err-w : goal.returns-in_err-w
+returns-in_err-w c =
     let q = c.before.before.before.before.before.before.before in
     let s = q.before.before.before.before.before.before in
     let d = c.from-d in
     let l = c.saturating_sub in
-    let w = c.input_best-w in
-    input_missing s.requires.tables s.args.load s.args.end s.args.k q.pin_figures-pin.result d.result l.result w.result q.pin_figures-pin.ensures (d.ensures ∙ c.delay.ensures.0) l.ensures w.ensures c.if-w.true
+    rw c.from_residual.ensures (input_missing s.requires.tables s.args.load s.args.end s.args.k q.pin_figures-pin.result d.result l.result q.pin_figures-pin.ensures (d.ensures ∙ c.delay.ensures.0) l.ensures c.in_err-w.ensures)
 
 pub overflow_add-result : goal.overflow_add-result
-overflow_add-result c = omega (arith, c.input_best-w.ensures.small c.if-w.false, c.from-d.ensures, c.delay.ensures.1)
+overflow_add-result c = omega (arith, c.in_ok-w.ensures.small, c.from-d.ensures, c.delay.ensures.1)
 
 pub returns : goal.returns
 returns c =
@@ -38,5 +37,4 @@ returns c =
     let s = q.before.before.before.before.before.before in
     let d = c.from-d in
     let l = c.saturating_sub in
-    let w = c.input_best-w in
-    input_found s.requires.tables s.args.load s.args.end s.args.k q.pin_figures-pin.result d.result l.result w.result q.pin_figures-pin.ensures (d.ensures ∙ c.delay.ensures.0) l.ensures s.requires.load_bound.1 w.ensures c.if-w.false
+    input_found s.requires.tables s.args.load s.args.end s.args.k q.pin_figures-pin.result d.result l.result q.pin_figures-pin.ensures (d.ensures ∙ c.delay.ensures.0) l.ensures c.in_ok-w.w s.requires.load_bound.1 c.in_ok-w.ensures

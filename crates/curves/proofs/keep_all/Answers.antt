@@ -1,7 +1,8 @@
 use native.Mathlib.Omega.{arith}
 use mathlib.Core.Path.{refl}
 use lib.ListN.{length-set}
-use Rattle.curves.proofs.Laws.{hit_ready}
+use Rattle.curves.proofs.Laws.{hit_ready, held}
+use Rattle.curves.specs.Inside.Words.{match_limit}
 use Rattle.curves.proofs.Lasting.{kept_set}
 use Rattle.curves.proofs.keep_all.Goals as goal
 
@@ -12,7 +13,11 @@ pub match_best-requires : goal.match_best-requires
 match_best-requires c = let p = c.requires in record { hit_known = hit_ready p.cases c.loop-j.j c.loop-j-test.true; sources = p.cases.sources; load_bound = (p.load_bound.0, omega arith) }
 
 pub loop-j-preserved : goal.loop-j-preserved
-loop-j-preserved c = let i = c.loop-j in let p = c.requires in (simp length-set i.invariant.0, kept_set i.invariant.1 i.j c.match_best.result (p.all_rising i.j c.loop-j-test.true) (omega arith) (λ k l n. omega arith) c.match_best.ensures)
+loop-j-preserved c =
+    let i = c.loop-j in
+    let p = c.requires in
+    let h = rw (← c.unwrap_or.ensures) at (held match_limit _ c.match_best.result _ (omega arith) c.match_best.ensures) in
+    (simp length-set i.invariant.0, kept_set i.invariant.1 i.j c.unwrap_or.result (p.all_rising i.j c.loop-j-test.true) (omega arith) (λ k l n. omega arith) h)
 
 pub returns : goal.returns
 returns c = let k = c.loop-j.invariant.1 in record { lasts = λ j l. k.lasts j (omega arith); bounds = λ j l. k.bounds j (omega arith) }

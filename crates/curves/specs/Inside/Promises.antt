@@ -1,5 +1,5 @@
 -- What the functions of this crate promise.
-use Rattle.std.specs.Prelude.{ℕ, ◌+◌, ◌%◌, ◌≤◌, ◌<◌, ◌≡◌, ltb, Option as Maybe, List, map, length, get_or, take}
+use Rattle.std.specs.Prelude.{ℕ, ◌+◌, ◌%◌, ◌≤◌, ◌<◌, ◌≡◌, ltb, Option as Maybe, None, Some, List, map, length, get_or, take}
 use Rattle.std.specs.List.{find}
 use Rattle.std.proofs.lemmas.List.Edits.{sets}
 use Rattle.std.proofs.Math.Option.{Option, none, some}
@@ -8,12 +8,21 @@ use Rattle.covers.specs.Inside.Curve.{base, by_deadline, point_of, word_of}
 use Rattle.curves.specs.Inside.Words.{absent, area_limit, match_limit, slot, Small}
 use Rattle.curves.specs.Inside.Best.{hit_at, pattern_of, legal_best, hits_best}
 
--- A word below the limit for a point that arrives before an instant, or what stands for no point.
-pub record Worth (limit end r : ℕ) (o : Option Point) : Type 0 where
-  pub missing : r ≡ absent → o ≡ none
-  pub point : (r ≡ absent → ⊥) → o ≡ some (point_of r)
-  pub small : (r ≡ absent → ⊥) → r < limit
-  pub intime : (r ≡ absent → ⊥) → r % base < end
+-- A word below the limit for a point that arrives before an instant.
+pub record PointWord (limit end w : ℕ) (o : Option Point) : Type 0 where
+  pub point : o ≡ some (point_of w)
+  pub small : w < limit
+  pub intime : w % base < end
+
+-- Such a word, or none where there is no point.
+abbrev pub Worth : (limit end : ℕ) → Maybe ℕ → Option Point → Type 0
+Worth limit end None o = o ≡ none
+Worth limit end (Some w) o = PointWord limit end w o
+
+-- The same of a word that is kept, where one word stands for no point.
+pub record Held (limit end w : ℕ) (o : Option Point) : Type 0 where
+  pub missing : w ≡ absent → o ≡ none
+  pub point : (w ≡ absent → ⊥) → PointWord limit end w o
 
 -- The first of some words before an instant: a point's, or the 0 that ends a curve.
 abbrev pub first_before : ℕ → List ℕ → Maybe ℕ
@@ -47,11 +56,11 @@ module _ (most : ℕ) (symbols work rows found : List ℕ) (load count : ℕ) wh
   -- The word kept for each match, before every instant from `end` back: where the word is still in time, it is the match's least point there, or
   -- says that there is none; and the match's least point there is never below it.
   pub record Kept (end : ℕ) (kept : List ℕ) : Type 0 where
-    pub lasts : (j : ℕ) → j < count → (e : ℕ) → e ≤ end → get_or kept j 0 % base < e → Worth match_limit e (get_or kept j 0) (match_before most symbols work rows found load j e)
+    pub lasts : (j : ℕ) → j < count → (e : ℕ) → e ≤ end → get_or kept j 0 % base < e → Held match_limit e (get_or kept j 0) (match_before most symbols work rows found load j e)
     pub bounds : (j : ℕ) → j < count → (e : ℕ) → e ≤ end → (p : Point) → match_before most symbols work rows found load j e ≡ some p → get_or kept j 0 ≤ word_of p
 
   -- The least of all, and what is kept after it was found.
-  pub record Least (end : ℕ) (kept : List ℕ) (r : ℕ) : Type 0 where
+  pub record Least (end : ℕ) (kept : List ℕ) (r : Maybe ℕ) : Type 0 where
     pub least : Worth match_limit end r (best_before end)
     pub lasting : Kept end kept
 
