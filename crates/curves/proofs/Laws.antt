@@ -30,7 +30,7 @@ use Rattle.curves.specs.Inside.Words.{absent, area_limit, point_limit, match_lim
 use Rattle.cells.specs.declared.PinFigures.{PinFigures}
 use Rattle.cells.specs.Inside.Cell.{row_legal, delay_of}
 use Rattle.matching.specs.Inside.Found.{match_bytes}
-use Rattle.curves.specs.Inside.Best.{hit_at, pattern_of, row_area, hit_count, input_node, input_figures, input_best, input_late, inputs_best, hit_best, legal_best, hits_best, Sources, Tables, HitKnown, Matches}
+use Rattle.curves.specs.Inside.Best.{hit_at, pattern_of, row_area, hit_count, input_node, input_figures, input_best, input_late, inputs_best, hit_best, legal_best, hits_best, Tables, HitKnown, Matches}
 use Rattle.curves.specs.Inside.Promises.{first_before, PointWord, Worth, Held, match_before, Kept}
 use Rattle.leaves.specs.Inside.Leaf.{leaf_of}
 
@@ -173,7 +173,7 @@ word_late end d w o h g =
     let l = g.small in
     record { point = rw g.point (ap {B = Option Point} some (point_path (omega arith) (omega arith))); small = omega arith; intime = omega arith }
 
-module _ {most : ℕ} {pattern hit symbols work : List ℕ} (t : Tables most pattern hit symbols work) (load end : ℕ) where
+module _ (most : ℕ) (symbols work : List ℕ) {pattern hit : List ℕ} (t : Tables pattern hit) (load end : ℕ) where
   abbrev one : ℕ → Option Point
   one = input_late most symbols work pattern hit load end
 
@@ -297,20 +297,13 @@ unfolding hits_best
 hits_turn {end = end} k j v w a b = rw add-one (lesser_word match_limit end v w _ _ (omega arith) a b)
 
 -- What reading one of the matches requires.
-pub hit_ready : {most : ℕ} {rows found : List ℕ} {count : ℕ} {symbols work : List ℕ} → Matches most rows found count symbols work → (j : ℕ) → j < count →
-    HitKnown rows (hit_at found j) × (match_bytes * (j + 1) ≤ length found)
+pub hit_ready : {rows found : List ℕ} {count : ℕ} → Matches rows found count → (j : ℕ) → j < count → HitKnown rows (hit_at found j) × (match_bytes * (j + 1) ≤ length found)
 hit_ready m j h = (m.hits_known j h, omega (arith, m.room))
 
--- The matches of a node, read with another work area.
-pub matches_in : {most : ℕ} {rows found : List ℕ} {count : ℕ} {symbols work work' : List ℕ} → Matches most rows found count symbols work → WorkArea most work' → Matches most rows found count symbols work'
-matches_in m w = record { hits_known = m.hits_known; room = m.room; sources = record { symbols_length = m.sources.symbols_length; symbols_small = m.sources.symbols_small; curves = w } }
-
--- The tables that one of the matches is read with.
-pub hit_tables : {most : ℕ} {rows symbols work : List ℕ} (found : List ℕ) (j : ℕ) → HitKnown rows (hit_at found j) → match_bytes * (j + 1) ≤ length found → Sources most symbols work →
-    Tables most (pattern_of rows (hit_at found j)) (hit_at found j) symbols work
-hit_tables {rows = rows} found j k h s = record {
+-- What one of the matches is read from.
+pub hit_tables : {rows : List ℕ} (found : List ℕ) (j : ℕ) → HitKnown rows (hit_at found j) → match_bytes * (j + 1) ≤ length found → Tables (pattern_of rows (hit_at found j)) (hit_at found j)
+hit_tables {rows = rows} found j k h = record {
   safe = k.safe;
   pattern_length = part_length row_words (row_words * get_or (hit_at found j) 0 0) rows (omega (arith, k.known));
   hit_length = part_length match_bytes (match_bytes * j) found (omega arith);
-  sources = s;
 }

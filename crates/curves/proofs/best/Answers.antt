@@ -16,7 +16,7 @@ loop-j-init c = (refl, c.requires.kept, held_none match_limit c.args.end none re
 pub match_best-requires : goal.match_best-requires
 match_best-requires c =
     let p = c.requires in
-    record { hit_known = hit_ready p.cases c.loop-j.j c.loop-j-test.true; sources = p.cases.sources; load_bound = (p.load_bound.0, p.load_bound.1) }
+    record { hit_known = hit_ready p.cases c.loop-j.j c.loop-j-test.true; load_bound = (p.load_bound.0, p.load_bound.1) }
 
 pub loop-j-preserved : goal.loop-j-preserved
 loop-j-preserved c =

@@ -10,4 +10,4 @@ abbrev pub invariant-loop-k : goal.invariant-loop-k
 invariant-loop-k l = (l.k ≤ hit_count l.hit)
     × (l.area ≤ area_limit * l.k)
     × (l.arrival < l.end)
-    × (inputs_best l.most l.symbols l.work l.pattern l.hit l.load l.end 0 (hit_count l.hit) ≡ both (some (record { area = l.area; arrival = l.arrival })) (inputs_best l.most l.symbols l.work l.pattern l.hit l.load l.end l.k (hit_count l.hit - l.k)))
+    × (inputs_best l.sources.curves.most l.sources.symbols.now l.sources.curves.work.now l.pattern l.hit l.load l.end 0 (hit_count l.hit) ≡ both (some (record { area = l.area; arrival = l.arrival })) (inputs_best l.sources.curves.most l.sources.symbols.now l.sources.curves.work.now l.pattern l.hit l.load l.end l.k (hit_count l.hit - l.k)))

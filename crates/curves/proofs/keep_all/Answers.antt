@@ -10,7 +10,7 @@ pub loop-j-init : goal.loop-j-init
 loop-j-init c = (refl, record { lasts = λ j l. absurd (omega arith); bounds = λ j l. absurd (omega arith) })
 
 pub match_best-requires : goal.match_best-requires
-match_best-requires c = let p = c.requires in record { hit_known = hit_ready p.cases c.loop-j.j c.loop-j-test.true; sources = p.cases.sources; load_bound = (p.load_bound.0, omega arith) }
+match_best-requires c = let p = c.requires in record { hit_known = hit_ready p.cases c.loop-j.j c.loop-j-test.true; load_bound = (p.load_bound.0, omega arith) }
 
 pub loop-j-preserved : goal.loop-j-preserved
 loop-j-preserved c =

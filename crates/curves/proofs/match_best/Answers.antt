@@ -11,14 +11,14 @@ use Rattle.curves.proofs.match_best.Reads as reads
 use Rattle.curves.proofs.match_best.Goals as goal
 
 -- the pattern's row is within the table
-within : (c : lts.After-shared_slice_known5 tie.the-claims reads.Pre reads.Post tie.handed_clauses) → let a = c.args in
+within : (c : lts.After-shared_slice_known3 tie.the-claims reads.Pre reads.Post tie.handed_clauses) → let a = c.args in
     row_words * (get_or (take (match_bytes * a.j + match_bytes - match_bytes * a.j) (drop (match_bytes * a.j) a.found.now)) 0 0 + 1) ≤ length a.rows.now
 within c = simp add-sub_cancel_left c.requires.hit_known.0.known
 
 pub legal_match-requires : goal.legal_match-requires
 legal_match-requires c =
     let p = c.requires in
-    simp add-sub_cancel_left (record { tables = hit_tables c.args.found.now c.args.j p.hit_known.0 p.hit_known.1 p.sources; load_bound = p.load_bound })
+    simp add-sub_cancel_left (record { tables = hit_tables c.args.found.now c.args.j p.hit_known.0 p.hit_known.1; load_bound = p.load_bound })
 
 pub returns : goal.returns
 returns c = simp add-sub_cancel_left at c.legal_match.ensures

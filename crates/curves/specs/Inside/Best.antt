@@ -87,28 +87,26 @@ pub record HitSafe (pattern hit : List ℕ) : Type 0 where
   pub inputs : (k : ℕ) → k < hit_count hit → InputSafe pattern hit k
 
 -- What the inputs' points are read from: the tree's symbols and the curves of later nodes.
-pub record Sources (most : ℕ) (symbols work : List ℕ) : Type 0 where
+pub record SourcesSafe (most : ℕ) (symbols work : List ℕ) : Type 0 where
   pub symbols_length : length symbols ≡ 64
   pub symbols_small : (k : ℕ) → get_or symbols k 0 ≤ symbol_limit
   pub curves : WorkArea most work
 
--- The tables that a match is read with.
-pub record Tables (most : ℕ) (pattern hit symbols work : List ℕ) : Type 0 where
+-- What a match is read from: its pattern's row and its hit.
+pub record Tables (pattern hit : List ℕ) : Type 0 where
   pub safe : HitSafe pattern hit
   pub pattern_length : length pattern ≡ row_words
   pub hit_length : length hit ≡ match_bytes
-  pub sources : Sources most symbols work
 
 -- A hit is safe to read, and its pattern is one of those whose rows are there.
 pub record HitKnown (rows hit : List ℕ) : Type 0 where
   pub known : row_words * (get_or hit 0 0 + 1) ≤ length rows
   pub safe : HitSafe (pattern_of rows hit) hit
 
--- The tables that the hits of a node are read with.
-pub record Matches (most : ℕ) (rows found : List ℕ) (count : ℕ) (symbols work : List ℕ) : Type 0 where
+-- What the hits of a node are read from.
+pub record Matches (rows found : List ℕ) (count : ℕ) : Type 0 where
   pub hits_known : (j : ℕ) → j < count → HitKnown rows (hit_at found j)
   pub room : match_bytes * count ≤ length found
-  pub sources : Sources most symbols work
 
 -- Every input of the first hits has its curves after this one.
 abbrev pub Above : ℕ → List ℕ → ℕ → Type 0
