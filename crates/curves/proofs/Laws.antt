@@ -5,7 +5,7 @@ use mathlib.Core.Logic.{⊎_elim}
 use mathlib.Core.Bool.{Bool, true, false, not, cond}
 use native.Mathlib.Decide.{ℕ_discrete}
 use mathlib.Core.Option.{Option, none, some, map}
-use Prim.Native.Nat.{ℕ, zero, suc, ◌+◌, ◌-◌, ◌*◌, ◌/◌, ◌%◌, ◌≤◌, ◌<◌, min, max}
+use Prim.Native.Nat.{ℕ, suc, ◌+◌, ◌-◌, ◌*◌, ◌/◌, ◌%◌, ◌≤◌, ◌<◌, min, max}
 use native.Mathlib.Nat.{div-add-mod', mul-suc, mul-le-mul_left}
 use native.Mathlib.Numerals.{add-one}
 use native.Mathlib.Omega.{arith}
@@ -20,7 +20,6 @@ use Rattle.std.specs.Option.{option_or}
 use Rattle.std.proofs.lemmas.List.{take-append-drop}
 use Rattle.std.proofs.lemmas.List.Folds.{find-append}
 use Rattle.std.proofs.lemmas.Option.{none-some, same_Some}
-use Rattle.sheets_rules.specs.Inside.Layout.{row_words}
 use Rattle.covers.specs.Cover.{Point, late, raised, beside, leaf_arrival, leaf_point}
 use Rattle.covers.specs.Choice.{before, lesser}
 use Rattle.covers.specs.Inside.Curve.{base, both, lookup, point_of, word_of}
@@ -29,9 +28,11 @@ use Rattle.covers.proofs.Basics.{lt_or_le}
 use Rattle.curves.specs.Inside.Words.{absent, area_limit, point_limit, match_limit, stored, slot, table_of, Small, ZeroBelow, WorkArea}
 use Rattle.cells.specs.declared.PinFigures.{PinFigures}
 use Rattle.cells.specs.Inside.Cell.{row_legal, delay_of}
-use Rattle.matching.specs.Inside.Found.{match_bytes}
-use Rattle.curves.specs.Inside.Best.{hit_at, pattern_of, row_area, hit_count, input_node, input_figures, input_best, input_late, inputs_best, hit_best, legal_best, hits_best, Tables, HitKnown, Matches}
-use Rattle.curves.specs.Inside.Promises.{first_before, PointWord, Worth, Held, match_before, Kept}
+use Rattle.overlay.specs.declared.Input.{Input}
+use Rattle.overlay.specs.Inside.Promises.{blank_input}
+use Rattle.matching.specs.declared.Hit.{Hit}
+use Rattle.curves.specs.Inside.Best.{InputSafe, HitSafe, row_area, hit_count, hit_inputs, input_figures, input_best, input_late, inputs_best, hit_best, legal_best, hits_best}
+use Rattle.curves.specs.Inside.Promises.{first_before, PointWord, Worth, Held, match_before}
 use Rattle.leaves.specs.Inside.Leaf.{leaf_of}
 
 -- ---- words
@@ -143,9 +144,6 @@ found_worth end curve w e s =
     let r = found_word end w curve (sym e) s in
     cases (eqb w 0) (λ z. rw z (r.2 ∙ rw z refl)) (λ z. rw z (record { point = r.2 ∙ rw z refl; small = r.0; intime = r.1 }))
 
-pub one_less : (n k : ℕ) → k < n → n - k ≡ suc (n - (k + 1))
-one_less n k h = omega arith
-
 -- ---- an input
 
 module _ (most : ℕ) (symbols work : List ℕ) (node bin load end : ℕ) where
@@ -173,84 +171,94 @@ word_late end d w o h g =
     let l = g.small in
     record { point = rw g.point (ap {B = Option Point} some (point_path (omega arith) (omega arith))); small = omega arith; intime = omega arith }
 
-module _ (most : ℕ) (symbols work : List ℕ) {pattern hit : List ℕ} (t : Tables pattern hit) (load end : ℕ) where
-  abbrev one : ℕ → Option Point
-  one = input_late most symbols work pattern hit load end
+module _ (most : ℕ) (symbols work pattern : List ℕ) (load end : ℕ) where
+  abbrev one : Input → Option Point
+  one = input_late most symbols work pattern load end
 
-  abbrev rest : ℕ → ℕ → Option Point
-  rest = inputs_best most symbols work pattern hit load end
+  abbrev rest : List Input → Option Point
+  rest = inputs_best most symbols work pattern load end
 
-  abbrev all : Option Point
-  all = hit_best most symbols work pattern hit load end
-
-  -- Input k, from its pin's figures and its least point before what the pin leaves of the bound.
-  module _ (k : ℕ) (pin : PinFigures) (d left : ℕ) where
+  -- An input, from its pin's figures and its least point before what the pin leaves of the bound.
+  module _ (input : Input) (pin : PinFigures) (d left : ℕ) where
     abbrev own : Option Point
-    own = input_best most symbols work (input_node pattern hit k) pin.bin pin.load left
+    own = input_best most symbols work input.node pin.bin pin.load left
 
-    module _ (ep : pin ≡ input_figures pattern hit k) (ed : d ≡ delay_of pin load) (el : left ≡ end - d) where
-      seen : map (late d) own ≡ one k
+    module _ (ep : pin ≡ input_figures pattern input) (ed : d ≡ delay_of pin load) (el : left ≡ end - d) where
+      seen : map (late d) own ≡ one input
       unfolding input_late
       seen = rw (el, ed, ep)
 
-      pub input_missing : own ≡ none → one k ≡ none
+      pub input_missing : own ≡ none → one input ≡ none
       input_missing e = sym seen ∙ ap (map (late d)) e
 
-      pub input_found : (w : ℕ) → end ≤ base → PointWord point_limit left w own → PointWord point_limit end (w + d) (one k)
+      pub input_found : (w : ℕ) → end ≤ base → PointWord point_limit left w own → PointWord point_limit end (w + d) (one input)
       input_found w h g = subst (PointWord point_limit end (w + d)) seen (word_late end d w own h (subst (λ (b : ℕ). PointWord point_limit b w own) el g))
 
   -- ---- a match: its inputs one after another
 
-  abbrev many : ℕ
-  many = hit_count hit
-
   -- After k inputs, which are side by side the point p.
-  module _ (k : ℕ) (p : Point) (i : rest 0 many ≡ both (some p) (rest k (many - k))) where
-    next : k < many → (o : Option Point) → one k ≡ o → rest 0 many ≡ both (some p) (both o (rest (k + 1) (many - (k + 1))))
+  module _ (inputs : List Input) (k : ℕ) (p : Point) (i : rest inputs ≡ both (some p) (rest (drop k inputs))) where
+    next : k < length inputs → (o : Option Point) → one (get_or inputs k blank_input) ≡ o → rest inputs ≡ both (some p) (both o (rest (drop (k + 1) inputs)))
     unfolding inputs_best
-    next h o e = i ∙ rw (one_less many k h, add-one, ← e)
+    next h o e = i ∙ rw (drop-cons inputs k blank_input h, add-one, ← e)
 
-    pub match_turn : k < many → (w : ℕ) → one k ≡ some (point_of w) →
-        rest 0 many ≡ both (some (record { area = p.area + w / base; arrival = max p.arrival (w % base) })) (rest (k + 1) (many - (k + 1)))
+    pub inputs_turn : k < length inputs → (w : ℕ) → one (get_or inputs k blank_input) ≡ some (point_of w) →
+        rest inputs ≡ both (some (record { area = p.area + w / base; arrival = max p.arrival (w % base) })) (rest (drop (k + 1) inputs))
     unfolding both beside point_of
-    match_turn h w e = next h (some (point_of w)) e ∙ sym (both_assoc (some p) (some (point_of w)) (rest (k + 1) (many - (k + 1))))
+    inputs_turn h w e = next h (some (point_of w)) e ∙ sym (both_assoc (some p) (some (point_of w)) (rest (drop (k + 1) inputs)))
 
-    pub match_stops : k < many → one k ≡ none → all ≡ none
-    unfolding hit_best both
-    match_stops h e = rw (next h none e) refl
+    pub inputs_stop : k < length inputs → one (get_or inputs k blank_input) ≡ none → rest inputs ≡ none
+    unfolding both
+    inputs_stop h e = rw (next h none e) refl
 
-    pub match_worth : many ≤ k → p.area ≤ 6 * area_limit → p.arrival < end → end ≤ base → PointWord match_limit end ((row_area pattern + p.area) * base + p.arrival) all
-    unfolding hit_best raised point_of inputs_best both beside before
-    match_worth h hp ht he =
-        let a = row_area pattern in
-        let w = (a + p.area) * base + p.arrival in
-        let small : a ≤ 65535 = t.safe.area in
-        let done : many - k ≡ 0 = omega arith in
-        let whole : rest 0 many ≡ some p = i ∙ rw (done, lt-ltb 0 end (omega arith)) (ap {B = Option Point} some (point_path (omega arith) (omega arith))) in
-        record { point = rw whole (ap {B = Option Point} some (point_path (omega arith) (omega arith))); small = omega arith; intime = omega arith }
+    pub inputs_end : length inputs ≤ k → p.arrival < end → rest inputs ≡ some p
+    unfolding inputs_best both beside before
+    inputs_end h t = i ∙ rw (drop_of_length-le inputs h, lt-ltb 0 end (omega arith)) (ap {B = Option Point} some (point_path (omega arith) (omega arith)))
 
-  nothing : (n k : ℕ) → end ≡ 0 → rest k n ≡ none
+  pub inputs_never : (inputs : List Input) → end ≡ 0 → rest inputs ≡ none
   unfolding inputs_best before
-  nothing zero k e = rw (le-ltb 0 end (omega arith))
-  nothing (suc n) k e = ap (both (one k)) (nothing n (suc k) e) ∙ (both_carries (one k)).on_none
+  inputs_never [] e = rw (le-ltb 0 end (omega arith)) refl
+  inputs_never (i ∷ is) e = ap (both (one i)) (inputs_never is e) ∙ (both_carries (one i)).on_none
 
-  pub match_never : end ≡ 0 → all ≡ none
-  unfolding hit_best
-  match_never e = ap (map (raised (row_area pattern))) (nothing (hit_count hit) 0 e)
+  module _ (hit : Hit) where
+    abbrev all : Option Point
+    all = hit_best most symbols work pattern hit load end
 
-  -- ---- a match, if it is legal
+    pub match_never : rest (hit_inputs hit) ≡ none → all ≡ none
+    unfolding hit_best
+    match_never e = ap (map (raised (row_area pattern))) e
 
-  abbrev allowed : Option Point
-  allowed = legal_best most symbols work pattern hit load end
+    pub match_worth : (p : Point) → rest (hit_inputs hit) ≡ some p → row_area pattern ≤ 65535 → p.area ≤ 6 * area_limit → p.arrival < end → end ≤ base →
+        PointWord match_limit end ((row_area pattern + p.area) * base + p.arrival) all
+    unfolding hit_best raised point_of
+    match_worth p e ha hp ht he = record {
+      point = rw e (ap {B = Option Point} some (point_path (omega arith) (omega arith)));
+      small = omega arith;
+      intime = omega arith;
+    }
 
-  module _ {b : Bool} (e : b ≡ row_legal pattern load) where
-    pub match_illegal : b ≡ false → allowed ≡ none
-    unfolding legal_best
-    match_illegal f = rw (← e, f) refl
+    -- ---- a match, if it is legal
 
-    pub match_legal : b ≡ true → (r : Maybe ℕ) → Worth match_limit end r all → Worth match_limit end r allowed
-    unfolding legal_best
-    match_legal f r g = rw (← e, f) g
+    abbrev allowed : Option Point
+    allowed = legal_best most symbols work pattern hit load end
+
+    module _ {b : Bool} (e : b ≡ row_legal pattern load) where
+      pub match_illegal : b ≡ false → allowed ≡ none
+      unfolding legal_best
+      match_illegal f = rw (← e, f) refl
+
+      pub match_legal : b ≡ true → (r : Maybe ℕ) → Worth match_limit end r all → Worth match_limit end r allowed
+      unfolding legal_best
+      match_legal f r g = rw (← e, f) g
+
+-- The inputs of a hit are few and safe to read.
+pub few_inputs : {pattern : List ℕ} {hit : Hit} → HitSafe pattern hit → length (hit_inputs hit) ≤ 6
+few_inputs {hit = hit} s = omega (arith, length-take (hit_count hit) hit.inputs.list, s.few)
+
+pub input_safe : {pattern : List ℕ} {hit : Hit} → HitSafe pattern hit → (k : ℕ) → k < length (hit_inputs hit) → InputSafe pattern (get_or (hit_inputs hit) k blank_input)
+input_safe {hit = hit} s k h =
+    let l : k < hit_count hit = omega (arith, length-take (hit_count hit) hit.inputs.list) in
+    rw (get_or-take (hit_count hit) hit.inputs.list k blank_input l) (s.inputs k l)
 
 -- ---- the lesser of two
 
@@ -290,20 +298,8 @@ module _ (limit end v w : ℕ) (o o' : Option Point) (fits : limit ≤ absent) (
 
 -- ---- the hits of a node
 
-pub hits_turn : {most : ℕ} {symbols work rows found : List ℕ} {load count end : ℕ} {kept : List ℕ} → Kept most symbols work rows found load count end kept → (j v w : ℕ) →
-    Held match_limit end v (hits_best most symbols work rows found load end j) → Held match_limit end w (match_before most symbols work rows found load j end) →
-    Held match_limit end (min v w) (hits_best most symbols work rows found load end (j + 1))
+pub hits_turn : (most : ℕ) (symbols work rows : List ℕ) (hits : List Hit) (load end j v w : ℕ) →
+    Held match_limit end v (hits_best most symbols work rows hits load end j) → Held match_limit end w (match_before most symbols work rows hits load j end) →
+    Held match_limit end (min v w) (hits_best most symbols work rows hits load end (j + 1))
 unfolding hits_best
-hits_turn {end = end} k j v w a b = rw add-one (lesser_word match_limit end v w _ _ (omega arith) a b)
-
--- What reading one of the matches requires.
-pub hit_ready : {rows found : List ℕ} {count : ℕ} → Matches rows found count → (j : ℕ) → j < count → HitKnown rows (hit_at found j) × (match_bytes * (j + 1) ≤ length found)
-hit_ready m j h = (m.hits_known j h, omega (arith, m.room))
-
--- What one of the matches is read from.
-pub hit_tables : {rows : List ℕ} (found : List ℕ) (j : ℕ) → HitKnown rows (hit_at found j) → match_bytes * (j + 1) ≤ length found → Tables (pattern_of rows (hit_at found j)) (hit_at found j)
-hit_tables {rows = rows} found j k h = record {
-  safe = k.safe;
-  pattern_length = part_length row_words (row_words * get_or (hit_at found j) 0 0) rows (omega (arith, k.known));
-  hit_length = part_length match_bytes (match_bytes * j) found (omega arith);
-}
+hits_turn most symbols work rows hits load end j v w a b = rw add-one (lesser_word match_limit end v w _ _ (omega arith) a b)

@@ -2,16 +2,17 @@
 #![tactic(auto)]
 
 ghost use Rattle.std.specs.Prelude.{◌≡◌, ◌+◌, ◌*◌, ◌<◌, ◌≤◌, ℕ, length, get_or};
+ghost use Rattle.sheets_rules.specs.Inside.Layout.{row_words};
 ghost use Rattle.covers.specs.Inside.Curve.{base, lookup};
 ghost use Rattle.leaves.specs.Inside.Leaf.{symbol_limit};
 ghost use Rattle.cells.specs.Inside.Cell.{PinSafe};
-ghost use Rattle.matching.specs.Inside.Found.{match_bytes};
 ghost use Rattle.curves.specs.Inside.Words.{point_limit, match_limit, stored, curve_at, Small, WorkArea};
-ghost use Rattle.curves.specs.Inside.Best.{hit_at, pattern_of, input_best, input_late, hit_best, legal_best, InputSafe, SourcesSafe, Tables, HitKnown, Matches, Above};
+ghost use Rattle.curves.specs.Inside.Best.{hit_at, pattern_of, input_best, input_late, hit_best, legal_best, InputSafe, HitSafe, SourcesSafe, HitsKnown, Above};
 ghost use Rattle.curves.specs.Inside.Promises.{first_before, Worth, AllRising, PointsFit, Kept, Least, CurveStored};
 
 use cells::PinFigures;
 use matching::Hit;
+use overlay::Input;
 use shapes_rules::Packed;
 use sheets_rules::{Limits, PatternRow, Slots};
 
@@ -43,6 +44,23 @@ pub struct Sources<'a> {
     pub curves: Curves<'a>,
     pub ghost symbols_length: { length symbols.now ≡ 64 },
     pub ghost symbols_small: { (k : ℕ) → get_or symbols.now k 0 ≤ symbol_limit },
+}
+
+// A match as it is read: its pattern's row, and its hit.
+#[derive(Clone, Copy)]
+pub struct Match<'a> {
+    pub pattern: &'a [u32],
+    pub hit: &'a Hit,
+    pub ghost pattern_length: { length pattern.now ≡ row_words },
+    pub ghost safe: { HitSafe pattern.now hit.now },
+}
+
+// The matches of a node: the rows of all patterns, and the node's hits.
+#[derive(Clone, Copy)]
+pub struct Matches<'a> {
+    pub rows: &'a [u32],
+    pub hits: &'a [Hit],
+    pub ghost known: { HitsKnown rows.now hits.now },
 }
 
 // Which curve is to be found: its number, the load that the node drives, and how many points it may have.
@@ -125,182 +143,134 @@ impl<'a> Sources<'a> {
     }
 }
 
-// The least point before `end` of input k of a match, as the match sees it: its pin and its node stand in the hit, the pin's figures in
-// the pattern's row.
-fn input_word(
-    pattern: &[u32],
-    hit: &[u8],
-    sources: &Sources<'_>,
-    load: u32,
-    end: u64,
-    k: usize,
-) -> Option<u64>
-    requires tables { Tables pattern.now hit.now }
-    requires input_safe { InputSafe pattern.now hit.now k × (k < 6) }
-    requires load_bound { (load ≤ 255) × (end ≤ base) }
-    ensures { Worth point_limit end result (input_late sources.now.curves.most sources.now.symbols.now sources.now.curves.work.now pattern.now hit.now load end k) }
-{
-    let place = Hit::INPUTS + Hit::INPUT * k;
-    let pin = cells::pin_figures(pattern, hit[place] as usize);
-    let d = u64::from(cells::delay(pin, load));
-    let node = hit[place + Hit::NODE] as usize;
-    let w = sources.input_best(node, pin, end.saturating_sub(d))?;
-    Some(w + d)
-}
-
-// The least point of a match before `end`: its cell on top of its inputs side by side.
-fn best_match(
-    pattern: &[u32],
-    hit: &[u8],
-    sources: &Sources<'_>,
-    load: u32,
-    end: u64,
-) -> Option<u64>
-    requires tables { Tables pattern.now hit.now }
-    requires load_bound { (load ≤ 255) × (end ≤ base) }
-    ensures { Worth match_limit end result (hit_best sources.now.curves.most sources.now.symbols.now sources.now.curves.work.now pattern.now hit.now load end) }
-{
-    if end == 0 {
-        return None;
+impl<'a> Match<'a> {
+    // The least point before `end` of an input, as the match sees it. The figures of its pin stand in the pattern's row.
+    fn input_word(&self, input: Input, sources: &Sources<'_>, load: u32, end: u64) -> Option<u64>
+        requires input_safe { InputSafe self.now.pattern.now input }
+        requires load_bound { (load ≤ 255) × (end ≤ base) }
+        ensures { Worth point_limit end result (input_late sources.now.curves.most sources.now.symbols.now sources.now.curves.work.now self.now.pattern.now load end input) }
+    {
+        let pin = cells::pin_figures(self.pattern, usize::from(input.pin));
+        let d = u64::from(cells::delay(pin, load));
+        let w = sources.input_best(usize::from(input.node), pin, end.saturating_sub(d))?;
+        Some(w + d)
     }
-    let mut area: u64 = 0;
-    let mut arrival: u64 = 0;
-    for k in 0..hit[Hit::COUNT] as usize {
-        let w = input_word(pattern, hit, sources, load, end, k)?;
-        area += w / Limits::TIMES;
-        arrival = arrival.max(w % Limits::TIMES);
+
+    // The least point of the match before `end`: its cell on top of its inputs side by side.
+    fn hit_best(&self, sources: &Sources<'_>, load: u32, end: u64) -> Option<u64>
+        requires { (load ≤ 255) × (end ≤ base) }
+        ensures { Worth match_limit end result (hit_best sources.now.curves.most sources.now.symbols.now sources.now.curves.work.now self.now.pattern.now self.now.hit.now load end) }
+    {
+        if end == 0 {
+            return None;
+        }
+        let mut area: u64 = 0;
+        let mut arrival: u64 = 0;
+        for input in self.hit.inputs.as_slice() {
+            let w = self.input_word(*input, sources, load, end)?;
+            area += w / Limits::TIMES;
+            arrival = arrival.max(w % Limits::TIMES);
+        }
+        Some((u64::from(self.pattern[PatternRow::AREA]) + area) * Limits::TIMES + arrival)
     }
-    Some((u64::from(pattern[PatternRow::AREA]) + area) * Limits::TIMES + arrival)
-}
 
-// The least point of a match before `end`, if the match is legal under the load.
-fn legal_match(
-    pattern: &[u32],
-    hit: &[u8],
-    sources: &Sources<'_>,
-    load: u32,
-    end: u64,
-) -> Option<u64>
-    requires tables { Tables pattern.now hit.now }
-    requires load_bound { (load ≤ 255) × (end ≤ base) }
-    ensures { Worth match_limit end result (legal_best sources.now.curves.most sources.now.symbols.now sources.now.curves.work.now pattern.now hit.now load end) }
-{
-    if !cells::is_legal(pattern, load) {
-        return None;
-    }
-    best_match(pattern, hit, sources, load, end)
-}
-
-// The least point before `end` of match j of a node, if it is legal under the load.
-pub fn match_best(
-    rows: &[u32],
-    found: &[u8],
-    j: usize,
-    sources: &Sources<'_>,
-    load: u32,
-    end: u64,
-) -> Option<u64>
-    requires hit_known { HitKnown rows.now (hit_at found.now j) × (match_bytes * (j + 1) ≤ length found.now) }
-    requires load_bound { (load ≤ 255) × (end ≤ base) }
-    ensures { Worth match_limit end result (legal_best sources.now.curves.most sources.now.symbols.now sources.now.curves.work.now (pattern_of rows.now (hit_at found.now j)) (hit_at found.now j) load end) }
-{
-    let first = Hit::BYTES * j;
-    let hit = &found[first..first + Hit::BYTES];
-    let from = PatternRow::WORDS * (hit[Hit::PATTERN] as usize);
-    let pattern = &rows[from..from + PatternRow::WORDS];
-    legal_match(pattern, hit, sources, load, end)
-}
-
-// The least point of each match before the latest instant, kept.
-fn keep_all(
-    rows: &[u32],
-    found: &[u8],
-    count: usize,
-    sources: &Sources<'_>,
-    kept: &mut [u64],
-    load: u32,
-)
-    requires cases { Matches rows.now found.now count }
-    requires load_bound { (load ≤ 255) × (count ≤ length kept.old) }
-    requires all_rising { AllRising sources.now.curves.most sources.now.symbols.now sources.now.curves.work.now rows.now found.now load count }
-    ensures { Kept sources.now.curves.most sources.now.symbols.now sources.now.curves.work.now rows.now found.now load count base kept.new }
-{
-    for j in 0..count {
-        kept[j] = match_best(rows, found, j, sources, load, Limits::TIMES).unwrap_or(Words::ABSENT);
+    // The same, if the match is legal under the load.
+    pub fn legal_best(&self, sources: &Sources<'_>, load: u32, end: u64) -> Option<u64>
+        requires { (load ≤ 255) × (end ≤ base) }
+        ensures { Worth match_limit end result (legal_best sources.now.curves.most sources.now.symbols.now sources.now.curves.work.now self.now.pattern.now self.now.hit.now load end) }
+    {
+        if !cells::is_legal(self.pattern, load) {
+            return None;
+        }
+        self.hit_best(sources, load, end)
     }
 }
 
-// The least point before `end` of the first `count` matches. A match's point only rises as the instant falls: one whose kept point is no less
-// than the least so far is passed over, and one that is still in time stays; only the others are worked out again.
-fn best(
-    rows: &[u32],
-    found: &[u8],
-    count: usize,
-    sources: &Sources<'_>,
-    kept: &mut [u64],
-    load: u32,
-    end: u64,
-) -> Option<u64>
-    requires cases { Matches rows.now found.now count }
-    requires load_bound { (load ≤ 255) × (end ≤ base) × (count ≤ length kept.old) }
-    requires all_rising { AllRising sources.now.curves.most sources.now.symbols.now sources.now.curves.work.now rows.now found.now load count }
-    requires kept { Kept sources.now.curves.most sources.now.symbols.now sources.now.curves.work.now rows.now found.now load count end kept.old }
-    ensures { Least sources.now.curves.most sources.now.symbols.now sources.now.curves.work.now rows.now found.now load count end kept.new result }
-{
-    let mut least = Words::ABSENT;
-    for j in 0..count {
-        let mut w = kept[j];
-        if w < least {
-            if end <= w % Limits::TIMES {
-                w = match_best(rows, found, j, sources, load, end).unwrap_or(Words::ABSENT);
-                kept[j] = w;
-            }
-            least = least.min(w);
+impl<'a> Matches<'a> {
+    // Match j.
+    pub fn at(&self, j: usize) -> Match<'a>
+        requires { j < length self.now.hits.now }
+        ensures hit_is { result.hit.now ≡ hit_at self.now.hits.now j }
+        ensures pattern_is { result.pattern.now ≡ pattern_of self.now.rows.now (hit_at self.now.hits.now j) }
+    {
+        let hit = &self.hits[j];
+        let first = PatternRow::WORDS * usize::from(hit.pattern);
+        Match {
+            pattern: &self.rows[first..first + PatternRow::WORDS],
+            hit,
         }
     }
-    (least != Words::ABSENT).then_some(least)
-}
 
-// The curve of a node under a load, stored as the curve with the target's number: its points, latest first. Of more than `most` points, `most`
-// are stored and most + 1 is the answer.
-pub fn curve(
-    rows: &[u32],
-    found: &[u8],
-    count: usize,
-    symbols: &[u32],
-    work: &mut [u64],
-    kept: &mut [u64],
-    target: Target,
-) -> usize
-    requires cases { Matches rows.now found.now count }
-    requires sources { SourcesSafe target.most symbols.now work.old }
-    requires at_bound { (target.at < 256) × (target.load ≤ 255) × (count ≤ length kept.old) }
-    requires above { Above target.at found.now count }
-    requires points_fit { PointsFit target.most symbols.now work.old rows.now found.now target.load count }
-    ensures { CurveStored target.most symbols.now work.old rows.now found.now target.load count target.at work.new result }
-{
-    let most = target.most;
-    let first = (most + 1) * target.at;
-    keep_all(
-        rows,
-        found,
-        count,
-        &Sources::new(symbols, work, most),
-        kept,
-        target.load,
-    );
-    let mut end = Limits::TIMES;
-    for k in 0..most {
-        let sources = Sources::new(symbols, work, most);
-        let Some(w) = best(rows, found, count, &sources, kept, target.load, end) else {
-            return k;
-        };
-        work[first + k] = w;
-        end = w % Limits::TIMES;
+    // The least point of each match before the latest instant, kept.
+    fn keep_all(&self, sources: &Sources<'_>, kept: &mut [u64], load: u32)
+        requires load_bound { (load ≤ 255) × (length self.now.hits.now ≤ length kept.old) }
+        requires all_rising { AllRising sources.now.curves.most sources.now.symbols.now sources.now.curves.work.now self.now.rows.now self.now.hits.now load }
+        ensures { Kept sources.now.curves.most sources.now.symbols.now sources.now.curves.work.now self.now.rows.now self.now.hits.now load (length self.now.hits.now) base kept.new }
+    {
+        for j in 0..self.hits.len() {
+            kept[j] = self
+                .at(j)
+                .legal_best(sources, load, Limits::TIMES)
+                .unwrap_or(Words::ABSENT);
+        }
     }
-    let sources = Sources::new(symbols, work, most);
-    match best(rows, found, count, &sources, kept, target.load, end) {
-        None => most,
-        Some(_) => most + 1,
+
+    // The least point before `end` of all of them. A match's point only rises as the instant falls: one whose kept point is no less than the least
+    // so far is passed over, and one that is still in time stays; only the others are worked out again.
+    fn best(&self, sources: &Sources<'_>, kept: &mut [u64], load: u32, end: u64) -> Option<u64>
+        requires load_bound { (load ≤ 255) × (end ≤ base) × (length self.now.hits.now ≤ length kept.old) }
+        requires all_rising { AllRising sources.now.curves.most sources.now.symbols.now sources.now.curves.work.now self.now.rows.now self.now.hits.now load }
+        requires kept { Kept sources.now.curves.most sources.now.symbols.now sources.now.curves.work.now self.now.rows.now self.now.hits.now load (length self.now.hits.now) end kept.old }
+        ensures { Least sources.now.curves.most sources.now.symbols.now sources.now.curves.work.now self.now.rows.now self.now.hits.now load end kept.new result }
+    {
+        let mut least = Words::ABSENT;
+        for j in 0..self.hits.len() {
+            let mut w = kept[j];
+            if w < least {
+                if end <= w % Limits::TIMES {
+                    w = self
+                        .at(j)
+                        .legal_best(sources, load, end)
+                        .unwrap_or(Words::ABSENT);
+                    kept[j] = w;
+                }
+                least = least.min(w);
+            }
+        }
+        (least != Words::ABSENT).then_some(least)
+    }
+
+    // The curve of the node under a load, stored as the curve with the target's number: its points, latest first. Of more than `most` points, `most`
+    // are stored and most + 1 is the answer.
+    pub fn curve(
+        &self,
+        symbols: &[u32],
+        work: &mut [u64],
+        kept: &mut [u64],
+        target: Target,
+    ) -> usize
+        requires sources { SourcesSafe target.most symbols.now work.old }
+        requires at_bound { (target.at < 256) × (target.load ≤ 255) × (length self.now.hits.now ≤ length kept.old) }
+        requires above { Above target.at self.now.hits.now }
+        requires points_fit { PointsFit target.most symbols.now work.old self.now.rows.now self.now.hits.now target.load }
+        ensures { CurveStored target.most symbols.now work.old self.now.rows.now self.now.hits.now target.load target.at work.new result }
+    {
+        let most = target.most;
+        let first = (most + 1) * target.at;
+        self.keep_all(&Sources::new(symbols, work, most), kept, target.load);
+        let mut end = Limits::TIMES;
+        for k in 0..most {
+            let sources = Sources::new(symbols, work, most);
+            let Some(w) = self.best(&sources, kept, target.load, end) else {
+                return k;
+            };
+            work[first + k] = w;
+            end = w % Limits::TIMES;
+        }
+        let sources = Sources::new(symbols, work, most);
+        match self.best(&sources, kept, target.load, end) {
+            None => most,
+            Some(_) => most + 1,
+        }
     }
 }

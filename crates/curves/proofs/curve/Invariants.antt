@@ -1,7 +1,0 @@
-use mathlib.Core.Path.{◌≡◌}
-use lib.ListN.{length}
-use Rattle.curves.proofs.Frames.{Growing}
-use Rattle.curves.proofs.curve.Given as goal
-
-abbrev pub invariant-loop-k : goal.invariant-loop-k
-invariant-loop-k l = (length l.work ≡ length l.initial.work) × (length l.kept ≡ length l.initial.kept) × Growing l.most l.symbols l.initial.work l.rows l.found l.target.load l.count l.target.at l.k l.end l.work l.kept

@@ -1,8 +1,0 @@
-use mathlib.Core.Path.{◌≡◌}
-use lib.ListN.{length}
-use Rattle.covers.specs.Inside.Curve.{base}
-use Rattle.curves.specs.Inside.Promises.{Kept}
-use Rattle.curves.proofs.keep_all.Given as goal
-
-abbrev pub invariant-loop-j : goal.invariant-loop-j
-invariant-loop-j l = (length l.kept ≡ length l.initial.kept) × Kept l.sources.curves.most l.sources.symbols.now l.sources.curves.work.now l.rows l.found l.load l.j base l.kept
