@@ -4,7 +4,7 @@ use lib.ListN.{length}
 use Rattle.covers.specs.Cover.{Point}
 use Rattle.covers.proofs.Points.{both_nothing}
 use Rattle.curves.specs.Inside.Best.{hit_inputs}
-use Rattle.curves.proofs.Laws.{inputs_never, inputs_turn, inputs_stop, inputs_end, match_never, match_worth, few_inputs, input_safe}
+use Rattle.curves.proofs.Laws.{inputs_never, inputs_turn, inputs_stop, inputs_end, match_never, match_worth, few_inputs}
 use Rattle.curves.proofs.Match.hit_best.Goals as goal
 
 pub returns-then-end-eq0 : goal.returns-then-end-eq0
@@ -17,11 +17,6 @@ returns-then-end-eq0 c =
 
 pub loop-input-init : goal.loop-input-init
 loop-input-init c = (omega arith, omega (arith, c.if-end-eq0.false), sym (both_nothing _))
-
-pub input_word-requires : goal.input_word-requires
-input_word-requires c =
-    let e = c.as_slice-input-items.ensures in
-    record { input_safe = rw e (input_safe c.args.self.now.safe c.loop-input.input-index (rw e at c.loop-input-test.true)); load_bound = c.requires }
 
 pub returns-in_err-w : goal.returns-in_err-w
 returns-in_err-w c =
@@ -52,6 +47,3 @@ returns c =
     let whole = inputs_end s.curves.most s.symbols.now s.curves.work.now m.pattern.now a.load a.end c.as_slice-input-items.result.now i.input-index p i.invariant.2 c.loop-input-test.false i.invariant.1 in
     rw c.from.ensures (match_worth s.curves.most s.symbols.now s.curves.work.now m.pattern.now a.load a.end m.hit.now p (rw e at whole) m.safe.area
     (omega (arith, i.invariant.0, c.loop-input.auto.input-index-end, ap length e, few_inputs m.safe)) i.invariant.1 c.requires.1)
-
-pub overflow_add-area : goal.overflow_add-area
-overflow_add-area c = omega (arith, c.in_ok-w.ensures.small, c.loop-input.invariant.0, c.loop-input-test.true, ap length c.as_slice-input-items.ensures, few_inputs c.args.self.now.safe)

@@ -1,14 +1,6 @@
-use native.Mathlib.Omega.{arith}
-use mathlib.Core.Path.{sym, subst, ◌∙◌}
-use Rattle.cells.specs.Inside.Cell.{PinSafe}
+use mathlib.Core.Path.{◌∙◌}
 use Rattle.curves.proofs.Laws.{input_missing, input_found}
 use Rattle.curves.proofs.Match.input_word.Goals as goal
-
-pub delay-requires : goal.delay-requires
-delay-requires c = (subst PinSafe (sym (rw c.from.ensures at c.pin_figures-pin.ensures)) c.requires.input_safe.figures, c.requires.load_bound.0)
-
-pub input_best-requires : goal.input_best-requires
-input_best-requires c = (rw c.from-2.ensures c.requires.input_safe.node, subst PinSafe (sym (rw c.from.ensures at c.pin_figures-pin.ensures)) c.requires.input_safe.figures)
 
 pub returns-in_err-w : goal.returns-in_err-w
 returns-in_err-w c =
@@ -16,9 +8,6 @@ returns-in_err-w c =
     let s = a.sources.now in
     let pin = c.pin_figures-pin in
     rw c.from_residual.ensures (input_missing s.curves.most s.symbols.now s.curves.work.now a.self.now.pattern.now a.load a.end a.input pin.result c.from-d.result c.saturating_sub.result (rw c.from.ensures at pin.ensures) (c.from-d.ensures ∙ c.delay.ensures.0) c.saturating_sub.ensures (rw c.from-2.ensures at c.in_err-w.ensures))
-
-pub overflow_add-result : goal.overflow_add-result
-overflow_add-result c = omega (arith, c.in_ok-w.ensures.small, c.from-d.ensures, c.delay.ensures.1)
 
 pub returns : goal.returns
 returns c =

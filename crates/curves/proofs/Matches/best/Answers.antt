@@ -1,10 +1,10 @@
 use native.Mathlib.Omega.{arith}
-use mathlib.Core.Path.{◌≡◌, refl}
+use mathlib.Core.Path.{refl}
 use mathlib.Core.Option.{none}
-use lib.ListN.{length, get_or, length-set}
+use lib.ListN.{get_or, length-set}
 use Rattle.curves.specs.Inside.Words.{match_limit}
 use Rattle.curves.specs.Inside.Best.{hits_best}
-use Rattle.curves.proofs.Laws.{held_none, held, told, hits_turn}
+use Rattle.curves.proofs.Laws.{held_none, held, hits_turn}
 use Rattle.curves.proofs.Lasting.{passed_over, held_top, kept_set}
 use Rattle.curves.proofs.Matches.best.Goals as goal
 use Rattle.curves.proofs.Matches.best.Goals.{then-w-least, then-end-w, else-end-w, else-w-least}
@@ -36,10 +36,3 @@ loop-j-preserved c =
           let z = passed_over rising c.args.end i.least word c.requires.load_bound.1 (held_top (omega arith) i.invariant.2) t.if-w-least.false (k.bounds i.j c.loop-j-test.true c.args.end (omega arith)) in
           rw (t.kept-is, t.least-is) (i.invariant.0, k, rw z.2 at (turn z.0 i.invariant.2 z.1))
     ]
-
-pub returns : goal.returns
-returns c =
-    let a = c.args in
-    let i = c.loop-j in
-    let done : i.j ≡ length a.self.now.hits.now = omega arith in
-    record { least = rw c.then_some.ensures (told match_limit a.end i.least _ (rw done at i.invariant.2)); lasting = i.invariant.1 }

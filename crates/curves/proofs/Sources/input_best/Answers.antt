@@ -5,9 +5,6 @@ use Rattle.curves.specs.Inside.Promises.{Worth}
 use Rattle.curves.proofs.Laws.{leaf_worth, gate_best, found_never}
 use Rattle.curves.proofs.Sources.input_best.Goals as goal
 
-pub leaf_arrival-arrival-requires : goal.leaf_arrival-arrival-requires
-leaf_arrival-arrival-requires c = (c.if-symbol-ge-LEAF.true, c.args.self.now.symbols_small c.args.node, c.requires.1.load)
-
 pub returns-then-symbol-ge-LEAF : goal.returns-then-symbol-ge-LEAF
 returns-then-symbol-ge-LEAF c =
     let a = c.args in
