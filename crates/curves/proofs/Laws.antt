@@ -2,7 +2,7 @@
 use mathlib.Core.Path.{◌≡◌, refl, sym, ap, subst, ◌∙◌}
 use mathlib.Core.List.{List, [], ◌∷◌}
 use mathlib.Core.Logic.{⊎_elim}
-use mathlib.Core.Bool.{Bool, true, false, not, cond}
+use mathlib.Core.Bool.{not, cond}
 use native.Mathlib.Decide.{ℕ_discrete}
 use mathlib.Core.Option.{Option, none, some, map}
 use Prim.Native.Nat.{ℕ, suc, ◌+◌, ◌-◌, ◌*◌, ◌/◌, ◌%◌, ◌≤◌, ◌<◌, min, max}
@@ -27,11 +27,11 @@ use Rattle.covers.proofs.Points.{point_path, both_assoc, both_carries, Leq, smal
 use Rattle.covers.proofs.Basics.{lt_or_le}
 use Rattle.curves.specs.Inside.Words.{absent, area_limit, point_limit, match_limit, stored, slot, table_of, Small, ZeroBelow, WorkArea}
 use Rattle.cells.specs.declared.PinFigures.{PinFigures}
-use Rattle.cells.specs.Inside.Cell.{row_legal, delay_of}
+use Rattle.cells.specs.Inside.Cell.{delay_of}
 use Rattle.overlay.specs.declared.Input.{Input}
 use Rattle.overlay.specs.Inside.Promises.{blank_input}
 use Rattle.matching.specs.declared.Hit.{Hit}
-use Rattle.curves.specs.Inside.Best.{InputSafe, HitSafe, row_area, hit_count, hit_inputs, input_figures, input_best, input_late, inputs_best, hit_best, legal_best, hits_best}
+use Rattle.curves.specs.Inside.Best.{InputSafe, HitSafe, row_area, hit_count, hit_inputs, input_figures, input_best, input_late, inputs_best, hit_best, hits_best}
 use Rattle.curves.specs.Inside.Promises.{first_before, PointWord, Worth, Held, match_before}
 use Rattle.leaves.specs.Inside.Leaf.{leaf_of}
 
@@ -236,20 +236,6 @@ module _ (most : ℕ) (symbols work pattern : List ℕ) (load end : ℕ) where
       small = omega arith;
       intime = omega arith;
     }
-
-    -- ---- a match, if it is legal
-
-    abbrev allowed : Option Point
-    allowed = legal_best most symbols work pattern hit load end
-
-    module _ {b : Bool} (e : b ≡ row_legal pattern load) where
-      pub match_illegal : b ≡ false → allowed ≡ none
-      unfolding legal_best
-      match_illegal f = rw (← e, f) refl
-
-      pub match_legal : b ≡ true → (r : Maybe ℕ) → Worth match_limit end r all → Worth match_limit end r allowed
-      unfolding legal_best
-      match_legal f r g = rw (← e, f) g
 
 -- The inputs of a hit are few and safe to read.
 pub few_inputs : {pattern : List ℕ} {hit : Hit} → HitSafe pattern hit → length (hit_inputs hit) ≤ 6

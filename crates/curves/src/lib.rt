@@ -92,6 +92,7 @@ fn probe(curve: &[u64], end: u64) -> Option<u64>
 }
 
 // The first point of a curve that arrives before `end`.
+#[tactic(auto, using(crate::proofs::Laws::found_nothing, crate::proofs::Laws::found_worth))]
 pub fn find(curve: &[u64], end: u64) -> Option<u64>
     requires { Small curve.now }
     ensures { Worth point_limit end result (lookup end (stored curve.now)) }
@@ -126,6 +127,7 @@ impl<'a> Sources<'a> {
     }
 
     // The least point before `end` of an input at a pin with these figures.
+    #[tactic(auto, using(crate::proofs::Laws::leaf_worth, crate::proofs::Laws::gate_best, crate::proofs::Laws::found_never))]
     fn input_best(&self, node: usize, pin: PinFigures, end: u64) -> Option<u64>
         requires { (node < 64) × PinSafe pin }
         ensures { Worth point_limit end result (input_best self.now.curves.most self.now.symbols.now self.now.curves.work.now node pin.bin pin.load end) }
@@ -175,6 +177,7 @@ impl<'a> Match<'a> {
     }
 
     // The same, if the match is legal under the load.
+    #[tactic(auto, unfolding(crate::specs::Inside::Best::legal_best))]
     pub fn legal_best(&self, sources: &Sources<'_>, load: u32, end: u64) -> Option<u64>
         requires { (load ≤ 255) × (end ≤ base) }
         ensures { Worth match_limit end result (legal_best sources.now.curves.most sources.now.symbols.now sources.now.curves.work.now self.now.pattern.now self.now.hit.now load end) }
