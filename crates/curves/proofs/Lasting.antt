@@ -1,6 +1,6 @@
 -- A point that is still in time stays.
 use mathlib.Core.Path.{◌≡◌, refl, sym, ap, ap₂, ◌∙◌}
-use mathlib.Core.List.{List, [], ◌∷◌}
+use mathlib.Core.List.{List, [], ◌∷◌, ◌++◌}
 use mathlib.Core.Bool.{Bool, true, false, cond}
 use mathlib.Core.Option.{Option, none, some, map, none-ne-some, some-injective}
 use borrow.Author.Tests.{ltb-false, lt-ltb, le-ltb}
@@ -9,7 +9,8 @@ use Prim.Native.Nat.{ℕ, ◌-◌, ◌%◌, ◌≤◌, ◌<◌, min}
 use native.Mathlib.Decide.{ℕ_discrete}
 use native.Mathlib.Omega.{arith}
 use lib.Dec.{leb, ltb}
-use lib.ListN.{length, get_or, set}
+use lib.ListN.{length, get_or, set, take, get_or-append}
+use lib.Seq.{get_or-take}
 use Rattle.covers.specs.Cover.{Point, late, raised, beside, leaf_point}
 use Rattle.covers.specs.Choice.{before}
 use Rattle.covers.specs.Inside.Curve.{base, both, lookup, point_of, word_of}
@@ -115,3 +116,17 @@ kept_set {most} {symbols} {work} {rows} {hits} {load} {end = end} {kept = kept} 
       (λ e le t. held_stays g (match_stays most symbols work (pattern_of rows (hit_at hits j)) load le (hit_at hits j)) t) i (λ n. k.lasts i (b i h n));
   bounds = λ i h. set_each (λ i x. (e : ℕ) → e ≤ end → (p : Point) → match_before most symbols work rows hits load i e ≡ some p → x ≤ word_of p) kept j w l (held_bounds r end g) i (λ n. k.bounds i (b i h n));
 }
+
+-- What is kept at the front of a list.
+module _ {most : ℕ} {symbols work rows : List ℕ} {hits : List Hit} {load n end : ℕ} {kept : List ℕ} (k : Kept most symbols work rows hits load n end kept) where
+  kept_like : (other : List ℕ) → ((j : ℕ) → j < n → get_or other j 0 ≡ get_or kept j 0) → Kept most symbols work rows hits load n end other
+  kept_like other same = record {
+    lasts = λ j l e h. rw (same j l) (k.lasts j l e h);
+    bounds = λ j l e h p q. rw (same j l) (k.bounds j l e h p q);
+  }
+
+  pub kept_part : n ≤ length kept → Kept most symbols work rows hits load n end (take n kept)
+  kept_part h = kept_like (take n kept) (λ j l. get_or-take n kept j 0 l)
+
+  pub kept_front : (others : List ℕ) → n ≤ length kept → Kept most symbols work rows hits load n end (kept ++ others)
+  kept_front others h = kept_like (kept ++ others) (λ j l. let m : j < length kept = omega arith in get_or-append kept others 0 j m)

@@ -150,7 +150,7 @@ impl<'a> Match<'a> {
     fn input_word(&self, input: Input, sources: &Sources<'_>, load: u32, end: u64) -> Option<u64>
         requires input_safe { InputSafe self.now.pattern.now input }
         requires load_bound { (load ≤ 255) × (end ≤ base) }
-        ensures { Worth point_limit end result (input_late sources.now.curves.most sources.now.symbols.now sources.now.curves.work.now self.now.pattern.now load end input) }
+        ensures { let s = sources.now in Worth point_limit end result (input_late s.curves.most s.symbols.now s.curves.work.now self.now.pattern.now load end input) }
     {
         let pin = cells::pin_figures(self.pattern, usize::from(input.pin));
         let d = u64::from(cells::delay(pin, load));
@@ -161,7 +161,7 @@ impl<'a> Match<'a> {
     // The least point of the match before `end`: its cell on top of its inputs side by side.
     fn hit_best(&self, sources: &Sources<'_>, load: u32, end: u64) -> Option<u64>
         requires { (load ≤ 255) × (end ≤ base) }
-        ensures { Worth match_limit end result (hit_best sources.now.curves.most sources.now.symbols.now sources.now.curves.work.now self.now.pattern.now self.now.hit.now load end) }
+        ensures { let s = sources.now in Worth match_limit end result (hit_best s.curves.most s.symbols.now s.curves.work.now self.now.pattern.now self.now.hit.now load end) }
     {
         if end == 0 {
             return None;
@@ -180,7 +180,7 @@ impl<'a> Match<'a> {
     #[tactic(auto, unfolding(crate::specs::Inside::Best::legal_best))]
     pub fn legal_best(&self, sources: &Sources<'_>, load: u32, end: u64) -> Option<u64>
         requires { (load ≤ 255) × (end ≤ base) }
-        ensures { Worth match_limit end result (legal_best sources.now.curves.most sources.now.symbols.now sources.now.curves.work.now self.now.pattern.now self.now.hit.now load end) }
+        ensures { let s = sources.now in Worth match_limit end result (legal_best s.curves.most s.symbols.now s.curves.work.now self.now.pattern.now self.now.hit.now load end) }
     {
         if !cells::is_legal(self.pattern, load) {
             return None;
@@ -207,11 +207,11 @@ impl<'a> Matches<'a> {
     // The least point of each match before the latest instant, kept.
     fn keep_all(&self, sources: &Sources<'_>, kept: &mut [u64], load: u32)
         requires load_bound { (load ≤ 255) × (length self.now.hits.now ≤ length kept.old) }
-        requires all_rising { AllRising sources.now.curves.most sources.now.symbols.now sources.now.curves.work.now self.now.rows.now self.now.hits.now load }
-        ensures { Kept sources.now.curves.most sources.now.symbols.now sources.now.curves.work.now self.now.rows.now self.now.hits.now load (length self.now.hits.now) base kept.new }
+        requires all_rising { let s = sources.now in AllRising s.curves.most s.symbols.now s.curves.work.now self.now.rows.now self.now.hits.now load }
+        ensures { let s = sources.now in Kept s.curves.most s.symbols.now s.curves.work.now self.now.rows.now self.now.hits.now load (length self.now.hits.now) base kept.new }
     {
-        for j in 0..self.hits.len() {
-            kept[j] = self
+        for (j, word) in kept[..self.hits.len()].iter_mut().enumerate() {
+            *word = self
                 .at(j)
                 .legal_best(sources, load, Limits::TIMES)
                 .unwrap_or(Words::ABSENT);
@@ -222,22 +222,20 @@ impl<'a> Matches<'a> {
     // so far is passed over, and one that is still in time stays; only the others are worked out again.
     fn best(&self, sources: &Sources<'_>, kept: &mut [u64], load: u32, end: u64) -> Option<u64>
         requires load_bound { (load ≤ 255) × (end ≤ base) × (length self.now.hits.now ≤ length kept.old) }
-        requires all_rising { AllRising sources.now.curves.most sources.now.symbols.now sources.now.curves.work.now self.now.rows.now self.now.hits.now load }
-        requires kept { Kept sources.now.curves.most sources.now.symbols.now sources.now.curves.work.now self.now.rows.now self.now.hits.now load (length self.now.hits.now) end kept.old }
-        ensures { Least sources.now.curves.most sources.now.symbols.now sources.now.curves.work.now self.now.rows.now self.now.hits.now load end kept.new result }
+        requires all_rising { let s = sources.now in AllRising s.curves.most s.symbols.now s.curves.work.now self.now.rows.now self.now.hits.now load }
+        requires kept { let s = sources.now in Kept s.curves.most s.symbols.now s.curves.work.now self.now.rows.now self.now.hits.now load (length self.now.hits.now) end kept.old }
+        ensures { let s = sources.now in Least s.curves.most s.symbols.now s.curves.work.now self.now.rows.now self.now.hits.now load end kept.new result }
     {
         let mut least = Words::ABSENT;
-        for j in 0..self.hits.len() {
-            let mut w = kept[j];
-            if w < least {
-                if end <= w % Limits::TIMES {
-                    w = self
+        for (j, word) in kept[..self.hits.len()].iter_mut().enumerate() {
+            if *word < least {
+                if end <= *word % Limits::TIMES {
+                    *word = self
                         .at(j)
                         .legal_best(sources, load, end)
                         .unwrap_or(Words::ABSENT);
-                    kept[j] = w;
                 }
-                least = least.min(w);
+                least = least.min(*word);
             }
         }
         (least != Words::ABSENT).then_some(least)

@@ -1,8 +1,6 @@
-use mathlib.Core.Path.{◌≡◌}
-use lib.ListN.{length}
 use Rattle.covers.specs.Inside.Curve.{base}
 use Rattle.curves.specs.Inside.Promises.{Kept}
 use Rattle.curves.proofs.Matches.keep_all.Given as goal
 
 abbrev pub invariant-loop-j : goal.invariant-loop-j
-invariant-loop-j l = (length l.kept ≡ length l.initial.kept) × Kept l.sources.curves.most l.sources.symbols.now l.sources.curves.work.now l.self.rows.now l.self.hits.now l.load l.j base l.kept
+invariant-loop-j l = Kept l.sources.curves.most l.sources.symbols.now l.sources.curves.work.now l.self.rows.now l.self.hits.now l.load l.j base l.word-items
