@@ -23,8 +23,8 @@ use Rattle.map_core.specs.Inside.Found.{crowded}
 use Rattle.map_core.specs.Inside.Promises.{rows_of, Started, Curved, MappedIs, ListedIs}
 
 module _ {most : ℕ} {l : Library} {t : Tree} {library : LibraryRecord} {tree : TreeRecord} {work : List ℕ} (start : Started most l t library tree work) where
-  long : length work ≡ work_words most
-  long = ap length start.zeros ∙ length-replicate {A = ℕ} (work_words most) 0
+  pub work_long : length work ≡ work_words most
+  work_long = ap length start.zeros ∙ length-replicate {A = ℕ} (work_words most) 0
 
   -- What the curves are filled from, and the curves.
   pub fill_start : (found : List ℕ) → length found ≡ match_table → FillStart l t (rows_of library) library.bins tree most found work
@@ -33,7 +33,7 @@ module _ {most : ℕ} {l : Library} {t : Tree} {library : LibraryRecord} {tree :
     bins_are = ap (λ (r : LibraryRecord). r.bins) start.sheets.read.library_is;
     tree_is = start.sheets.tree_is;
     room = room;
-    work_length = long;
+    work_length = work_long;
     zero = λ k. ap (λ (ws : List ℕ). get_or ws k 0) start.zeros ∙ zeros_at (work_words most) k;
     some_most = start.allowed.some;
     bounded = start.allowed.bounded;
@@ -45,7 +45,7 @@ module _ {most : ℕ} {l : Library} {t : Tree} {library : LibraryRecord} {tree :
     prepared = record {
       decoded = decoded_of start.sheets;
       room_is = refl;
-      area = record { bounded = start.allowed.bounded; room = omega (arith, e, long); small = w.1.small };
+      area = record { bounded = start.allowed.bounded; room = omega (arith, e, work_long); small = w.1.small };
       curves = w.1;
     };
     some_most = start.allowed.some;
