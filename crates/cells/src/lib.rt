@@ -18,17 +18,16 @@ pub struct PinFigures {
 }
 
 // Whether a match that drives a load is legal.
+#[tactic(auto, unfolding(crate::specs::Inside::Cell::row_legal))]
 pub fn is_legal(row: &[u32], load: u32) -> bool
     requires { length row.now ≡ row_words }
     ensures { result ≡ row_legal row.now load }
 {
-    if row[PatternRow::HELD] != 0 {
-        return false;
-    }
-    load <= row[PatternRow::HIGHEST]
+    row[PatternRow::HELD] == 0 && load <= row[PatternRow::HIGHEST]
 }
 
 // The figures of the pin with a number.
+#[tactic(auto, unfolding(crate::specs::Inside::Cell::row_figures))]
 pub fn pin_figures(row: &[u32], pin: usize) -> PinFigures
     requires { (length row.now ≡ row_words) × (pin < pins_most) }
     ensures { result ≡ row_figures row.now pin }
@@ -43,6 +42,7 @@ pub fn pin_figures(row: &[u32], pin: usize) -> PinFigures
 }
 
 // What a pin adds to its input's arrival when the match drives a load.
+#[tactic(auto, unfolding(crate::specs::Inside::Cell::delay_of))]
 pub fn delay(pin: PinFigures, load: u32) -> u32
     requires { PinSafe pin × (load ≤ 255) }
     ensures { (result ≡ delay_of pin load) × (result ≤ slowest) }
