@@ -8,7 +8,7 @@ use native.Mathlib.Omega.{arith}
 use lib.ListN.{length, get_or, drop, drop_of_length-le}
 use lib.Seq.{drop-cons}
 use Rattle.fields.specs.Answer.{Answer, refused, success, on_success, Bounded}
-use Rattle.sheets_rules.specs.Model.{Library, Pattern}
+use Rattle.sheets_rules.specs.Model.{Library, Pattern, patterns}
 use Rattle.sheets_rules.specs.Reach.{library_bits}
 use Rattle.sheets_rules.specs.Report.{LibraryCounts, library_word, LibraryLimits}
 use Rattle.sheets_rules.proofs.Patterns.{no_pattern}
@@ -37,7 +37,7 @@ unfolding drawings_judged
 judged_all functions counts ps k h before = sym (before ∙ ap (drawings_judged functions counts k) (drop_of_length-le ps h))
 
 -- The function of a pattern's cell fits, if all do.
-pub stated_fits : {l : Library} {rows : List ℕ} {total : ℕ} (h : RowsHold l rows total) (k : ℕ) → k < total → (functions : List ℕ) → Stated l functions → FieldFits (pattern_at l k) functions
+pub stated_fits : {l : Library} {rows : List ℕ} (h : RowsHold l rows) (k : ℕ) → k < length (patterns l) → (functions : List ℕ) → Stated l functions → FieldFits (pattern_at l k) functions
 stated_fits {l} h k g functions fits =
     subst (λ (n : ℕ). get_or functions (pattern_at l k).cell_number 0 < 2 ^ settings n) (count_of h k g) (fits (pattern_at l k).cell_number (known h k g).number_small)
 

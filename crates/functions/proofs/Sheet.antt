@@ -1,94 +1,99 @@
 -- A library that was read, the function sheet that was read with its pin counts, and the answer.
-use Prim.Native.Nat.{ℕ, ◌+◌, ◌*◌, ◌<◌, ◌≤◌}
+use Prim.Native.Nat.{ℕ, ◌+◌, ◌*◌, ◌<◌}
 use mathlib.Core.Path.{◌≡◌, sym, ap, subst, ◌∙◌}
 use mathlib.Core.List.{List}
 use native.Mathlib.Omega.{arith}
 use lib.ListN.{length, get_or, take, replicate, length-replicate}
-use lib.Seq.{get_or-take, length-sets}
-use Rattle.bits.specs.declared.Cursor.{Cursor}
-use Rattle.fields.specs.declared.Fault.{Fault}
+use lib.Seq.{length-sets}
 use Rattle.fields.specs.Reading.{Scan}
-use Rattle.fields.specs.Reading.{At, Refused}
-use Rattle.fields.specs.Reading.{start, place}
-use Rattle.fields.specs.declared.Refusal.{Refusal}
-use Rattle.fields.specs.Answer.{refused, refusal, on_success, Bounded}
+use Rattle.fields.specs.Reading.{start}
+use Rattle.fields.specs.Answer.{Answer, on_success, ◌>>=◌}
+use Rattle.fields.proofs.Answer.{read_said, after_refused}
+use Rattle.std.specs.Prelude.{Err}
+use Rattle.sheets_rules.specs.declared.Refusal.{Refusal}
 use Rattle.fields.proofs.Laws.{length_times}
 use Rattle.fields.proofs.Lists.{at_mem, at_map}
 use Rattle.sheets_rules.specs.Model.{Cell, Library, patterns}
 use Rattle.sheets_rules.specs.Inside.Layout.{row_words}
 use Rattle.sheets_rules.specs.Inside.Sound.{SoundLibrary, LibraryStored}
 use Rattle.sheets_rules.specs.declared.LibraryRecord.{LibraryRecord}
-use Rattle.sheets_rules.specs.Report.{LibraryLimits, library_number, counts_of}
+use Rattle.sheets_rules.specs.Report.{LibraryLimits, library_number, counts_of, refusal, of_library_judged}
+use Rattle.sheets_rules.specs.Inside.Readers.{LibraryIs}
 use Rattle.sheets_rules.proofs.Laid.{padded_at}
 use Rattle.sheets_rules.proofs.Patterns.{no_cell}
-use Rattle.sheets_rules.specs.Reach.{library_bits}
 use Rattle.sheets_rules.proofs.Report.{number_bounds}
-use Rattle.sheets_rules.proofs.Stored.{row_count, rows_filled}
-use Rattle.functions.specs.declared.FunctionsRead.{FunctionsRead}
+use Rattle.sheets_rules.proofs.Stored.{cell_count, rows_filled}
 use Rattle.functions_rules.specs.FunctionSheet.{pin_counts, function, function_sheet}
-use Rattle.functions_rules.specs.Report.{drawings_judged, functions_number, functions_judged, sheet_judged}
-use Rattle.functions.specs.Inside.Promises.{RowsHold, PinsFew, FunctionsAre, Stated}
+use Rattle.functions_rules.specs.Report.{drawings_judged, functions_number, functions_judged, sheet_judged, functions_report}
+use Rattle.functions.specs.Inside.Promises.{RowsHold, PinsCounted, PinsFew, FunctionsRead, FunctionsRefused, Stated}
 use Rattle.functions_rules.proofs.Reading.{field_small}
 use Rattle.functions.proofs.Judged.{judged_same, InLimits, refusal_limits, drawings_limits}
 use Rattle.functions_rules.proofs.Pins.{count_pins}
 
-pub rows_hold : {l : Library} {library : LibraryRecord} → LibraryStored l library → RowsHold l (take (row_words * library.total) library.rows) library.total
-rows_hold g = record { sound = g.sound; rows_are = rows_filled g; total_is = row_count g }
+pub rows_hold : {l : Library} {library : LibraryRecord} → LibraryStored l library → RowsHold l (take (row_words * library.total) library.rows)
+rows_hold g = record { sound = g.sound; rows_are = rows_filled g }
+
+-- The pins that were counted are the library's.
+pub own_pins : {l : Library} {library : LibraryRecord} (pins : List ℕ) → PinsCounted (take (row_words * library.total) library.rows) pins → LibraryStored l library → take library.count pins ≡ pin_counts l
+own_pins {l} pins all g = ap (λ (n : ℕ). take n pins) (cell_count g) ∙ all l (rows_hold g)
 
 module _ {l : Library} (sound : SoundLibrary l) where
-  -- The pin counts that were noted can be read with.
-  pub pins_few : (counts : List ℕ) (cells : ℕ) → length counts ≡ 64 → cells ≡ length l.cells → take (length l.cells) counts ≡ pin_counts l → PinsFew counts cells
+  -- A sheet can be read with the library's own pin counts.
+  pub pins_few : PinsFew (pin_counts l)
   unfolding pin_counts
-  pins_few counts cells long e all = record {
-    long = long;
-    few_cells = omega (arith, sound.few_cells);
+  pins_few = record {
+    few_cells = omega (arith, count_pins l, sound.few_cells);
     few_pins = λ k h.
         let pins : Cell → ℕ = λ c. length c.pins in
-        let in_list : k < length l.cells = omega arith in
-        let is : get_or counts k 0 ≡ length (get_or l.cells k no_cell).pins =
-        sym (get_or-take (length l.cells) counts k 0 in_list) ∙ ap (λ (xs : List ℕ). get_or xs k 0) all ∙ at_map pins l.cells k no_cell 0 in_list in
+        let in_list : k < length l.cells = omega (arith, count_pins l) in
+        let is : get_or (pin_counts l) k 0 ≡ length (get_or l.cells k no_cell).pins = at_map pins l.cells k no_cell 0 in_list in
         omega (arith, is, (sound.cells (get_or l.cells k no_cell) (at_mem l.cells k no_cell in_list)).few_pins);
   }
 
-  -- The sheet was read with the library's own pin counts.
-  pub own_pins : (s counts : List ℕ) (cells : ℕ) (r : FunctionsRead) → cells ≡ length l.cells → take (length l.cells) counts ≡ pin_counts l → FunctionsAre s (take cells counts) r → FunctionsAre s (pin_counts l) r
-  own_pins s counts cells r e all h = subst (λ (pins : List ℕ). FunctionsAre s pins r) (ap (λ (n : ℕ). take n counts) e ∙ all) h
-
-  module _ (s : List ℕ) (r : FunctionsRead) (h : FunctionsAre s (pin_counts l) r) where
-    pub functions_long : length r.functions ≡ 64
+  -- The functions that were read.
+  module _ (s functions : List ℕ) (h : FunctionsRead s (pin_counts l) functions) where
+    pub functions_long : length functions ≡ 64
     functions_long = ap length h.functions_are ∙ length-sets (replicate 64 0) 0 (function_sheet s (pin_counts l) start).0 ∙ length-replicate {A = ℕ} 64 0
 
     -- What stands in the array is what was read.
-    stands : (k : ℕ) → get_or r.functions k 0 ≡ get_or (function_sheet s (pin_counts l) start).0 k 0
+    stands : (k : ℕ) → get_or functions k 0 ≡ get_or (function_sheet s (pin_counts l) start).0 k 0
     unfolding function_sheet
     stands k =
         ap (λ (xs : List ℕ). get_or xs k 0) h.functions_are
         ∙ padded_at 64 (function_sheet s (pin_counts l) start).0 k (omega (arith, length_times (length (pin_counts l)) (function s (pin_counts l)) start, count_pins l, sound.few_cells))
 
-    pub stated : Stated l r.functions
+    pub stated : Stated l functions
     unfolding function_sheet
     stated k g = rw (stands k) (field_small s (pin_counts l) start (length (pin_counts l)) k (omega (arith, count_pins l)))
 
-    pub sheet_judged_lem : (c : Cursor) → r.scan ≡ At c → drawings_judged r.functions (counts_of l) 0 (patterns l) ≡ sheet_judged s l
+    pub sheet_judged_lem : drawings_judged functions (counts_of l) 0 (patterns l) ≡ sheet_judged s l
     unfolding functions_judged
-    sheet_judged_lem c e =
+    sheet_judged_lem =
         let x = function_sheet s (pin_counts l) start in
-        judged_same r.functions x.0 stands (counts_of l) 0 (patterns l) ∙ sym (ap (λ (q : Scan). functions_judged l (x.0, q)) (sym h.scan_is ∙ e))
+        judged_same functions x.0 stands (counts_of l) 0 (patterns l) ∙ sym (ap (λ (o : Answer (List ℕ)). o >>= (λ fs. drawings_judged fs (counts_of l) 0 (patterns l))) (read_said functions_number x h.live))
 
-    pub sheet_limits : InLimits (drawings_judged r.functions (counts_of l) 0 (patterns l))
-    sheet_limits = drawings_limits r.functions (counts_of l) sound.few_cells sound.few_patterns 0 (patterns l) (omega (arith, sound.few_patterns))
+    pub sheet_limits : InLimits (drawings_judged functions (counts_of l) 0 (patterns l))
+    sheet_limits = drawings_limits functions (counts_of l) sound.few_cells sound.few_patterns 0 (patterns l) (omega (arith, sound.few_patterns))
 
-    pub sheet_refused : (f : Fault) (p n : ℕ) → r.scan ≡ Refused f p → n ≡ library_number f → refused (29 + n) p ≡ sheet_judged s l
-    unfolding functions_judged functions_number
-    sheet_refused f p n e en =
+  -- The sheet's refusal.
+  module _ (s : List ℕ) (q : Refusal) (h : FunctionsRefused s (pin_counts l) q) where
+    pub sheet_refused : of_library_judged (Err q) ≡ sheet_judged s l
+    unfolding functions_judged functions_number of_library_judged
+    sheet_refused =
         let x = function_sheet s (pin_counts l) start in
-        let number : 29 + n ≡ library_number f + 29 = omega arith in
-        ap (λ (k : ℕ). refused k p) number ∙ sym (ap (λ (q : Scan). functions_judged l (x.0, q)) (sym h.scan_is ∙ e))
+        ap refusal h.refused_is ∙ sym (ap (λ (z : Scan). functions_judged l (x.0, z)) h.scan_is)
 
-    pub refused_limits : (f : Fault) (p n : ℕ) → r.scan ≡ Refused f p → n ≡ library_number f → InLimits (refused (29 + n) p)
-    refused_limits f p n e en = refusal_limits (29 + n) p (omega arith) (omega (arith, number_bounds f)) (omega (arith, h.near, ap place e))
+    pub refused_limits : InLimits (of_library_judged (Err q))
+    unfolding of_library_judged
+    refused_limits =
+        subst (λ r. InLimits (refusal r)) (sym h.refused_is) (refusal_limits (library_number h.fault + 29) q.place (omega arith) (omega (arith, number_bounds h.fault)) (omega (arith, h.near)))
 
--- A refusal of the library is within the limits.
-pub library_limited : (q : Refusal) → q.place ≤ library_bits → Bounded (refusal q) → InLimits (refusal q)
-unfolding on_success LibraryLimits
-library_limited q near fits = (fits, near)
+-- A refusal of the library is the answer, and within the limits.
+module _ (ls fs : List ℕ) (q : Refusal) (h : LibraryIs ls (Err q)) where
+  pub library_refused : of_library_judged (Err q) ≡ functions_report ls fs
+  unfolding of_library_judged functions_report
+  library_refused = sym (after_refused (sheet_judged fs) h.said.0)
+
+  pub library_limits : InLimits (of_library_judged (Err q))
+  unfolding of_library_judged on_success LibraryLimits
+  library_limits = (h.said.1, h.near)

@@ -10,27 +10,12 @@ ghost use Rattle.functions_rules.specs.Report.{functions_report};
 ghost use Rattle.functions_rules.specs.Demands.{FunctionDemands};
 ghost use Rattle.functions.specs.Inside.Promises.{Tabulates, Standing, ShapeEvaluated, RowHolds, DrawingJudged, RowsHold, PinsCounted, PinsFew, FunctionsAre, DrawingsJudged, SheetJudged};
 
-use fields::{Finding, Refusal, Scan};
+use fields::Scan;
 use shapes_rules::Packed;
-use sheets_rules::{LibraryJudged, LibraryRecord, Limits, PatternRow, Slots};
-
-// Document 02's numbers: what is added to the numbers of a library's faults for those of a function sheet, and a drawing that computes another function.
-#[derive(Clone, Copy)]
-struct Numbers {}
-
-impl Numbers {
-    const SHEET: u32 = 29;
-
-    const OTHER: u32 = 33;
-}
+use sheets_rules::{Counts, LibraryRecord, Limits, PatternRow, Reason, Refusal, Slots};
 
 // The settings in a word: the first setting's bit is the highest. A cell of fewer pins than six has its settings in the first bits.
-#[derive(Clone, Copy)]
-struct Lanes {}
-
-impl Lanes {
-    const SETTINGS: usize = 64;
-}
+const SETTINGS: usize = 64;
 
 // Each pin in the 64 settings of six pins.
 const COLUMNS: [u64; Slots::PINS] = [
@@ -47,13 +32,6 @@ const COLUMNS: [u64; Slots::PINS] = [
 pub struct Evaluated {
     pub word: u64,
     pub next: usize,
-}
-
-// The functions that a sheet states, by the number of the cell, and the scan after it.
-#[derive(Clone, Copy)]
-pub struct FunctionsRead {
-    pub scan: Scan,
-    pub functions: [u64; Limits::CELLS as usize],
 }
 
 // A pin in 64 settings.
@@ -106,101 +84,82 @@ fn computes(row: &[u32], functions: &[u64]) -> bool
     let function = functions[row[PatternRow::CELL] as usize];
     let count = settings(row[PatternRow::PINS]);
     let drawn = evaluate(row, PatternRow::SYMBOLS);
-    drawn.word >> (Lanes::SETTINGS - count) == function
+    drawn.word >> (SETTINGS - count) == function
 }
 
 // How many pins each cell has, by its number: every cell has a pattern, and each pattern's row says it.
-fn pin_counts(rows: &[u32], total: usize) -> [u8; Limits::CELLS as usize]
-    requires { (l : Library) × RowsHold l rows.now total }
-    ensures { (length result ≡ 64) × PinsCounted rows.now total result }
+fn pin_counts(rows: &[u32]) -> [u8; Limits::CELLS as usize]
+    requires { (l : Library) × RowsHold l rows.now }
+    ensures { (length result ≡ 64) × PinsCounted rows.now result }
 {
     let mut counts = [0u8; Limits::CELLS as usize];
-    let mut k: usize = 0;
-    while k < total {
-        let first = PatternRow::WORDS * k;
-        counts[rows[first + PatternRow::CELL] as usize] = rows[first + PatternRow::PINS] as u8;
-        k += 1;
+    for row in rows.chunks_exact(PatternRow::WORDS) {
+        counts[row[PatternRow::CELL] as usize] = row[PatternRow::PINS] as u8;
     }
     counts
 }
 
-// The function sheet of `cells` cells with these pin counts.
-fn read_functions(s: &[u8], counts: [u8; Limits::CELLS as usize], cells: usize) -> FunctionsRead
-    requires { PinsFew counts cells }
-    ensures { FunctionsAre s.now (take cells counts) result }
+// The function sheet of cells with these pin counts.
+fn read_functions(s: &[u8], pins: &[u8]) -> Result<[u64; Limits::CELLS as usize], Refusal>
+    requires { PinsFew pins.now }
+    ensures { FunctionsAre s.now pins.now result }
 {
     let mut functions = [0u64; Limits::CELLS as usize];
     let mut at = fields::begin();
-    let mut k: usize = 0;
-    while k < cells {
-        let got = fields::raw_wide(at, s, settings(counts[k] as u32));
+    for (k, count) in pins.iter().enumerate() {
+        let got = fields::raw_wide(at, s, settings(u32::from(*count)));
         at = got.scan;
         functions[k] = got.value;
-        k += 1;
     }
-    FunctionsRead {
-        scan: fields::end(at, s),
-        functions,
+    match fields::end(at, s) {
+        Scan::At(_) => Ok(functions),
+        Scan::Refused(fault, place) => Err(Refusal {
+            item: 0,
+            reason: Reason::FunctionSheet(fault),
+            place,
+        }),
     }
 }
 
 // Each drawing in turn, against the function of its cell.
-fn judge_drawings(rows: &[u32], total: usize, functions: &[u64], cells: usize) -> LibraryJudged
-    requires { (length functions.now ≡ 64) × ((l : Library) × RowsHold l rows.now total) }
-    ensures { DrawingsJudged rows.now total functions.now cells result }
+fn judge_drawings(rows: &[u32], functions: &[u64], counts: Counts) -> Result<Counts, Refusal>
+    requires { (length functions.now ≡ 64) × ((l : Library) × RowsHold l rows.now) }
+    ensures { DrawingsJudged rows.now functions.now counts result }
 {
-    let mut number: usize = 0;
-    while number < total {
-        let first = PatternRow::WORDS * number;
-        if !computes(&rows[first..first + PatternRow::WORDS], functions) {
-            return LibraryJudged::Refused(Refusal {
+    for (number, row) in rows.chunks_exact(PatternRow::WORDS).enumerate() {
+        if !computes(row, functions) {
+            return Err(Refusal {
                 item: 0,
-                number: Numbers::OTHER,
+                reason: Reason::Function,
                 place: number,
             });
         }
-        number += 1;
     }
-    LibraryJudged::Sound(cells, total)
+    Ok(counts)
 }
 
 // The function sheet of a sound library. All of it is read before a drawing is looked at.
-fn with_library(library: LibraryRecord, s: &[u8]) -> LibraryJudged
-    requires { (l : Library) × LibraryStored l library }
-    ensures sheet_judged { SheetJudged library s.now result }
+fn with_library(library: &LibraryRecord, s: &[u8]) -> Result<Counts, Refusal>
+    requires { (l : Library) × LibraryStored l library.now }
+    ensures sheet_judged { SheetJudged library.now s.now result }
     ensures library_bounded { LibraryBounded (of_library_judged result) }
 {
-    let rows = library.rows;
-    let total = library.total;
-    let cells = library.count;
-    let words = PatternRow::WORDS * total;
-    let counts = pin_counts(&rows[..words], total);
-    let read = read_functions(s, counts, cells);
-    let scan = read.scan;
-    let functions = read.functions;
-    match scan {
-        Scan::At(_) => judge_drawings(&rows[..words], total, &functions, cells),
-        Scan::Refused(fault, place) => {
-            let number = Numbers::SHEET + library::library_number(fault);
-            LibraryJudged::Refused(Refusal {
-                item: 0,
-                number,
-                place,
-            })
-        }
-    }
+    let counts = Counts {
+        cells: library.count,
+        patterns: library.total,
+    };
+    let rows = &library.rows[..PatternRow::WORDS * counts.patterns];
+    let pins = pin_counts(rows);
+    let functions = read_functions(s, &pins[..counts.cells])?;
+    judge_drawings(rows, &functions, counts)
 }
 
 // Whether each drawing of a library computes the function that is stated of its cell.
-pub fn judge_functions(library: &[u8], functions: &[u8]) -> LibraryJudged
+pub fn judge_functions(library: &[u8], functions: &[u8]) -> Result<Counts, Refusal>
     ensures result_value { of_library_judged result ≡ functions_report library.now functions.now }
     ensures function_demands { FunctionDemands library.now functions.now (of_library_judged result) }
     ensures library_bounded { LibraryBounded (of_library_judged result) }
 {
-    let read = library::read_library(library);
-    let finding = read.finding;
-    match finding {
-        Finding::Refused(refusal) => LibraryJudged::Refused(refusal),
-        Finding::Found => with_library(read.library, functions),
-    }
+    let library = library::read_library(library)?;
+    with_library(&library, functions)
 }

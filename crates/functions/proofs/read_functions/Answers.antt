@@ -1,70 +1,69 @@
 use native.Mathlib.Omega.{arith}
 use Prim.Native.Nat.{ℕ}
-use mathlib.Core.Path.{◌≡◌, refl, sym, ap, ◌∙◌}
-use mathlib.Core.List.{map-id}
-use lib.ListN.{length, take}
-use lib.Seq.{length-take-le}
-use Rattle.fields.specs.Reading.{place, start, times, ended}
-use Rattle.fields.specs.Reading.{Scan}
+use mathlib.Core.Path.{◌≡◌, refl, sym, ap, ap₂, subst, ◌∙◌}
+use mathlib.Core.List.{List, map-id}
+use lib.ListN.{length, get_or}
 use Rattle.bits.specs.Bits.{ends_at}
+use Rattle.fields.specs.Reading.{place, start, times, field, free, ended, Live}
+use Rattle.fields.specs.Reading.{Scan}
 use Rattle.fields.proofs.Laws.{length_times, times_scan, tailed_place}
 use Rattle.sheets_rules.specs.Inside.Layout.{padded}
 use Rattle.sheets_rules.proofs.Laid.{filled_more}
+use Rattle.functions_rules.specs.Function.{settings}
 use Rattle.functions_rules.specs.FunctionSheet.{function, function_sheet}
-use Rattle.functions_rules.proofs.Reading.{function_is}
 use Rattle.functions.proofs.read_functions.Goals as goal
 
 pub loop-k-init : goal.loop-k-init
 unfolding times
-loop-k-init c = (omega arith, c.requires, refl, c.begin-at.ensures.0, omega (arith, c.begin-at.ensures.1))
-
-pub bounds-counts-k : goal.bounds-counts-k
-bounds-counts-k c = omega (arith, c.loop-k.invariant.1.few_cells)
-
-pub overflow_cast-counts : goal.overflow_cast-counts
-overflow_cast-counts c = record { fits = omega (arith, c.loop-k.invariant.1.few_pins c.loop-k.k (omega arith)) }
-
-pub settings-requires : goal.settings-requires
-settings-requires c = c.loop-k.invariant.1.few_pins c.loop-k.k (omega arith)
+loop-k-init c = (refl, c.begin-at.ensures.0, omega (arith, c.begin-at.ensures.1))
 
 pub raw_wide-got-requires : goal.raw_wide-got-requires
-raw_wide-got-requires c = omega (arith, c.loop-k.invariant.4, c.loop-k.invariant.1.few_cells)
-
-pub offset_bounds-functions-k : goal.offset_bounds-functions-k
-offset_bounds-functions-k c = record { fits = omega (arith, c.loop-k.invariant.1.few_cells) }
-
-pub bounds-functions-k : goal.bounds-functions-k
-bounds-functions-k c = omega (arith, c.loop-k.invariant.1.few_cells)
-
-pub overflow_add-k : goal.overflow_add-k
-overflow_add-k c = record { fits = omega (arith, c.loop-k.invariant.1.few_cells) }
+raw_wide-got-requires c = omega (arith, c.loop-k.invariant.2, c.requires.few_cells)
 
 pub loop-k-preserved : goal.loop-k-preserved
+unfolding function
 loop-k-preserved c =
     let a = c.args in
     let i = c.loop-k in
-    let r = function a.s.now (take a.cells a.counts) in
+    let r = function a.s.now a.pins.now in
     let x = times i.k r start in
-    let e = function_is a.s.now a.counts a.cells i.k c.settings.result x.0 i.at x.1 (omega arith) (length_times i.k r start) c.settings.ensures.0 i.invariant.3 in (
-      omega arith,
-      i.invariant.1,
-      filled_more 64 0 (λ (q : ℕ). q) r start i.k i.functions c.raw_wide-got.result.value i.invariant.2 (c.raw_wide-got.ensures.value ∙ ap (λ (q : ℕ × Scan). q.0) e),
-      c.raw_wide-got.ensures.scan ∙ ap (λ (q : ℕ × Scan). q.1) e ∙ sym (times_scan i.k r start),
-      omega (arith, c.raw_wide-got.ensures.near, i.invariant.4, c.settings.ensures.2),
+    let got = c.raw_wide-got in
+    let width : c.settings.result ≡ settings (get_or a.pins.now (length x.0) 0) =
+    c.settings.ensures.0 ∙ ap settings (c.from.ensures ∙ ap (λ (j : ℕ). get_or a.pins.now j 0) (sym (length_times i.k r start))) in
+    let e : field a.s.now c.settings.result free i.at ≡ r x.0 x.1 = ap₂ (λ (n : ℕ) (q : Scan). field a.s.now n free q) width i.invariant.1 in (
+      filled_more 64 0 (λ (q : ℕ). q) r start i.k i.functions got.result.value i.invariant.0 (got.ensures.value ∙ ap (λ (q : ℕ × Scan). q.0) e),
+      got.ensures.scan ∙ ap (λ (q : ℕ × Scan). q.1) e ∙ sym (times_scan i.k r start),
+      omega (arith, got.ensures.near, i.invariant.2, c.settings.ensures.2),
     )
 
 pub end-requires : goal.end-requires
-end-requires c = omega (arith, c.loop-k.invariant.4, c.loop-k.invariant.1.few_cells)
+end-requires c = omega (arith, c.loop-k.invariant.2, c.requires.few_cells)
 
-pub returns : goal.returns
+-- The scan after the last field is the sheet's.
+scan_is : (s pins : List ℕ) (k : ℕ) (scan result : Scan) → k ≡ length pins → scan ≡ (times k (function s pins) start).1 → result ≡ ended s scan → result ≡ (function_sheet s pins start).1
 unfolding function_sheet
-returns c =
+scan_is s pins k scan result done e h = h ∙ ap (ended s) (e ∙ ap (λ (n : ℕ). (times n (function s pins) start).1) done)
+
+pub returns-in-At : goal.returns-in-At
+unfolding function_sheet
+returns-in-At c =
     let a = c.args in
     let i = c.loop-k in
-    let r = function a.s.now (take a.cells a.counts) in
-    let all : i.k ≡ length (take a.cells a.counts) = omega (arith, length-take-le a.cells a.counts (omega (arith, i.invariant.1.long, i.invariant.1.few_cells))) in
+    let x : ℕ → List ℕ × Scan = λ n. times n (function a.s.now a.pins.now) start in
+    let done : i.k ≡ length a.pins.now = omega arith in
     record {
-      scan_is = c.end.ensures ∙ ap (ended a.s.now) (i.invariant.3 ∙ ap (λ (k : ℕ). (times k r start).1) all);
-      functions_are = i.invariant.2 ∙ ap (padded 64 0) (map-id (times i.k r start).0) ∙ ap (λ (k : ℕ). padded 64 0 (times k r start).0) all;
-      near = omega (arith, ap place c.end.ensures, tailed_place (ends_at a.s.now) i.at, i.invariant.4, i.invariant.1.few_cells);
+      live = subst Live (sym c.in-At.is ∙ scan_is a.s.now a.pins.now i.k i.at c.end.result done i.invariant.1 c.end.ensures) tt;
+      functions_are = i.invariant.0 ∙ ap (padded 64 0) (map-id (x i.k).0) ∙ ap (λ (n : ℕ). padded 64 0 (x n).0) done;
+    }
+
+pub returns-in-Refused : goal.returns-in-Refused
+returns-in-Refused c =
+    let a = c.args in
+    let i = c.loop-k in
+    let done : i.k ≡ length a.pins.now = omega arith in
+    record {
+      fault = c.in-Refused.fault;
+      refused_is = refl;
+      scan_is = sym (scan_is a.s.now a.pins.now i.k i.at c.end.result done i.invariant.1 c.end.ensures) ∙ c.in-Refused.is;
+      near = omega (arith, ap place (sym c.in-Refused.is ∙ c.end.ensures), tailed_place (ends_at a.s.now) i.at, i.invariant.2, c.requires.few_cells);
     }

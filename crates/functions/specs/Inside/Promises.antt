@@ -1,16 +1,19 @@
 -- What the functions of this crate promise each other.
-use Rattle.std.specs.Prelude.{ℕ, ◌+◌, ◌*◌, ◌^◌, ◌≤◌, ◌<◌, ◌≡◌, Bool, length, get_or, take}
+use Rattle.std.specs.Prelude.{ℕ, ◌+◌, ◌*◌, ◌^◌, ◌≤◌, ◌<◌, ◌≡◌, Bool, length, get_or, take, Result, MatchResult}
 use mathlib.Core.List.{List, Memᴰ}
-use Rattle.fields.specs.Reading.{start, place}
+use Rattle.fields.specs.Reading.{start, Live}
+use Rattle.fields.specs.declared.Fault.{Fault}
+use Rattle.fields.specs.Reading.{Refused}
 use Rattle.shapes_rules.specs.Shape.{symbols}
 use Rattle.sheets_rules.specs.declared.LibraryRecord.{LibraryRecord}
-use Rattle.sheets_rules.specs.declared.LibraryJudged.{LibraryJudged}
+use Rattle.sheets_rules.specs.declared.Counts.{Counts}
+use Rattle.sheets_rules.specs.declared.Reason.{Reason}
+use Rattle.sheets_rules.specs.declared.Refusal.{Refusal}
 use Rattle.sheets_rules.specs.Model.{Leaf, pin_of, Shape, size, leaves, Library, Pattern, patterns}
 use Rattle.sheets_rules.specs.Inside.Sound.{SoundLibrary, LibraryStored}
 use Rattle.sheets_rules.specs.Inside.Layout.{padded, number_at, pins_at, symbols_at, row_words, pattern_table}
-use Rattle.sheets_rules.specs.Report.{of_library_judged, counts_of}
+use Rattle.sheets_rules.specs.Report.{LibraryCounts, of_library_judged, counts_of}
 use Rattle.functions.specs.declared.Evaluated.{Evaluated}
-use Rattle.functions.specs.declared.FunctionsRead.{FunctionsRead}
 use Rattle.functions_rules.specs.Function.{settings, value, bit_of}
 use Rattle.functions_rules.specs.FunctionSheet.{pin_counts, function_sheet}
 use Rattle.functions_rules.specs.Report.{is_right, drawings_judged, sheet_judged}
@@ -60,39 +63,51 @@ FieldFits p functions = get_or functions p.cell_number 0 < 2 ^ settings (length 
 abbrev pub DrawingJudged : (row functions : List ℕ) → Bool → Type 0
 DrawingJudged row functions r = (p : Pattern) → RowHolds row p → FieldFits p functions → r ≡ is_right functions p
 
--- The rows of the `total` patterns of a sound library.
-pub record RowsHold (l : Library) (rows : List ℕ) (total : ℕ) : Type 0 where
+-- The rows of the patterns of a sound library.
+pub record RowsHold (l : Library) (rows : List ℕ) : Type 0 where
   pub sound : SoundLibrary l
   pub rows_are : rows ≡ pattern_table l
-  pub total_is : total ≡ length (patterns l)
 
 -- The pins of each cell counted, whichever library has these rows.
-abbrev pub PinsCounted : (rows : List ℕ) → (total : ℕ) → List ℕ → Type 0
-PinsCounted rows total r = (l : Library) → RowsHold l rows total → take (length l.cells) r ≡ pin_counts l
+abbrev pub PinsCounted : (rows : List ℕ) → List ℕ → Type 0
+PinsCounted rows r = (l : Library) → RowsHold l rows → take (length l.cells) r ≡ pin_counts l
 
 -- ---- the function sheet
 
 -- Pin counts that a function sheet can be read with: at most 64, at most six pins each.
-pub record PinsFew (counts : List ℕ) (cells : ℕ) : Type 0 where
-  pub long : length counts ≡ 64
-  pub few_cells : cells ≤ 64
-  pub few_pins : (k : ℕ) → k < cells → get_or counts k 0 ≤ 6
+pub record PinsFew (pins : List ℕ) : Type 0 where
+  pub few_cells : length pins ≤ 64
+  pub few_pins : (k : ℕ) → k < length pins → get_or pins k 0 ≤ 6
 
--- The functions that a sheet states, in the order of the cells, and the scan after it.
-pub record FunctionsAre (s pins : List ℕ) (r : FunctionsRead) : Type 0 where
-  pub scan_is : r.scan ≡ (function_sheet s pins start).1
-  pub functions_are : r.functions ≡ padded 64 0 (function_sheet s pins start).0
-  pub near : place r.scan ≤ 64 * 64
+module _ (s pins : List ℕ) where
+  -- The functions that a sheet states, in the order of the cells.
+  pub record FunctionsRead (functions : List ℕ) : Type 0 where
+    pub live : Live (function_sheet s pins start).1
+    pub functions_are : functions ≡ padded 64 0 (function_sheet s pins start).0
+
+  -- The sheet is refused.
+  pub record FunctionsRefused (r : Refusal) : Type 0 where
+    pub fault : Fault
+    pub refused_is : r ≡ record { item = 0; reason = Reason.FunctionSheet fault; place = r.place }
+    pub scan_is : (function_sheet s pins start).1 ≡ Refused fault r.place
+    pub near : r.place ≤ 64 * 64
+
+  abbrev pub FunctionsAre : Result (List ℕ) Refusal → Type 0
+  FunctionsAre r = MatchResult r FunctionsRead FunctionsRefused
 
 -- Functions that are stated of a library's cells: each has a bit for every setting.
 abbrev pub Stated : Library → List ℕ → Type 0
 Stated l functions = (k : ℕ) → k < length l.cells → get_or functions k 0 < 2 ^ settings (get_or (pin_counts l) k 0)
 
--- Each drawing judged by stated functions, whichever library has these rows.
-abbrev pub DrawingsJudged : (rows : List ℕ) → (total : ℕ) → (functions : List ℕ) → (cells : ℕ) → LibraryJudged → Type 0
-DrawingsJudged rows total functions cells r =
-    (l : Library) → RowsHold l rows total → Stated l functions → cells ≡ length l.cells → of_library_judged r ≡ drawings_judged functions (counts_of l) 0 (patterns l)
+-- The counts of a library, as they are kept.
+abbrev pub counted : Counts → LibraryCounts
+counted n = record { cells = n.cells; patterns = n.patterns }
+
+-- Each drawing judged by stated functions, whichever library has these rows and counts.
+abbrev pub DrawingsJudged : (rows functions : List ℕ) → Counts → Result Counts Refusal → Type 0
+DrawingsJudged rows functions counts r =
+    (l : Library) → RowsHold l rows → Stated l functions → counted counts ≡ counts_of l → of_library_judged r ≡ drawings_judged functions (counts_of l) 0 (patterns l)
 
 -- A function sheet judged for a sound library, whichever this is.
-abbrev pub SheetJudged : LibraryRecord → List ℕ → LibraryJudged → Type 0
+abbrev pub SheetJudged : LibraryRecord → List ℕ → Result Counts Refusal → Type 0
 SheetJudged library s r = (l : Library) → LibraryStored l library → of_library_judged r ≡ sheet_judged s l
