@@ -6,7 +6,7 @@ use native.Mathlib.Nat.{zero-add}
 use native.Mathlib.Omega.{arith}
 use lib.ListN.{length, length-map, length-append}
 use Rattle.fields.specs.declared.Got.{Got}
-use Rattle.fields.specs.declared.Scan.{Scan}
+use Rattle.fields.specs.Reading.{Scan}
 use Rattle.shapes_rules.specs.Shape.{Shape}
 use Rattle.fields.specs.Reading.{Reader, times, field, Live}
 use Rattle.fields.proofs.Laws.{length_times, times_value, times_scan}

@@ -9,7 +9,7 @@ use native.Mathlib.Numerals.{add-one}
 use native.Mathlib.Omega.{arith}
 use lib.ListN.{length, get_or, take, drop, set, replicate, length-map}
 use lib.Seq.{sets, length-sets, length-take-le, take-suc}
-use Rattle.fields.specs.declared.Scan.{Scan}
+use Rattle.fields.specs.Reading.{Scan}
 use Rattle.fields.specs.Reading.{place, times, within, field, Live}
 use borrow.Author.Tests.{ne_eqb}
 use lib.Dec.{eqb}
@@ -18,7 +18,7 @@ use Rattle.fields.proofs.Lists.{sets_append, set_sets, mid_sets}
 use Rattle.shapes_rules.proofs.Drawing.{length_symbols}
 use Rattle.shapes.proofs.Wholes.{drawn_is}
 use borrow.Rule.Slice.PartMut.{put_mid}
-use Rattle.fields.specs.declared.Scan.TheVariants.{At, Refused}
+use Rattle.fields.specs.Reading.{At, Refused}
 use Rattle.shapes.specs.declared.ShapeRead.{ShapeRead}
 use Rattle.shapes_rules.specs.Shape.{Shape, symbols, size}
 use Rattle.shapes_rules.specs.Drawing.{has_all, shape}

@@ -13,8 +13,8 @@ use Rattle.sheets_rules.specs.declared.Counts.{Counts}
 use Rattle.sheets_rules.specs.declared.Reason.TheVariants.{Library}
 use Rattle.sheets_rules.specs.declared.Refusal.{Refusal}
 use Rattle.fields.specs.declared.Got.{Got}
-use Rattle.fields.specs.declared.Scan.{Scan}
-use Rattle.fields.specs.declared.Scan.TheVariants.{At, Refused}
+use Rattle.fields.specs.Reading.{Scan}
+use Rattle.fields.specs.Reading.{At, Refused}
 use Rattle.fields.specs.Reading.{start, place, times, field, within, ended, Live}
 use Rattle.fields.specs.Inside.Promises.{Reads}
 use Rattle.sheets_rules.proofs.Results.{sound_says, refused_says}

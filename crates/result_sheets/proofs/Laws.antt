@@ -10,14 +10,14 @@ use lib.ListN.{length, take, drop, get_or, set, replicate, length-set, length-re
 use lib.Seq.{set-append_left, slice, slice-cons, slice_empty, take-suc, length-take-le}
 use Rattle.bits.specs.Bits.{ends_at, cursor_at, after, with_digit, with_bit, with_field, bytes_to}
 use Rattle.bits.proofs.Laws.{length_bit, length_field}
-use Rattle.fields.specs.declared.Scan.{Scan}
+use Rattle.fields.specs.Reading.{Scan}
 use Rattle.fields.specs.declared.Got.{Got}
 use Rattle.fields.specs.Reading.{place, start, times, free, field, ended}
 use Rattle.fields.specs.Inside.Promises.{Reads}
 use Rattle.fields.proofs.Lists.{take_sets}
 use Rattle.fields.proofs.Laws.{value_at_lem, scan_at, length_times, tailed_place}
 use Rattle.sheets_rules.specs.Inside.Layout.{padded}
-use Rattle.fields.specs.declared.Scan.TheVariants.{At}
+use Rattle.fields.specs.Reading.{At}
 use Rattle.covers.specs.Cover.{Point, Placed, Cover}
 use Rattle.fields.specs.Written.{Field, widths, written, packed}
 use Rattle.fields.proofs.Written.{length_packed}

@@ -9,8 +9,8 @@ use lib.ListN.{length, take, set, length-append}
 use lib.Seq.{length-take-le, take-suc-set}
 use Rattle.fields.specs.declared.Got.{Got}
 use Rattle.shapes_rules.specs.declared.Rules.{Rules}
-use Rattle.fields.specs.declared.Scan.{Scan}
-use Rattle.fields.specs.declared.Scan.TheVariants.{At, Refused}
+use Rattle.fields.specs.Reading.{Scan}
+use Rattle.fields.specs.Reading.{At, Refused}
 use Rattle.fields.specs.Reading.{Reader, place, field, Live}
 use Rattle.shapes_rules.specs.Shape.{Shape, symbols}
 use Rattle.shapes_rules.specs.Drawing.{leaf_verdict, leaf_node, driven_node, pair, branch, node}

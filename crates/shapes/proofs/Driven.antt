@@ -10,8 +10,8 @@ use Rattle.bits.specs.declared.Cursor.{Cursor}
 use Rattle.bits.specs.declared.FieldRead.{FieldRead}
 use Rattle.bits.specs.declared.FieldRead.TheVariants.{Value, Truncated}
 use Rattle.bits.specs.Bits.{place_of, field_at}
-use Rattle.fields.specs.declared.Scan.{Scan}
-use Rattle.fields.specs.declared.Scan.TheVariants.{At}
+use Rattle.fields.specs.Reading.{Scan}
+use Rattle.fields.specs.Reading.{At}
 use Rattle.fields.specs.Reading.{place, field, free, Live}
 use Rattle.fields.proofs.Laws.{field_near, free_small, live_sound}
 use Rattle.shapes_rules.specs.declared.Rules.{Rules}

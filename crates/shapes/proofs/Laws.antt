@@ -8,10 +8,10 @@ use lib.Seq.{get_or-set_same, get_or-set_other, drop-set-lt}
 use borrow.Table.Steps.{cases}
 use native.Mathlib.Omega.{arith}
 use Rattle.fields.specs.declared.Got.{Got}
-use Rattle.fields.specs.declared.Scan.{Scan}
-use Rattle.fields.specs.declared.Scan.TheVariants.{At, Refused}
+use Rattle.fields.specs.Reading.{Scan}
+use Rattle.fields.specs.Reading.{At, Refused}
 use Rattle.fields.specs.declared.Fault.{Fault}
-use Rattle.fields.specs.declared.Verdict.{Verdict}
+use Rattle.fields.specs.Reading.{Verdict}
 use Rattle.bits.specs.declared.Cursor.{Cursor}
 use Rattle.bits.specs.declared.FieldRead.{FieldRead}
 use Rattle.bits.specs.declared.FieldRead.TheVariants.{Value, Truncated as TruncatedField}

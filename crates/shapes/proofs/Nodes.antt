@@ -6,7 +6,7 @@ use native.Mathlib.Omega.{arith}
 use lib.ListN.{length, take, set, length-set}
 use Rattle.bits.specs.declared.Cursor.{Cursor}
 use Rattle.bits.specs.Bits.{place_of}
-use Rattle.fields.specs.declared.Scan.TheVariants.{At}
+use Rattle.fields.specs.Reading.{At}
 use Rattle.fields.specs.Reading.{Live}
 use Rattle.shapes_rules.specs.declared.Rules.{Rules}
 use Rattle.shapes.specs.declared.NodeCode.TheVariants.{Code, Faulty}

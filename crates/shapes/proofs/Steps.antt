@@ -10,7 +10,7 @@ use Rattle.bits.specs.declared.Cursor.{Cursor}
 use Rattle.bits.specs.declared.FieldRead.{FieldRead}
 use Rattle.bits.specs.declared.FieldRead.TheVariants.{Value, Truncated}
 use Rattle.bits.specs.Bits.{place_of, field_at}
-use Rattle.fields.specs.declared.Scan.TheVariants.{At}
+use Rattle.fields.specs.Reading.{At}
 use Rattle.fields.specs.Reading.{field}
 use Rattle.fields.proofs.Laws.{reads_field}
 use Rattle.shapes_rules.specs.declared.Rules.{Rules}

@@ -12,8 +12,8 @@ use Rattle.bits.specs.Bits.{place_of}
 use Rattle.bits.specs.Inside.Promises.{Opens, Opened}
 use Rattle.bits.proofs.Laws.{cursor_is}
 use Rattle.fields.specs.declared.Fault.TheVariants.{Truncated}
-use Rattle.fields.specs.declared.Scan.{Scan}
-use Rattle.fields.specs.declared.Scan.TheVariants.{At, Refused}
+use Rattle.fields.specs.Reading.{Scan}
+use Rattle.fields.specs.Reading.{At, Refused}
 use Rattle.fields.specs.Reading.{place, Live}
 use Rattle.shapes_rules.specs.declared.Rules.{Rules}
 use Rattle.shapes.specs.declared.ShapeRead.{ShapeRead}

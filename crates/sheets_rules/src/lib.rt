@@ -1,7 +1,7 @@
 // The library sheet and the tree sheet: the limits, and the types that their definitions and the promises of their readers speak of.
 #![tactic(auto)]
 
-use fields::{Fault, Scan};
+use fields::Fault;
 
 // Why a call is refused: each reason has its number in the papers.
 #[derive(Clone, Copy)]
@@ -184,11 +184,4 @@ pub struct TreeRecord {
     pub count: usize,
     pub symbols: [u32; Limits::TREE_NODES],
     pub sizes: [u8; Limits::TREE_NODES],
-}
-
-// The whole tree, and the scan after it.
-#[derive(Clone, Copy)]
-pub struct TreeScanned {
-    pub scan: Scan,
-    pub tree: TreeRecord,
 }

@@ -5,7 +5,7 @@ use mathlib.Core.List.{map-id}
 use lib.ListN.{length, take}
 use lib.Seq.{length-take-le}
 use Rattle.fields.specs.Reading.{place, start, times, ended}
-use Rattle.fields.specs.declared.Scan.{Scan}
+use Rattle.fields.specs.Reading.{Scan}
 use Rattle.bits.specs.Bits.{ends_at}
 use Rattle.fields.proofs.Laws.{length_times, times_scan, tailed_place}
 use Rattle.sheets_rules.specs.Inside.Layout.{padded}

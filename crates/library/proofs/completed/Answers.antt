@@ -1,6 +1,6 @@
 use mathlib.Core.Path.{sym, ap, ap₂, subst, ◌∙◌}
 use mathlib.Core.Bool.{Bool}
-use Rattle.fields.specs.declared.Scan.{Scan}
+use Rattle.fields.specs.Reading.{Scan}
 use Rattle.fields.specs.Reading.{Live}
 use Rattle.sheets_rules.specs.LibrarySheet.{complete}
 use Rattle.sheets_rules.proofs.LibrarySheet.{complete_dead, complete_whole}

@@ -3,7 +3,7 @@ use Prim.Native.Nat.{ℕ}
 use mathlib.Core.Path.{◌≡◌, refl, ap, ◌∙◌}
 use mathlib.Core.List.{List}
 use lib.ListN.{length}
-use Rattle.fields.specs.declared.Scan.{Scan}
+use Rattle.fields.specs.Reading.{Scan}
 use Rattle.fields.specs.Reading.{times}
 use Rattle.sheets_rules.specs.Model.{Cell, patterns_from}
 use Rattle.sheets_rules.specs.Inside.Layout.{row_words, table_from, pattern_rows}

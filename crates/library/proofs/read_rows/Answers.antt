@@ -2,7 +2,7 @@ use native.Mathlib.Omega.{arith}
 use Prim.Native.Nat.{ℕ}
 use mathlib.Core.Path.{◌≡◌, refl, ap, ◌∙◌}
 use mathlib.Core.List.{List, map}
-use Rattle.fields.specs.declared.Scan.{Scan}
+use Rattle.fields.specs.Reading.{Scan}
 use Rattle.shapes_rules.specs.Shape.{Shape}
 use Rattle.fields.specs.Reading.{times}
 use Rattle.sheets_rules.specs.Inside.Layout.{row_words, table_from}

@@ -1,7 +1,7 @@
 -- What the readers inside this crate promise each other, by the sheets' definitions. The bound on the place is what the next reader needs.
 use Rattle.std.specs.Prelude.{ℕ, ◌+◌, ◌*◌, ◌≤◌, ◌≡◌, List, [], map, ◌⊎◌, length}
 use Rattle.std.proofs.lemmas.List.Edits.{sets}
-use Rattle.fields.specs.declared.Scan.{Scan}
+use Rattle.fields.specs.Reading.{Scan}
 use Rattle.fields.specs.Reading.{Reader, start, place, times, field, Live}
 use Rattle.shapes_rules.specs.Shape.{symbols}
 use Rattle.fields.specs.declared.Got.{Got}

@@ -5,7 +5,7 @@ use mathlib.Core.List.{List}
 use lib.ListN.{get_or, set}
 use Rattle.bits.specs.declared.Cursor.{Cursor}
 use Rattle.bits.specs.Bits.{place_of, field_at}
-use Rattle.fields.specs.declared.Scan.TheVariants.{At}
+use Rattle.fields.specs.Reading.{At}
 use Rattle.shapes_rules.specs.Drawing.{driven_node, leaf_bits}
 use Rattle.shapes.specs.Inside.Promises.{reached, cursor_of, next_of, LeafRead, WordsAfter}
 use Rattle.shapes.proofs.Driven.{leaf_in, number_refused, drive_inside, driven_number, driven_most, drive_truncated, drive_small, drive_sound}

@@ -12,8 +12,8 @@ use Rattle.fields.specs.declared.Fault.{Fault}
 use Rattle.fields.specs.declared.Fault.TheVariants.{Truncated, Range, Drawing, Size}
 use Rattle.fields.specs.declared.Got.{Got}
 use Rattle.fields.specs.declared.Verdict as Verdict
-use Rattle.fields.specs.declared.Scan.{Scan}
-use Rattle.fields.specs.declared.Scan.TheVariants.{At, Refused}
+use Rattle.fields.specs.Reading.{Scan}
+use Rattle.fields.specs.Reading.{At, Refused}
 use Rattle.fields.specs.Reading.{Reader, place, field, Live}
 use Rattle.fields.specs.Inside.Promises.{Reads}
 use Rattle.shapes_rules.specs.Shape.{Shape, drive_unit, symbols, sizes, pin_symbol}
