@@ -48,6 +48,7 @@ fn tail(sheet: &Sheet, last: bool) -> Result<(), Flaw>
 }
 
 // The tree sheet, its nodes' symbols laid out in an array of zeros.
+#[tactic(auto, unfolding(sheets_rules::specs::TreeSheet::tree_to))]
 fn read_nodes(
     s: &[u8],
     last: bool,
