@@ -1,13 +1,14 @@
 // The tree sheet: what is decoded from it, and its judge.
 #![tactic(auto)]
 
-ghost use Rattle.std.specs.Prelude.{◌≡◌, ◌<◌, ◌^◌, replicate, MatchResult};
+ghost use Rattle.std.specs.Prelude.{◌≡◌, ◌<◌, ◌^◌, replicate};
 ghost use Rattle.bits.specs.Bits.{place_of};
 ghost use Rattle.fields.specs.Answer.{Bounded};
 ghost use Rattle.fields.specs.Reading.{tailed};
-ghost use Rattle.fields.specs.Inside.Promises.{Closes};
-ghost use Rattle.tree.specs.Inside.Promises.{NodesAre};
-ghost use Rattle.sheets_rules.specs.TreeSheet.{tail_at};
+ghost use Rattle.fields.specs.Inside.Promises.{Closes, Reads};
+ghost use Rattle.tree.specs.Inside.Promises.{HeadIs};
+ghost use Rattle.sheets_rules.specs.Reach.{tree_bits};
+ghost use Rattle.sheets_rules.specs.TreeSheet.{tail_at, tree_to};
 ghost use Rattle.sheets_rules.specs.Inside.Readers.{TreeToIs, TreeIs};
 ghost use Rattle.sheets_rules.specs.declared.Reason.TheVariants.{Tree};
 ghost use Rattle.sheets_rules.specs.Report.{of_tree_judged, TreeLimits, tree_report};
@@ -30,13 +31,12 @@ impl Width {
     const ARRIVAL: usize = 20;
 }
 
-// What a tree sheet says but for its nodes, how many they are, and the cursor after it.
+// What a tree sheet says but for its nodes, and how many they are.
 #[derive(Clone, Copy)]
 pub struct TreeHead {
     pub load: u8,
     pub required: u32,
     pub count: usize,
-    pub after: Cursor,
 }
 
 // What follows a tree's last field: the end of the bytes, or, before another tree of a part, the rest of the byte.
@@ -50,14 +50,13 @@ fn tail(sheet: &Sheet, last: bool) -> Result<(), Flaw>
 // The tree sheet, its nodes' symbols laid out in an array of zeros.
 #[tactic(auto, unfolding(sheets_rules::specs::TreeSheet::tree_to))]
 fn read_nodes(
-    s: &[u8],
+    sheet: &mut Sheet,
     last: bool,
     symbols: &mut [u32; Limits::TREE_NODES],
 ) -> Result<TreeHead, Flaw>
-    requires { symbols.old ≡ replicate 64 0 }
-    ensures { NodesAre s.now last symbols.new result }
+    requires { (symbols.old ≡ replicate 64 0) × (place_of sheet.old.at ≡ 0) }
+    ensures { Reads sheet.old sheet.new (tree_to last) (HeadIs symbols.new) tree_bits result }
 {
-    let mut sheet = Sheet::open(s);
     let load = sheet.ranged(Width::LOAD, 0, Limits::LOAD)?;
     let required = sheet.ranged(Width::TIME, 0, Limits::TIME)?;
     let rules = Rules {
@@ -66,13 +65,12 @@ fn read_nodes(
         nodes: Limits::TREE_NODES,
         pattern: false,
     };
-    let read = shapes::read_shape(&mut sheet, rules, symbols)?;
-    tail(&sheet, last)?;
+    let read = shapes::read_shape(sheet, rules, symbols)?;
+    tail(sheet, last)?;
     Ok(TreeHead {
         load: load as u8,
         required,
         count: read.size,
-        after: sheet.at,
     })
 }
 
@@ -80,8 +78,9 @@ fn read_nodes(
 pub fn read_tree_to(s: &[u8], last: bool) -> Result<(TreeRecord, Cursor), Flaw>
     ensures { TreeToIs s.now last result }
 {
+    let mut sheet = Sheet::open(s);
     let mut symbols = [0u32; Limits::TREE_NODES];
-    let head = read_nodes(s, last, &mut symbols)?;
+    let head = read_nodes(&mut sheet, last, &mut symbols)?;
     let mut sizes = [0u8; Limits::TREE_NODES];
     shapes::set_sizes(&symbols, head.count, &mut sizes);
     let tree = TreeRecord {
@@ -91,7 +90,7 @@ pub fn read_tree_to(s: &[u8], last: bool) -> Result<(TreeRecord, Cursor), Flaw>
         symbols,
         sizes,
     };
-    Ok((tree, head.after))
+    Ok((tree, sheet.at))
 }
 
 // A tree sheet's refusal.
@@ -120,8 +119,9 @@ pub fn judge_tree(s: &[u8]) -> Result<usize, Refusal>
     ensures result_value { of_tree_judged result ≡ tree_report s.now }
     ensures bounded { Bounded (of_tree_judged result) × TreeLimits (of_tree_judged result) }
 {
+    let mut sheet = Sheet::open(s);
     let mut symbols = [0u32; Limits::TREE_NODES];
-    match read_nodes(s, true, &mut symbols) {
+    match read_nodes(&mut sheet, true, &mut symbols) {
         Ok(head) => Ok(head.count),
         Err(flaw) => Err(refuse(flaw)),
     }
