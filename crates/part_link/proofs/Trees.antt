@@ -23,7 +23,8 @@ use Rattle.covers.specs.Lists.{first_such}
 use Rattle.part_rules.specs.Part.{leaf_nodes, put_in, known_tree}
 use Rattle.part_rules.specs.Outcome.{latest_linked, is_late, late_leaf}
 use Rattle.part_rules.proofs.Known.{put_size}
-use Rattle.part_link.specs.declared.Symbol.TheVariants.{Late, Is}
+use Rattle.std.specs.Prelude as Prelude
+use Rattle.std.specs.Prelude.{Some as Is, None as Late}
 use Rattle.part_link.specs.Inside.Promises.{brought, symbol_linked}
 
 -- ---- what a driver brings
@@ -45,7 +46,7 @@ relinked (some a) x = cond (ltb x 2) x (leaf_symbol (record { number = a; drive 
 abbrev late_at : Option ℕ → ℕ → Bool
 late_at o x = cond (ltb x 2) false (is_late o)
 
-late_is : {y : ℕ} → Late ≡ Is y → ⊥
+late_is : {y : ℕ} → ◌≡◌ {A = Prelude.Option ℕ} Late (Is y) → ⊥
 late_is e = let z : ◌≡◌ {A = ℕ} 0 1 = cc in omega arith
 
 -- What the code finds of it.

@@ -2,16 +2,19 @@
 #![tactic(auto)]
 
 ghost use Rattle.std.specs.Prelude.{◌≡◌, [], ◌+◌, ◌*◌, ◌<◌, ◌≤◌, ◌^◌, length};
-ghost use Rattle.fields.specs.Reading.{place};
-ghost use Rattle.fields.specs.Inside.Promises.{Says};
-ghost use Rattle.part_rules.specs.PartSheet.{links_at, trees_most};
+ghost use Rattle.bits.specs.Bits.{place_of};
+ghost use Rattle.fields.specs.Reading.{times};
+ghost use Rattle.fields.specs.Inside.Promises.{Reads};
+ghost use Rattle.sheets_rules.specs.Inside.Readers.{Says};
+ghost use Rattle.part_rules.specs.PartSheet.{links_at, link_width, link as link_of, trees_most};
 ghost use Rattle.part_rules.specs.PartRead.{trees_from, part as part_of};
 ghost use Rattle.part_read.specs.Inside.Decoded.{no_tree, TreesStored, PartStored};
-ghost use Rattle.part_read.specs.Inside.Promises.{SmallLink, SmallLinks, LinkIs, LinksAre, CountsAre, FindingBounded, JudgesLink, JudgesLinks, ReadsRest};
+ghost use Rattle.part_read.specs.Inside.Promises.{LinkLaid, LinksLaid, SmallLink, CountsAre, CountsFew, JudgesLink, JudgesLinks, ReadsRest};
 
-use fields::{Finding, Refusal, Scan};
+use bits::Cursor;
+use fields::{Flaw, Sheet};
 use shapes_rules::Packed;
-use sheets_rules::{Limits, TreeRecord};
+use sheets_rules::{Limits, Reason, Refusal, TreeRecord};
 
 // A link as decoded.
 #[derive(Clone, Copy)]
@@ -19,6 +22,15 @@ pub struct LinkRecord {
     pub reading: u8,
     pub node: u8,
     pub driving: u8,
+}
+
+impl LinkRecord {
+    // What stands where no link is.
+    const NONE: LinkRecord = LinkRecord {
+        reading: 0,
+        node: 0,
+        driving: 0,
+    };
 }
 
 // A part as decoded: its trees, and for node n of tree k, at 64 × k + n, 0 or one more than the number of the tree that drives it.
@@ -29,43 +41,13 @@ pub struct PartRecord {
     pub drivers: [u8; Drivers::ALL],
 }
 
+// What stands before the trees: how many they are, the first `count` links of an array, and the cursor after them.
 #[derive(Clone, Copy)]
-pub struct PartRead {
-    pub finding: Finding,
-    pub part: PartRecord,
-}
-
-#[derive(Clone, Copy)]
-pub struct LinkRead {
-    pub scan: Scan,
-    pub link: LinkRecord,
-}
-
-#[derive(Clone, Copy)]
-pub struct LinksRead {
-    pub scan: Scan,
-    pub links: [LinkRecord; Limits::PART_LINKS],
-}
-
-// What stands before the trees, and the scan after it.
-#[derive(Clone, Copy)]
-pub struct CountsRead {
-    pub scan: Scan,
+pub struct CountsRecord {
     pub trees: usize,
     pub count: usize,
     pub links: [LinkRecord; Limits::PART_LINKS],
-}
-
-#[derive(Clone, Copy)]
-pub struct TreesRead {
-    pub finding: Finding,
-    pub trees: [TreeRecord; Limits::PART_TREES],
-}
-
-#[derive(Clone, Copy)]
-pub struct DriversRead {
-    pub finding: Finding,
-    pub drivers: [u8; Drivers::ALL],
+    pub after: Cursor,
 }
 
 // A driver for each node of each tree.
@@ -96,84 +78,65 @@ impl Width {
     const COUNTS: usize = Width::TREE_COUNT + Width::LINK_COUNT;
 }
 
-// Document 02's numbers: a fault of the counts and links, and a driver that is not lower.
-#[derive(Clone, Copy)]
-struct Numbers {}
-
-impl Numbers {
-    const LINK: u32 = 41;
-
-    const DRIVER: u32 = 42;
+// A refusal that is about no tree.
+fn refuse(reason: Reason, place: usize) -> Refusal
+    ensures { result ≡ record { item = 0; reason = reason; place = place } }
+{
+    Refusal {
+        item: 0,
+        reason,
+        place,
+    }
 }
 
 // One link of a part with `trees` trees.
-fn read_link(scan: Scan, s: &[u8], trees: u32) -> LinkRead
-    requires { (place scan < 2 ^ 31) × (trees ≤ trees_most) }
-    ensures { LinkIs s.now trees scan result }
+#[tactic(auto, unfolding(part_rules::specs::PartSheet::link))]
+fn read_link(sheet: &mut Sheet, trees: u32) -> Result<LinkRecord, Flaw>
+    requires { (place_of sheet.old.at < 2 ^ 31) × (trees ≤ trees_most) }
+    ensures { Reads sheet.old sheet.new (λ s. link_of s trees []) LinkLaid link_width result }
 {
-    let last = library::last_of(trees);
-    let reading = fields::ranged(scan, s, Width::TREE, 0, last);
-    let at = reading.scan;
-    let node = fields::raw(at, s, Width::LEAF);
-    let at = node.scan;
-    let driving = fields::ranged(at, s, Width::TREE, 0, last);
-    let at = driving.scan;
-    LinkRead {
-        scan: at,
-        link: LinkRecord {
-            reading: reading.value as u8,
-            node: node.value as u8,
-            driving: driving.value as u8,
-        },
-    }
+    let last = trees.saturating_sub(1);
+    let reading = sheet.ranged(Width::TREE, 0, last)?;
+    let node = sheet.raw(Width::LEAF)?;
+    let driving = sheet.ranged(Width::TREE, 0, last)?;
+    Ok(LinkRecord {
+        reading: reading as u8,
+        node: node as u8,
+        driving: driving as u8,
+    })
 }
 
 // The links.
-fn read_links(scan: Scan, s: &[u8], trees: u32, count: u32) -> LinksRead
-    requires { (place scan ≤ links_at) × (trees ≤ trees_most) × (count ≤ 255) }
-    ensures { LinksAre s.now trees count scan result }
+fn read_links(
+    sheet: &mut Sheet,
+    trees: u32,
+    count: u32,
+) -> Result<[LinkRecord; Limits::PART_LINKS], Flaw>
+    requires { (place_of sheet.old.at ≤ links_at) × (trees ≤ trees_most) × (count ≤ 255) }
+    ensures { Reads sheet.old sheet.new (λ s. times count (link_of s trees)) LinksLaid (link_width * count) result }
 {
-    let none = LinkRecord {
-        reading: 0,
-        node: 0,
-        driving: 0,
-    };
-    let mut links = [none; Limits::PART_LINKS];
-    let mut at = scan;
-    let mut k: u32 = 0;
-    while k < count {
-        let one = read_link(at, s, trees);
-        at = one.scan;
-        let link = one.link;
-        links[k as usize] = link;
-        k += 1;
+    let mut links = [LinkRecord::NONE; Limits::PART_LINKS];
+    for k in 0..count {
+        links[k as usize] = read_link(sheet, trees)?;
     }
-    LinksRead { scan: at, links }
+    Ok(links)
 }
 
 // The counts and the links.
-fn read_counts(s: &[u8]) -> CountsRead
+fn read_counts(s: &[u8]) -> Result<CountsRecord, Flaw>
     ensures { CountsAre s.now result }
 {
-    let trees = fields::ranged(
-        fields::begin(),
-        s,
-        Width::TREE_COUNT,
-        1,
-        Limits::PART_TREES as u32,
-    );
-    let at = trees.scan;
-    let count = fields::raw(at, s, Width::LINK_COUNT);
-    let at = count.scan;
-    let read = read_links(at, s, trees.value, count.value);
-    let at = read.scan;
-    let links = read.links;
-    CountsRead {
-        scan: fields::fill(at, s),
-        trees: trees.value as usize,
-        count: count.value as usize,
+    let mut sheet = Sheet::open(s);
+    let trees = sheet.ranged(Width::TREE_COUNT, 1, Limits::PART_TREES as u32)?;
+    let count = sheet.raw(Width::LINK_COUNT)?;
+    let links = read_links(&mut sheet, trees, count)?;
+    sheet.fill()?;
+    Ok(CountsRecord {
+        trees: trees as usize,
+        count: count as usize,
         links,
-    }
+        after: sheet.at,
+    })
 }
 
 // What stands where no tree is.
@@ -190,164 +153,92 @@ fn no_tree() -> TreeRecord
 }
 
 // The `count` trees, each from its own first byte on.
-fn read_trees(s: &[u8], count: usize) -> TreesRead
+fn read_trees(s: &[u8], count: usize) -> Result<[TreeRecord; Limits::PART_TREES], Refusal>
     requires { count ≤ trees_most }
-    ensures { Says (λ ts l. TreesStored ts l × (length ts ≡ count)) (trees_from [] count s.now) result.finding result.trees }
+    ensures { Says (λ ts l. TreesStored ts l × (length ts ≡ count)) (trees_from [] count s.now) result }
 {
-    let none = no_tree();
-    let mut trees = [none; Limits::PART_TREES];
+    let mut trees = [no_tree(); Limits::PART_TREES];
     let mut first = 0;
-    let mut k = 0;
-    while k < count {
-        let read = tree::read_tree_to(&s[first..], k + 1 == count);
-        let scan = read.scan;
-        match scan {
-            Scan::At(c) => {
-                let tree = read.tree;
+    for k in 0..count {
+        match tree::read_tree_to(&s[first..], k + 1 == count) {
+            Ok((tree, after)) => {
                 trees[k] = tree;
-                first += c.bytes_to();
+                first += after.bytes_to();
             }
-            Scan::Refused(fault, place) => {
-                let number = tree::tree_number(fault);
-                return TreesRead {
-                    finding: Finding::Refused(Refusal {
-                        item: k as u32,
-                        number,
-                        place,
-                    }),
-                    trees,
-                };
+            Err(flaw) => {
+                return Err(Refusal {
+                    item: k as u32,
+                    reason: Reason::Tree(flaw.fault),
+                    place: flaw.place,
+                });
             }
         }
-        k += 1;
     }
-    TreesRead {
-        finding: Finding::Found,
-        trees,
-    }
+    Ok(trees)
 }
 
 // One link against its reading tree, after whose nodes zeros stand, and its leaf's driver among the links before: its leaf field, then its own driver.
-fn judge_link(tree: TreeRecord, link: LinkRecord, driver: u8, position: usize) -> Finding
+fn judge_link(
+    tree: &TreeRecord,
+    link: LinkRecord,
+    driver: u8,
+    position: usize,
+) -> Result<(), Refusal>
     requires { SmallLink link × (position ≤ 255) }
-    ensures judges_link { JudgesLink tree link driver position result }
-    ensures finding_bounded { FindingBounded result }
+    ensures { JudgesLink tree.now link driver position result }
 {
-    let symbols = tree.symbols;
-    let node = link.node as usize;
     let leaf_field = Width::COUNTS + Width::LINK * position + Width::TREE;
-    if symbols[node] < Packed::LEAF {
-        return Finding::Refused(Refusal {
-            item: 0,
-            number: Numbers::LINK,
-            place: leaf_field,
-        });
+    if tree.symbols[link.node as usize] < Packed::LEAF {
+        return Err(refuse(Reason::Link, leaf_field));
     }
     if driver != 0 {
-        return Finding::Refused(Refusal {
-            item: 0,
-            number: Numbers::LINK,
-            place: leaf_field,
-        });
+        return Err(refuse(Reason::Link, leaf_field));
     }
     if link.reading <= link.driving {
-        return Finding::Refused(Refusal {
-            item: 0,
-            number: Numbers::DRIVER,
-            place: position,
-        });
+        return Err(refuse(Reason::Driver, position));
     }
-    Finding::Found
+    Ok(())
 }
 
 // The links against the trees, one after another, and the driver of every node by them.
 fn judge_links(
-    trees: [TreeRecord; Limits::PART_TREES],
-    links: [LinkRecord; Limits::PART_LINKS],
-    count: usize,
-) -> DriversRead
-    requires { SmallLinks links × (count ≤ 255) }
-    ensures { JudgesLinks trees links count result }
+    trees: &[TreeRecord; Limits::PART_TREES],
+    counts: &CountsRecord,
+) -> Result<[u8; Drivers::ALL], Refusal>
+    requires { CountsFew counts.now }
+    ensures { JudgesLinks trees.now counts.now result }
 {
     let mut drivers = [0u8; Drivers::ALL];
-    let mut k = 0;
-    while k < count {
-        let link = links[k];
+    for k in 0..counts.count {
+        let link = counts.links[k];
         let reading = link.reading as usize;
-        let tree = trees[reading];
         let at = Drivers::TREE * reading + link.node as usize;
-        let finding = judge_link(tree, link, drivers[at], k);
-        let Finding::Found = finding else {
-            return DriversRead { finding, drivers };
-        };
+        judge_link(&trees[reading], link, drivers[at], k)?;
         drivers[at] = link.driving + 1;
-        k += 1;
     }
-    DriversRead {
-        finding: Finding::Found,
-        drivers,
-    }
+    Ok(drivers)
 }
 
 // What stands after the counts and the links: the trees, and then the links against them.
-fn read_rest(s: &[u8], counts: CountsRead) -> PartRead
-    requires { SmallLinks counts.links × (counts.trees ≤ trees_most) × (counts.count ≤ 255) }
-    ensures { ReadsRest counts s.now result }
+fn read_rest(s: &[u8], counts: &CountsRecord) -> Result<PartRecord, Refusal>
+    requires { CountsFew counts.now }
+    ensures { ReadsRest counts.now s.now result }
 {
-    let count = counts.trees;
-    let read = read_trees(s, count);
-    let trees = read.trees;
-    let finding = read.finding;
-    let Finding::Found = finding else {
-        let drivers = [0u8; Drivers::ALL];
-        return PartRead {
-            finding,
-            part: PartRecord {
-                count,
-                trees,
-                drivers,
-            },
-        };
-    };
-    let links = counts.links;
-    let judged = judge_links(trees, links, counts.count);
-    let finding = judged.finding;
-    let drivers = judged.drivers;
-    PartRead {
-        finding,
-        part: PartRecord {
-            count,
-            trees,
-            drivers,
-        },
-    }
+    let trees = read_trees(s, counts.trees)?;
+    let drivers = judge_links(&trees, counts)?;
+    Ok(PartRecord {
+        count: counts.trees,
+        trees,
+        drivers,
+    })
 }
 
 // The part sheet.
-pub fn read_part(s: &[u8]) -> PartRead
-    ensures { Says PartStored (part_of s.now) result.finding result.part }
+pub fn read_part(s: &[u8]) -> Result<PartRecord, Refusal>
+    ensures { Says PartStored (part_of s.now) result }
 {
-    let counts = read_counts(s);
-    let scan = counts.scan;
-    match scan {
-        Scan::At(c) => {
-            let first = c.bytes_to();
-            read_rest(&s[first..], counts)
-        }
-        Scan::Refused(_, place) => {
-            let none = no_tree();
-            PartRead {
-                finding: Finding::Refused(Refusal {
-                    item: 0,
-                    number: Numbers::LINK,
-                    place: place,
-                }),
-                part: PartRecord {
-                    count: 0,
-                    trees: [none; Limits::PART_TREES],
-                    drivers: [0u8; Drivers::ALL],
-                },
-            }
-        }
+    match read_counts(s) {
+        Ok(counts) => read_rest(&s[counts.after.bytes_to()..], &counts),
+        Err(flaw) => Err(refuse(Reason::Link, flaw.place)),
     }
 }

@@ -1,19 +1,22 @@
 // The tree sheet: what is decoded from it, and its judge.
 #![tactic(auto)]
 
-ghost use Rattle.std.specs.Prelude.{◌≡◌, ◌<◌, ◌≤◌, ◌^◌, replicate};
+ghost use Rattle.std.specs.Prelude.{◌≡◌, ◌<◌, ◌^◌, replicate};
+ghost use Rattle.bits.specs.Bits.{place_of};
 ghost use Rattle.fields.specs.Answer.{Bounded};
-ghost use Rattle.fields.specs.Reading.{place, tailed, Live};
-ghost use Rattle.shapes.specs.Inside.Promises.{Preorder, SizesSet};
-ghost use Rattle.tree.specs.Inside.Promises.{NodesAre};
-ghost use Rattle.sheets_rules.specs.TreeSheet.{tail_at};
+ghost use Rattle.fields.specs.Reading.{tailed};
+ghost use Rattle.fields.specs.Inside.Promises.{Closes, Reads};
+ghost use Rattle.tree.specs.Inside.Promises.{HeadIs};
+ghost use Rattle.sheets_rules.specs.Reach.{tree_bits};
+ghost use Rattle.sheets_rules.specs.TreeSheet.{tail_at, tree_to};
 ghost use Rattle.sheets_rules.specs.Inside.Readers.{TreeToIs, TreeIs};
 ghost use Rattle.sheets_rules.specs.declared.Reason.TheVariants.{Tree};
 ghost use Rattle.sheets_rules.specs.Report.{of_tree_judged, TreeLimits, tree_report};
 
-use fields::{Fault, Scan};
+use bits::Cursor;
+use fields::{Flaw, Sheet};
 use shapes_rules::Rules;
-use sheets_rules::{Limits, Reason, Refusal, TreeRecord, TreeScanned};
+use sheets_rules::{Limits, Reason, Refusal, TreeRecord};
 
 // The widths of the tree sheet's fields.
 #[derive(Clone, Copy)]
@@ -28,95 +31,76 @@ impl Width {
     const ARRIVAL: usize = 20;
 }
 
-// What a tree sheet says but for its nodes, how many they are, and the scan after it.
+// What a tree sheet says but for its nodes, and how many they are.
 #[derive(Clone, Copy)]
 pub struct TreeHead {
-    pub scan: Scan,
     pub load: u8,
     pub required: u32,
     pub count: usize,
 }
 
 // What follows a tree's last field: the end of the bytes, or, before another tree of a part, the rest of the byte.
-fn tail(scan: Scan, s: &[u8], last: bool) -> Scan
-    requires { place scan < 2 ^ 32 }
-    ensures { result ≡ tailed (tail_at last s.now) scan }
+fn tail(sheet: &Sheet, last: bool) -> Result<(), Flaw>
+    requires { place_of sheet.now.at < 2 ^ 32 }
+    ensures { Closes (tailed (tail_at last sheet.now.bytes.now)) sheet.now.at result }
 {
-    if last {
-        return fields::end(scan, s);
-    }
-    fields::fill(scan, s)
+    if last { sheet.end() } else { sheet.fill() }
 }
 
 // The tree sheet, its nodes' symbols laid out in an array of zeros.
-fn read_nodes(s: &[u8], last: bool, symbols: &mut [u32; Limits::TREE_NODES]) -> TreeHead
-    requires { symbols.old ≡ replicate 64 0 }
-    ensures { NodesAre s.now last symbols.new result }
+#[tactic(auto, unfolding(sheets_rules::specs::TreeSheet::tree_to))]
+fn read_nodes(
+    sheet: &mut Sheet,
+    last: bool,
+    symbols: &mut [u32; Limits::TREE_NODES],
+) -> Result<TreeHead, Flaw>
+    requires { (symbols.old ≡ replicate 64 0) × (place_of sheet.old.at ≡ 0) }
+    ensures { Reads sheet.old sheet.new (tree_to last) (HeadIs symbols.new) tree_bits result }
 {
-    let start = fields::begin();
-    let load = fields::ranged(start, s, Width::LOAD, 0, Limits::LOAD);
-    let at = load.scan;
-    let required = fields::ranged(at, s, Width::TIME, 0, Limits::TIME);
-    let at = required.scan;
+    let load = sheet.ranged(Width::LOAD, 0, Limits::LOAD)?;
+    let required = sheet.ranged(Width::TIME, 0, Limits::TIME)?;
     let rules = Rules {
         width: Width::ARRIVAL,
         most: Limits::ARRIVAL,
         nodes: Limits::TREE_NODES,
         pattern: false,
     };
-    let read = shapes::read_shape(at, s, rules, symbols);
-    let at = read.scan;
-    TreeHead {
-        scan: tail(at, s, last),
-        load: load.value as u8,
-        required: required.value,
+    let read = shapes::read_shape(sheet, rules, symbols)?;
+    tail(sheet, last)?;
+    Ok(TreeHead {
+        load: load as u8,
+        required,
         count: read.size,
-    }
+    })
 }
 
-// The sizes of the nodes of a tree that was read up to `after`: zeros after a refusal.
-fn sizes_of(after: Scan, symbols: &[u32], n: usize) -> [u8; Limits::TREE_NODES]
-    requires preorder { Live after → Preorder n symbols.now }
-    requires n_bound { n ≤ 64 }
-    ensures { Live after → SizesSet n symbols.now (replicate 64 0) result }
-{
-    let mut sizes = [0u8; Limits::TREE_NODES];
-    let Scan::At(_) = after else {
-        return sizes;
-    };
-    shapes::set_sizes(symbols, n, &mut sizes);
-    sizes
-}
-
-// The tree sheet at the front of the bytes: the last, with which they end, or one before another of a part.
-pub fn read_tree_to(s: &[u8], last: bool) -> TreeScanned
+// The tree sheet at the front of the bytes, and the cursor after it: the last, with which they end, or one before another of a part.
+pub fn read_tree_to(s: &[u8], last: bool) -> Result<(TreeRecord, Cursor), Flaw>
     ensures { TreeToIs s.now last result }
 {
+    let mut sheet = Sheet::open(s);
     let mut symbols = [0u32; Limits::TREE_NODES];
-    let read = read_nodes(s, last, &mut symbols);
-    let scan = read.scan;
-    let count = read.count;
-    let sizes = sizes_of(scan, &symbols, count);
-    TreeScanned {
-        scan,
-        tree: TreeRecord {
-            load: read.load,
-            required: read.required,
-            count,
-            symbols,
-            sizes,
-        },
-    }
+    let head = read_nodes(&mut sheet, last, &mut symbols)?;
+    let mut sizes = [0u8; Limits::TREE_NODES];
+    shapes::set_sizes(&symbols, head.count, &mut sizes);
+    let tree = TreeRecord {
+        load: head.load,
+        required: head.required,
+        count: head.count,
+        symbols,
+        sizes,
+    };
+    Ok((tree, sheet.at))
 }
 
 // A tree sheet's refusal.
-fn refuse(fault: Fault, place: usize) -> Refusal
-    ensures { result ≡ record { item = 0; reason = Tree fault; place = place } }
+fn refuse(flaw: Flaw) -> Refusal
+    ensures { result ≡ record { item = 0; reason = Tree flaw.fault; place = flaw.place } }
 {
     Refusal {
         item: 0,
-        reason: Reason::Tree(fault),
-        place,
+        reason: Reason::Tree(flaw.fault),
+        place: flaw.place,
     }
 }
 
@@ -124,11 +108,9 @@ fn refuse(fault: Fault, place: usize) -> Refusal
 pub fn read_tree(s: &[u8]) -> Result<TreeRecord, Refusal>
     ensures { TreeIs s.now result }
 {
-    let read = read_tree_to(s, true);
-    let scan = read.scan;
-    match scan {
-        Scan::At(_) => Ok(read.tree),
-        Scan::Refused(fault, place) => Err(refuse(fault, place)),
+    match read_tree_to(s, true) {
+        Ok((tree, _)) => Ok(tree),
+        Err(flaw) => Err(refuse(flaw)),
     }
 }
 
@@ -137,11 +119,10 @@ pub fn judge_tree(s: &[u8]) -> Result<usize, Refusal>
     ensures result_value { of_tree_judged result ≡ tree_report s.now }
     ensures bounded { Bounded (of_tree_judged result) × TreeLimits (of_tree_judged result) }
 {
+    let mut sheet = Sheet::open(s);
     let mut symbols = [0u32; Limits::TREE_NODES];
-    let read = read_nodes(s, true, &mut symbols);
-    let scan = read.scan;
-    match scan {
-        Scan::At(_) => Ok(read.count),
-        Scan::Refused(fault, place) => Err(refuse(fault, place)),
+    match read_nodes(&mut sheet, true, &mut symbols) {
+        Ok(head) => Ok(head.count),
+        Err(flaw) => Err(refuse(flaw)),
     }
 }

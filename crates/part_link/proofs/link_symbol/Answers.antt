@@ -4,7 +4,7 @@ use mathlib.Core.Path.{refl, sym, ap, ◌∙◌}
 use lib.ListN.{get_or}
 use borrow.Author.Tests.{lt-ltb, le-ltb}
 use Rattle.part_rules.specs.Outcome.{latest_linked}
-use Rattle.part_link.specs.declared.Symbol.TheVariants.{Is}
+use Rattle.std.specs.Prelude.{Some as Is}
 use Rattle.part_link.specs.Inside.Promises.{symbol_linked}
 use Rattle.part_link.proofs.Trees.{brought_none, brought_some}
 use Rattle.part_link.proofs.link_symbol.Goals as goal

@@ -1,4 +1,4 @@
-use Prim.Native.Nat.{ℕ, ◌≤◌, ◌<◌, ◌-◌}
+use Prim.Native.Nat.{ℕ, ◌≤◌, ◌<◌}
 use mathlib.Core.Path.{◌≡◌}
 use mathlib.Core.Option.{Option}
 use lib.ListN.{get_or}
@@ -12,7 +12,4 @@ use Rattle.part_link.proofs.link_tree.Given as goal
 
 abbrev pub invariant-loop-n : goal.invariant-loop-n
 invariant-loop-n l =
-    (l.n ≤ l.count) × (l.count ≤ 64) × ((j : ℕ) → l.n ≤ j → get_or l.symbols j 0 ≤ symbol_limit) × ((t : Tree) (f : ℕ → Option ℕ) → SoundTree t → l.tree ≡ tree_laid t → ((m : ℕ) → m < 64 → f m ≡ brought l.arrivals (get_or l.drivers m 0)) → Linking f t l.n l.symbols)
-
-abbrev pub decreases-loop-n : goal.decreases-loop-n
-decreases-loop-n l = l.count - l.n
+    (l.fn.tree.count ≤ 64) × ((j : ℕ) → l.n ≤ j → get_or l.symbols j 0 ≤ symbol_limit) × ((t : Tree) (f : ℕ → Option ℕ) → SoundTree t → l.fn.tree ≡ tree_laid t → ((m : ℕ) → m < 64 → f m ≡ brought l.arrivals (get_or l.drivers m 0)) → Linking f t l.n l.symbols)

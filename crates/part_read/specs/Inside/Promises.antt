@@ -1,29 +1,27 @@
 -- What the functions of this crate promise each other.
-use Rattle.std.specs.Prelude.{ℕ, ◌+◌, ◌*◌, ◌≤◌, ◌<◌, ◌≡◌, length, get_or}
+use Rattle.std.specs.Prelude.{ℕ, ◌+◌, ◌*◌, ◌≤◌, ◌<◌, ◌≡◌, length, get_or, Result, Ok, Err, MatchResult}
 use mathlib.Core.List.{List, [], map, Memᴰ}
 use Rattle.std.proofs.Math.Option.{Option, none, some}
 use Rattle.std.proofs.Math.ListN.{get_elem?}
-use Rattle.fields.specs.declared.Finding.{Finding}
-use Rattle.fields.specs.declared.Finding.TheVariants.{Refused, Found}
-use Rattle.fields.specs.Reading.{Scan}
-use Rattle.fields.specs.Answer.{Answer, refused_in, refusal, success, Bounded}
-use Rattle.fields.specs.Reading.{place, times, start}
+use Rattle.fields.specs.declared.Flaw.{Flaw}
+use Rattle.fields.specs.Answer.{Answer, refused_in, success, Bounded}
+use Rattle.fields.specs.Reading.{start}
+use Rattle.fields.specs.Inside.Promises.{Took, Flawed}
 use Rattle.sheets_rules.specs.declared.TreeRecord.{TreeRecord}
+use Rattle.sheets_rules.specs.declared.Refusal.{Refusal}
+use Rattle.sheets_rules.specs.Report.{refusal}
 use Rattle.sheets_rules.specs.Model.{Tree}
 use Rattle.sheets_rules.specs.Inside.Sound.{SoundTree}
 use Rattle.sheets_rules.specs.Inside.Layout.{padded, tree_laid}
+use Rattle.sheets_rules.specs.Inside.Readers.{Says}
 use Rattle.part_rules.specs.Part.{Link, driver_of}
-use Rattle.part_rules.specs.PartSheet.{trees_most, links_at, link_width, link, counts}
+use Rattle.part_rules.specs.PartSheet.{trees_most, links_at, link_width, Counts, counts}
 use Rattle.part_read.specs.declared.LinkRecord.{LinkRecord}
-use Rattle.fields.specs.Inside.Promises.{Says}
+use Rattle.part_read.specs.declared.CountsRecord.{CountsRecord}
+use Rattle.part_read.specs.declared.PartRecord.{PartRecord}
 use Rattle.part_rules.specs.PartRead.{link_judged, links_judged, after_counts}
 use Rattle.part_read.specs.Inside.Decoded.{no_tree, TreesStored, Marks, PartStored}
 use Rattle.part_link.specs.Inside.Promises.{driver_named}
-use Rattle.part_read.specs.declared.LinkRead.{LinkRead}
-use Rattle.part_read.specs.declared.LinksRead.{LinksRead}
-use Rattle.part_read.specs.declared.CountsRead.{CountsRead}
-use Rattle.part_read.specs.declared.DriversRead.{DriversRead}
-use Rattle.part_read.specs.declared.PartRead.{PartRead}
 
 -- A link in its record, and links at the front of an array of 255.
 abbrev pub link_laid : Link → LinkRecord
@@ -44,43 +42,34 @@ pub record SmallLink (x : LinkRecord) : Type 0 where
 abbrev pub SmallLinks : List LinkRecord → Type 0
 SmallLinks l = (k : ℕ) → SmallLink (get_or l k no_link)
 
-module _ (s : List ℕ) where
-  pub record LinkIs (trees : ℕ) (scan : Scan) (r : LinkRead) : Type 0 where
-    pub link_is : r.link ≡ link_laid (link s trees [] scan).0
-    pub scan_is : r.scan ≡ (link s trees [] scan).1
-    pub small : SmallLink r.link
-    pub near : place r.scan ≤ place scan + link_width
+-- What is handed over of a link, of all links, and of the counts and the links.
+pub record LinkLaid (x : Link) (r : LinkRecord) : Type 0 where
+  pub link_is : r ≡ link_laid x
+  pub small : SmallLink r
 
-  pub record LinksAre (trees count : ℕ) (scan : Scan) (r : LinksRead) : Type 0 where
-    pub links_are : r.links ≡ links_laid (times count (link s trees) scan).0
-    pub scan_is : r.scan ≡ (times count (link s trees) scan).1
-    pub small : SmallLinks r.links
-    pub near : place r.scan ≤ place scan + link_width * count
+pub record LinksLaid (xs : List Link) (r : List LinkRecord) : Type 0 where
+  pub links_are : r ≡ links_laid xs
+  pub small : SmallLinks r
 
-  pub record CountsAre (r : CountsRead) : Type 0 where
-    pub scan_is : r.scan ≡ (counts s start).1
-    pub trees_are : r.trees ≡ (counts s start).0.trees
-    pub few : r.trees ≤ trees_most
-    pub counted : r.count ≡ length (counts s start).0.links
-    pub short : r.count ≤ 255
-    pub links_are : r.links ≡ links_laid (counts s start).0.links
-    pub small : SmallLinks r.links
-    pub near : place r.scan ≤ links_at + link_width * 255
+-- The counts are small, and so are the numbers of the links.
+pub record CountsFew (r : CountsRecord) : Type 0 where
+  pub trees : r.trees ≤ trees_most
+  pub links : r.count ≤ 255
+  pub small : SmallLinks r.links
+
+pub record CountsLaid (x : Counts) (r : CountsRecord) : Type 0 where
+  pub trees_are : r.trees ≡ x.trees
+  pub counted : r.count ≡ length x.links
+  pub links_are : r.links ≡ links_laid x.links
+  pub few : CountsFew r
+
+abbrev pub CountsAre : List ℕ → Result CountsRecord Flaw → Type 0
+CountsAre s r = MatchResult r (λ x. Took CountsLaid (counts s start) (links_at + link_width * 255) x.after x) (Flawed (counts s start) (links_at + link_width * 255))
 
 -- The record of a tree that may not be there.
 abbrev pub laid_or : Option Tree → TreeRecord
 laid_or none = no_tree
 laid_or (some t) = tree_laid t
-
--- What is found of an answer.
-abbrev pub answer_found : {A : Type 0} → Answer A → Finding
-answer_found (refused_in item number place) = Refused (record { item = item; number = number; place = place })
-answer_found (success a) = Found
-
--- A refusal fits a word.
-abbrev pub FindingBounded : Finding → Type 0
-FindingBounded (Refused r) = Bounded (refusal r)
-FindingBounded Found = Unit {0}
 
 -- What is lent of a link after those before it: its reading tree, if it is there, itself, and its leaf's driver among those before.
 pub record LinkAt (trees : List Tree) (before : List Link) (x : Link) (tree : TreeRecord) (link : LinkRecord) (driver position : ℕ) : Type 0 where
@@ -90,12 +79,17 @@ pub record LinkAt (trees : List Tree) (before : List Link) (x : Link) (tree : Tr
   pub driver_is : driver_of before x.reading x.node ≡ driver_named driver
   pub position_is : position ≡ length before
 
+-- What is said of a link: its refusal, which fits a word; or that all of it is as it should be.
+abbrev pub LinkSaid : Answer (List Link) → Result (Unit {0}) Refusal → Type 0
+LinkSaid o (Err r) = (o ≡ refusal r) × Bounded (refusal r)
+LinkSaid o (Ok u) = (xs : List Link) × (o ≡ success xs)
+
 -- What is said of whichever link the records hold, of all links of whichever part, and of all that stands after its counts and links.
-abbrev pub JudgesLink : TreeRecord → LinkRecord → (driver position : ℕ) → Finding → Type 0
-JudgesLink tree link driver position r = (trees : List Tree) (before : List Link) (x : Link) → LinkAt trees before x tree link driver position → r ≡ answer_found (link_judged trees before x)
+abbrev pub JudgesLink : TreeRecord → LinkRecord → (driver position : ℕ) → Result (Unit {0}) Refusal → Type 0
+JudgesLink tree link driver position r = (trees : List Tree) (before : List Link) (x : Link) → LinkAt trees before x tree link driver position → LinkSaid (link_judged trees before x) r
 
-abbrev pub JudgesLinks : List TreeRecord → List LinkRecord → (count : ℕ) → DriversRead → Type 0
-JudgesLinks trees links count r = (ts : List Tree) (xs : List Link) → TreesStored ts trees → links ≡ links_laid xs → count ≡ length xs → Says Marks (links_judged ts [] xs) r.finding r.drivers
+abbrev pub JudgesLinks : List TreeRecord → CountsRecord → Result (List ℕ) Refusal → Type 0
+JudgesLinks trees counts r = (ts : List Tree) (xs : List Link) → TreesStored ts trees → counts.links ≡ links_laid xs → counts.count ≡ length xs → Says Marks (links_judged ts [] xs) r
 
-abbrev pub ReadsRest : CountsRead → (s : List ℕ) → PartRead → Type 0
-ReadsRest counts s r = (xs : List Link) → counts.links ≡ links_laid xs → counts.count ≡ length xs → Says PartStored (after_counts counts.trees xs s) r.finding r.part
+abbrev pub ReadsRest : CountsRecord → (s : List ℕ) → Result PartRecord Refusal → Type 0
+ReadsRest counts s r = (xs : List Link) → counts.links ≡ links_laid xs → counts.count ≡ length xs → Says PartStored (after_counts counts.trees xs s) r

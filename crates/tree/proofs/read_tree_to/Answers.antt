@@ -1,12 +1,24 @@
-use Rattle.tree.proofs.Whole.{tree_is, tree_preorder}
+use Rattle.fields.proofs.Readers.{from_start}
+use Rattle.sheets_rules.specs.Inside.Layout.{tree_laid}
+use Rattle.tree.proofs.Whole.{t, sound, drawn, preorder, few}
 use Rattle.tree.proofs.read_tree_to.Goals as goal
 
-pub sizes_of-sizes-requires : goal.sizes_of-sizes-requires
-sizes_of-sizes-requires c =
-    let read = c.read_nodes-read in
-    record { preorder = tree_preorder c.args.last _ _ read.result read.ensures; n_bound = read.ensures.nodes_few }
+pub set_sizes-requires : goal.set_sizes-requires
+set_sizes-requires c =
+    let h = from_start c.args.s.now c.open-sheet.ensures c.in_ok-head.ensures in
+    (preorder c.args.last c.args.s.now h, few c.args.last c.args.s.now h, few c.args.last c.args.s.now h)
 
 pub returns : goal.returns
+unfolding tree_laid
 returns c =
-    let read = c.read_nodes-read in
-    tree_is c.args.last c.args.s.now read.new.symbols c.sizes_of-sizes.result read.result read.ensures c.sizes_of-sizes.ensures
+    let s = c.args.s.now in
+    let h = from_start s c.open-sheet.ensures c.in_ok-head.ensures in
+    let sized = c.set_sizes.ensures (t c.args.last s h).shape (drawn c.args.last s h) in
+    record {
+      at = h.at;
+      holds = record {
+        sound = sound c.args.last s h;
+        tree_is = λ i. record { load = h.holds.load_is i; required = h.holds.required_is i; count = h.holds.counted i; symbols = h.holds.laid i; sizes = sized i };
+      };
+      near = h.near;
+    }
