@@ -2,7 +2,7 @@
 use mathlib.Core.Path.{◌≡◌, refl, sym, ap, subst, ◌∙◌}
 use mathlib.Core.List.{List}
 use mathlib.Core.Bool.{false, false≢true}
-use Prim.Native.Nat.{ℕ, suc, ◌+◌, ◌*◌, ◌≤◌, ◌<◌}
+use Prim.Native.Nat.{ℕ, ◌+◌, ◌*◌, ◌≤◌, ◌<◌}
 use native.Mathlib.Omega.{arith}
 use lib.ListN.{length, take, set, get_or, length-set}
 use lib.Seq.{get_or-set_same, set-set}
@@ -18,7 +18,7 @@ use Rattle.shapes_rules.specs.Shape.{plain, leaf_symbol, leaf, symbols}
 use Rattle.shapes_rules.specs.Drawing.{leaf_verdict, leaf_node, driven_node, plain_bits, leaf_bits}
 use Rattle.shapes.specs.declared.Source.{Source}
 use Rattle.shapes.specs.declared.Progress.{Progress}
-use Rattle.shapes.specs.Inside.Promises.{Met, open_reach, outcome, reached, LeafRoom, LeafRead, LeafEnd, DrivenEnd, After}
+use Rattle.shapes.specs.Inside.Promises.{open_reach, outcome, reached, LeafRoom, LeafRead, LeafEnd, DrivenEnd, After}
 use Rattle.shapes.proofs.Laws.{field_truncated, field_sound, found_used}
 use Rattle.shapes_rules.proofs.Drawing.{leaf_passes}
 

@@ -1,14 +1,13 @@
 -- Laws about the node reader and the pair reader in an opening: what they may call, and what comes out of it.
-use mathlib.Core.Path.{◌≡◌, refl, sym, ap, ◌∙◌}
+use mathlib.Core.Path.{◌≡◌, ap, ◌∙◌}
 use mathlib.Core.List.{List}
-use Prim.Native.Nat.{ℕ, suc, ◌+◌, ◌-◌, ◌≤◌, ◌<◌}
+use Prim.Native.Nat.{ℕ, suc, ◌+◌, ◌≤◌, ◌<◌}
 use native.Mathlib.Omega.{arith}
 use lib.ListN.{length, take, set, length-set}
-use Rattle.std.specs.Prelude.{Result, Ok, Err}
-use Rattle.bits.specs.declared.Cursor.{Cursor}
+use Rattle.std.specs.Prelude.{Ok, Err}
 use Rattle.bits.specs.Bits.{place_of}
 use Rattle.fields.specs.declared.Fault.{Fault}
-use Rattle.fields.specs.Reading.{At, Refused, Live}
+use Rattle.fields.specs.Reading.{At, Refused}
 use Rattle.shapes_rules.specs.declared.Rules.{Rules}
 use Rattle.shapes_rules.specs.Drawing.{plain_bits, leaf_bits, leaf_node, driven_node}
 use Rattle.shapes.specs.declared.Source.{Source}

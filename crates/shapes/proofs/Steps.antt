@@ -1,25 +1,24 @@
 -- Laws about the readers of a code and of a leaf in an opening: one for each way out.
-use mathlib.Core.Path.{◌≡◌, refl, sym, ap, subst, ◌∙◌}
+use mathlib.Core.Path.{◌≡◌, refl, ◌∙◌}
 use mathlib.Core.List.{List}
-use mathlib.Core.Bool.{Bool, true, false}
-use Prim.Native.Nat.{ℕ, suc, ◌+◌, ◌≤◌, ◌<◌}
+use mathlib.Core.Bool.{Bool}
+use Prim.Native.Nat.{ℕ, ◌+◌, ◌≤◌, ◌<◌}
 use native.Mathlib.Omega.{arith}
 use native.Mathlib.Numerals.{add-one}
 use lib.ListN.{length, take, set, length-set}
-use Rattle.std.specs.Prelude.{Some, None, Result, Ok, Err}
+use Rattle.std.specs.Prelude.{Some, None, Ok, Err}
 use Rattle.bits.specs.declared.Cursor.{Cursor}
 use Rattle.bits.specs.Bits.{place_of, field_at}
 use Rattle.fields.specs.declared.Fault.{Fault}
 use Rattle.fields.specs.declared.Fault.TheVariants.{Truncated}
-use Rattle.fields.specs.Reading.{Scan, At, Refused, Verdict, Sound, Faulty, field, Live}
+use Rattle.fields.specs.Reading.{At, Refused, Verdict, Sound, Faulty, field}
 use Rattle.shapes_rules.specs.declared.Rules.{Rules}
 use Rattle.shapes.specs.declared.Progress.{Progress}
-use Rattle.shapes_rules.specs.Drawing.{code_verdict, leaf_verdict, leaf_node, plain_bits}
+use Rattle.shapes_rules.specs.Drawing.{code_verdict, leaf_verdict, plain_bits}
 use Rattle.shapes.specs.Inside.Promises.{Met, CodeRead, LeafEnd}
 use Rattle.shapes.proofs.Laws.{coded, field_truncated, field_faulty, field_sound, found_used}
 use Rattle.shapes.proofs.Drawn.{leaf_laid, leaf_refused}
 use Rattle.fields.proofs.Laws.{found_fits}
-use Rattle.shapes_rules.proofs.Drawing.{leaf_passes}
 
 -- ---- a code
 

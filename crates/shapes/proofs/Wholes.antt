@@ -1,8 +1,8 @@
 -- Laws about a whole shape: one for each way out of its reader.
-use mathlib.Core.Path.{◌≡◌, refl, sym, ap, subst, ◌∙◌}
-use mathlib.Core.List.{List, [], ◌∷◌}
+use mathlib.Core.Path.{◌≡◌, refl, sym, ap, ◌∙◌}
+use mathlib.Core.List.{List}
 use mathlib.Core.Bool.{Bool, false, ◌&&◌}
-use Prim.Native.Nat.{ℕ, zero, suc, ◌+◌, ◌*◌, ◌≤◌, ◌<◌}
+use Prim.Native.Nat.{ℕ, suc, ◌+◌, ◌*◌, ◌≤◌, ◌<◌}
 use native.Mathlib.Nat.{zero-add}
 use native.Mathlib.Omega.{arith}
 use lib.ListN.{length, take, drop, replicate, length-replicate}
@@ -12,21 +12,20 @@ use Rattle.std.proofs.lemmas.List.{get_or-replicate}
 use Rattle.fields.proofs.Lists.{take_sets}
 use Rattle.bits.specs.declared.Cursor.{Cursor}
 use Rattle.bits.specs.Bits.{place_of}
-use Rattle.bits.specs.Inside.Promises.{Opens, Opened}
+use Rattle.bits.specs.Inside.Promises.{Opens}
 use Rattle.bits.proofs.Laws.{cursor_is}
 use Rattle.fields.specs.declared.Fault.{Fault}
 use Rattle.fields.specs.declared.Fault.TheVariants.{Truncated}
 use Rattle.fields.specs.declared.Flaw.{Flaw}
 use Rattle.fields.specs.declared.Sheet.{Sheet}
 use Rattle.fields.specs.Reading.{Scan, At, Refused, place, Live}
-use Rattle.fields.specs.Inside.Promises.{Took, Flawed}
 use Rattle.shapes_rules.specs.declared.Rules.{Rules}
 use Rattle.shapes_rules.specs.Shape.{Shape, symbols}
 use Rattle.shapes_rules.specs.Drawing.{elem, has_all, shape, node_bits}
 use Rattle.shapes.specs.declared.Source.{Source}
 use Rattle.shapes.specs.declared.Progress.{Progress}
 use Rattle.shapes.specs.declared.ShapeRead.{ShapeRead}
-use Rattle.shapes.specs.Inside.Promises.{Met, outcome, reached, Followed, Room, Laid, NodeEnd, Drawn, ShapeIs}
+use Rattle.shapes.specs.Inside.Promises.{outcome, reached, Followed, Room, Laid, NodeEnd, Drawn, ShapeIs}
 use Rattle.shapes.proofs.Marks.{whole_marked}
 use Rattle.shapes.proofs.Drawn.{run_seen}
 use Rattle.shapes_rules.proofs.Shifted.{shift, shape_shift, shape_truncated}

@@ -1,9 +1,8 @@
 use native.Mathlib.Omega.{arith}
-use Prim.Native.Nat.{◌<◌}
 use mathlib.Core.Path.{refl}
 use Rattle.fields.proofs.Readers.{passed}
 use Rattle.shapes.specs.Inside.Promises.{NodeEnd, PairEnd}
-use Rattle.shapes.proofs.Nodes.{room_inside, refused_done, leaf_done, driven_done, gate_next, gate_in_room, gate_room, inv_done, nand_done, second_refused, second_room, second_done}
+use Rattle.shapes.proofs.Nodes.{room_inside, refused_done, leaf_done, driven_done, gate_next, gate_in_room, gate_room, inv_done, nand_done, second_refused, second_done}
 use Rattle.shapes.proofs.Progress.+read_node_read_pair.Goals as goal
 
 pub read_node-read_code-requires : goal.read_node-read_code-requires

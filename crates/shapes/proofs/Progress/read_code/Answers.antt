@@ -1,4 +1,4 @@
-use mathlib.Core.Path.{sym, ap, ◌∙◌}
+use mathlib.Core.Path.{sym}
 use Rattle.fields.proofs.Readers.{passed}
 use Rattle.shapes.specs.Inside.Promises.{CodeRead}
 use Rattle.shapes.proofs.Steps.{code_truncated, code_faulty, code_sound}

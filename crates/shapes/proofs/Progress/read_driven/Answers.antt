@@ -1,5 +1,4 @@
 use native.Mathlib.Omega.{arith}
-use Rattle.bits.specs.Bits.{place_of}
 use Rattle.fields.proofs.Readers.{passed}
 use Rattle.shapes.specs.Inside.Promises.{DrivenEnd}
 use Rattle.shapes.proofs.Driven.{leaf_in, number_refused, drive_inside, driven_number, driven_most, drive_truncated, drive_small, drive_sound}
