@@ -3,15 +3,14 @@ use Prim.Native.Nat.{ℕ, zero, suc, ◌+◌, ◌-◌, ◌≤◌, ◌<◌}
 use mathlib.Core.Path.{◌≡◌, refl, sym, ap, ap₂, ◌∙◌}
 use mathlib.Core.Bool.{Bool}
 use mathlib.Core.List.Memᴰ
-use mathlib.Core.List.{List, [], ◌∷◌, ◌++◌, map, map-append, append_assoc, append-nil, Memᴰ}
+use mathlib.Core.List.{List, [], ◌∷◌, ◌++◌, append_assoc, append-nil, Memᴰ}
 use mathlib.Core.Option
 use mathlib.Core.Option.{Option, none, some, none-ne-some, some-injective, map-eq-some_iff}
 use native.Mathlib.Numerals.{add-one}
-use native.Mathlib.Nat.{add-zero, add_assoc}
 use native.Mathlib.Omega.{arith}
-use lib.ListN.{length, get_or, take, length-append, length-map}
-use lib.Seq.{sets, take-suc, take_all}
-use Rattle.fields.proofs.Lists.{sets_append, take_sets, at_mem}
+use lib.ListN.{length, get_or, take, length-append}
+use lib.Seq.{take-suc, take_all}
+use Rattle.fields.proofs.Lists.{at_mem}
 use Rattle.sheets_rules.specs.Model.{Shape, Cell, Library, Tree}
 use Rattle.covers.specs.Match.{Input, Match, IsMatch, matches, pin_at, pin_load}
 use Rattle.covers.specs.Cover.{Point, Placed, Cover, nothing, together, delayed, topped, feeds, input_delay}
@@ -29,11 +28,11 @@ use Rattle.covers.proofs.Bounds.{match_cell}
 use Rattle.covers.proofs.FromSheets.{binned}
 use Rattle.filling.proofs.Node.{leaf_here}
 use Rattle.result_sheets.specs.declared.CoverRecord.{CoverRecord}
-use Rattle.result_sheets.specs.Public.{cover_of}
-use Rattle.result_sheets.proofs.Laws.{placed_parts}
+use Rattle.result_sheets.specs.Public.{appended}
+use Rattle.result_sheets.proofs.Laws.{appended_none}
 use Rattle.choosing.specs.declared.Goal.{Goal}
 use Rattle.choosing.specs.declared.Inputs.{Inputs}
-use Rattle.choosing.specs.Inside.Promises.{no_input, goal_of, goal_at, InputsAre, Prepared, below, Driven, Chooses, appended}
+use Rattle.choosing.specs.Inside.Promises.{no_input, goal_of, no_goal, InputsAre, Prepared, below, Driven, Chooses}
 use Rattle.choosing.proofs.Gate.{parts, size_at, ready}
 
 -- The matches of a choice, if there is one.
@@ -88,26 +87,6 @@ module _ (l : Library) (cell : Cell) (load t : ℕ) where
   spread_few (next {i = i} {is = is} a b s) h zero l = omega arith
   spread_few (next {i = i} {is = is} a b s) h (suc k) l =
       omega (arith, length-append (chosen_placed (input_choice i)) (inputs_placed (take k is)), h i (Memᴰ.head refl), spread_few s (λ j m. h j (Memᴰ.tail m)) k (omega arith))
-
--- ---- a cover's record
-
--- Nothing appended, and matches appended one list after another.
-pub appended_none : (c : CoverRecord) → c ≡ appended c []
-appended_none c = rw add-zero
-
-pub appended_more : (c : CoverRecord) (xs ys : List Placed) → appended (appended c xs) ys ≡ appended c (xs ++ ys)
-appended_more c xs ys = rw (length-append xs ys, add_assoc, run (λ x. x.node) c.nodes, run (λ x. x.pattern) c.patterns, run (λ x. x.crossing) c.crossings)
-  where
-    run : (f : Placed → ℕ) (l : List ℕ) → sets (sets l c.count (map f xs)) (c.count + length xs) (map f ys) ≡ sets l c.count (map f (xs ++ ys))
-    run f l = rw (map-append, sets_append, length-map)
-
--- The cover that a record with no match is, with matches appended.
-pub appended_cover : (c : CoverRecord) (xs : List Placed) → c.count ≡ 0 → length xs ≤ length c.nodes → length xs ≤ length c.patterns → length xs ≤ length c.crossings →
-    cover_of (appended c xs) ≡ record { point = record { area = c.area; arrival = c.arrival }; placed = xs }
-appended_cover c xs e hn hp hx = rw (front (λ x. x.node) c.nodes hn, front (λ x. x.pattern) c.patterns hp, front (λ x. x.crossing) c.crossings hx, placed_parts xs)
-  where
-    front : (f : Placed → ℕ) (ns : List ℕ) → length xs ≤ length ns → take (c.count + length xs) (sets ns c.count (map f xs)) ≡ map f xs
-    front f ns h = rw (e, ← length-map xs f) (take_sets ns 0 (map f xs) (omega (arith, length-map xs f)))
 
 -- ---- the match at a gate
 
@@ -165,7 +144,7 @@ pub record Following (most : ℕ) (l : Library) (t : Tree) (rows ss zs : List �
   pub more : after ≡ before ++ chosen.placed
 
 module _ {most : ℕ} {l : Library} {t : Tree} {rows ss zs : List ℕ} {room : ℕ} {work : List ℕ} {n : ℕ} {inputs : Inputs} {start : ℕ} (top : Topmost most l t rows ss zs room work n inputs start)
-    {k : ℕ} (inside : k < inputs.count) {cover : CoverRecord} (so_far : cover.count ≡ start + length (placed_to top k)) {room' : ℕ} (same : room ≡ room') {next : Goal} (asked : next ≡ goal_at inputs k) where
+    {k : ℕ} (inside : k < inputs.count) {cover : CoverRecord} (so_far : cover.count ≡ start + length (placed_to top k)) {room' : ℕ} (same : room ≡ room') {next : Goal} (asked : next ≡ get_or inputs.goals k no_goal) where
   pub following : Following most l t rows ss zs room' work n next cover (placed_to top k) (placed_to top (k + 1))
   unfolding chosen_placed feeds pin_at pin_load
   following =

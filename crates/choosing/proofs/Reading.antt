@@ -4,6 +4,7 @@ use mathlib.Core.Option.{Option, some, none-ne-some, some-injective}
 use mathlib.Core.List.{List}
 use Prim.Native.Nat.{ℕ, ◌+◌, ◌-◌, ◌<◌}
 use native.Mathlib.Decide.{ℕ_discrete}
+use borrow.Author.Count.{below_more}
 use native.Mathlib.Omega.{arith}
 use lib.ListN.{length, get_or, set}
 use lib.Seq.{get_or-set_same, get_or-set_other}
@@ -22,7 +23,7 @@ use Rattle.curves.specs.Inside.Best.{hit_count, input_node, input_figures}
 use Rattle.curves.specs.Inside.Promises.{Worth}
 use Rattle.curves.proofs.Laws.{word_point}
 use Rattle.choosing.specs.declared.Goal.{Goal}
-use Rattle.choosing.specs.Inside.Promises.{HitHolds, goal_of, no_input}
+use Rattle.choosing.specs.Inside.Promises.{HitHolds, goal_of, no_input, no_goal}
 
 module _ (w r end : ℕ) (o : Option Point) (small : w < point_limit) (g : Worth match_limit end r o) where
   -- The word found is the word sought exactly when its point is.
@@ -34,12 +35,6 @@ module _ (w r end : ℕ) (o : Option Point) (small : w < point_limit) (g : Worth
     | yes z ↦ none-ne-some (point_of w) (sym (g.missing z) ∙ e)
     | no z ↦ d (sym (word_point r) ∙ ap word_of (some-injective _ _ (sym (g.point z) ∙ e)) ∙ word_point w)
   ]
-
--- ---- goals
-
--- The goal in place i of four arrays.
-abbrev pub goal_in : List ℕ → List ℕ → List ℕ → List ℕ → ℕ → Goal
-goal_in nodes loads bins times i = record { node = get_or nodes i 0; load = get_or loads i 0; bin = get_or bins i 0; time = get_or times i 0 }
 
 -- ---- the inputs in a hit
 
@@ -57,25 +52,22 @@ module _ (l : Library) (pattern hit : List ℕ) (m : Match) (holds : HitHolds l 
   crossing_at = holds.words 1 (omega arith)
 
   -- Input k, from its pin's figures and what they leave of the time.
-  module _ (load t k x : ℕ) (pin : PinFigures) (pin-read : pin ≡ input_figures pattern hit k) (e : x ≡ t - delay_of pin load) where
-    goal_read : k < length m.inputs → record { node = input_node pattern hit k; load = pin.load; bin = pin.bin; time = x } ≡ goal_of l m load t (get_or m.inputs k no_input)
+  module _ (load t k x node : ℕ) (pin : PinFigures) (pin-read : pin ≡ input_figures pattern hit k) (e : x ≡ t - delay_of pin load) (node-read : node ≡ input_node pattern hit k) where
+    abbrev asked : Goal
+    asked = record { node = node; load = pin.load; bin = pin.bin; time = x }
+
+    goal_read : k < length m.inputs → asked ≡ goal_of l m load t (get_or m.inputs k no_input)
     unfolding figures_of
     goal_read h =
         let i = get_or m.inputs k no_input in
         let pin-is : get_or hit (input_place k) 0 ≡ i.pin = holds.words (input_place k) (omega (arith, length_hit m)) ∙ hit_pin m k h in
-        let node-is : get_or hit (input_place k + 1) 0 ≡ i.node = holds.words (input_place k + 1) (omega (arith, length_hit m)) ∙ hit_node m k h in
+        let node-is : node ≡ i.node = node-read ∙ holds.words (input_place k + 1) (omega (arith, length_hit m)) ∙ hit_node m k h in
         let f : pin ≡ figures_of l (feeds m.pattern.cell i) = pin-read ∙ figures_are holds.stored i (holds.pinned i (at_mem m.inputs k no_input h)) pin-is in
         rw (e, f, node-is, delay_is l m.pattern.cell load i)
 
     -- One input more.
-    pub inputs_turn : (nodes loads bins times : List ℕ) → k < hit_count hit → length nodes ≡ 6 → length loads ≡ 6 → length bins ≡ 6 → length times ≡ 6 →
-        ((i : ℕ) → i < k → goal_in nodes loads bins times i ≡ goal_of l m load t (get_or m.inputs i no_input)) →
-        (i : ℕ) → i < k + 1 →
-        goal_in (set nodes k (input_node pattern hit k)) (set loads k pin.load) (set bins k pin.bin) (set times k x) i ≡ goal_of l m load t (get_or m.inputs i no_input)
-    inputs_turn nodes loads bins times h ln ll lb lt old i g =
-        let few : k < 6 = omega (arith, holds.few, count_at) in
-        elim (ℕ_discrete i k) [
-          | yes same ↦ rw (same, get_or-set_same nodes k _ 0 (omega arith), get_or-set_same loads k _ 0 (omega arith), get_or-set_same bins k _ 0 (omega arith), get_or-set_same times k _ 0 (omega arith))
-              (goal_read (omega (arith, count_at)))
-          | no ne ↦ simp get_or-set_other (old i (omega arith))
-        ]
+    pub inputs_turn : (goals : List Goal) → k < hit_count hit → length goals ≡ 6 → ((i : ℕ) → i < k → get_or goals i no_goal ≡ goal_of l m load t (get_or m.inputs i no_input)) →
+        (i : ℕ) → i < k + 1 → get_or (set goals k asked) i no_goal ≡ goal_of l m load t (get_or m.inputs i no_input)
+    inputs_turn goals h long old = below_more _ k
+        (λ i g. get_or-set_other goals k i asked no_goal (λ e. omega arith) ∙ old i g)
+        (get_or-set_same goals k asked no_goal (omega (arith, holds.few, count_at)) ∙ goal_read (omega (arith, count_at)))

@@ -1,19 +1,19 @@
 // The choice of a cover under a required time, from the curves in the work area.
 #![tactic(auto)]
 
-ghost use Rattle.std.specs.Prelude.{◌≡◌, [], ◌∷◌, ◌-◌, ◌<◌, ◌≤◌, length, get_or};
+ghost use Rattle.std.specs.Prelude.{◌≡◌, ◌<◌, ◌≤◌, length, get_or};
 ghost use Rattle.sheets_rules.specs.Model.{Shape, Library, Tree};
 ghost use Rattle.sheets_rules.specs.Inside.Layout.{row_words};
 ghost use Rattle.curves.specs.Inside.Words.{point_limit};
 ghost use Rattle.curves.specs.Inside.Best.{HitSafe, Matches};
 ghost use Rattle.matching.specs.Inside.Found.{match_bytes};
-ghost use Rattle.choosing.specs.Inside.Promises.{FirstHit, InputsRead, goal_at, Prepared, Driven, MatchChosen, Chooses, appended, CoverChosen};
+ghost use Rattle.choosing.specs.Inside.Promises.{FirstHit, InputsRead, Prepared, Driven, MatchChosen, Chooses, CoverChosen};
 
 use curves::Words;
 use matching::Hit;
-use result_sheets::CoverRecord;
+use result_sheets::{CoverRecord, MatchRecord};
 use shapes_rules::Packed;
-use sheets_rules::{Limits, PatternRow, Slots};
+use sheets_rules::{Limits, PatternRow, Slots, TreeRecord};
 
 // What is asked of a node: the load that it drives, the bin of that load and the time by which it is to arrive. At the root, whose load need
 // not be that of a bin, bin 0 has the curve.
@@ -25,16 +25,23 @@ pub struct Goal {
     pub time: u32,
 }
 
-// The pattern of a match, its crossing and what is asked of its inputs, in the order of the tree.
+impl Goal {
+    // What stands where nothing is asked.
+    const NONE: Goal = Goal {
+        node: 0,
+        load: 0,
+        bin: 0,
+        time: 0,
+    };
+}
+
+// The pattern of a match, its crossing and what is asked of its inputs, in the order of the tree: the first `count` of the goals.
 #[derive(Clone, Copy)]
 pub struct Inputs {
     pub pattern: u8,
     pub crossing: u8,
     pub count: usize,
-    pub nodes: [u8; Slots::PINS],
-    pub loads: [u8; Slots::PINS],
-    pub bins: [u8; Slots::PINS],
-    pub times: [u32; Slots::PINS],
+    pub goals: [Goal; Slots::PINS],
 }
 
 // The first match, in the order of pattern numbers and then of crossing numbers, that reaches the area and the arrival of `w`.
@@ -52,172 +59,88 @@ fn first_reaching(
     requires load_bound { (load ≤ 255) × (w < point_limit) }
     ensures { FirstHit most symbols.now work.now rows.now found.now load w count result }
 {
-    let mut j: usize = 0;
-    while j < count {
-        let reached = curves::match_best(
-            rows,
-            found,
-            j,
-            symbols,
-            work,
-            most,
-            load,
-            w % Limits::TIMES + 1,
-        );
+    for j in 0..count {
+        let end = w % Limits::TIMES + 1;
+        let reached = curves::match_best(rows, found, j, symbols, work, most, load, end);
         if reached == w {
-            break;
+            return j;
         }
-        j += 1;
     }
-    j
+    count
 }
 
-// What is left of a time for an input whose pin adds a delay.
-fn time_left(time: u32, delay: u32) -> u32
-    ensures { result ≡ time - delay }
-{
-    if time < delay {
-        return 0;
-    }
-    time - delay
-}
-
-// The inputs of a hit, which drives a load and is to arrive by `time`, with its pattern's row.
-fn read_inputs<'a>(pattern: &'a [u32], hit: &'a [u8], load: u32, time: u32) -> Inputs
+// The inputs of a hit, which drives a load and is to arrive by `time`, with its pattern's row. A pin's delay is taken off the time.
+fn read_inputs(pattern: &[u32], hit: &[u8], load: u32, time: u32) -> Inputs
     requires { HitSafe pattern.now hit.now × (length pattern.now ≡ row_words) × (length hit.now ≡ match_bytes) × (load ≤ 255) }
     ensures { InputsRead pattern.now hit.now load time result }
 {
-    let mut nodes = [0u8; Slots::PINS];
-    let mut loads = [0u8; Slots::PINS];
-    let mut bins = [0u8; Slots::PINS];
-    let mut times = [0u32; Slots::PINS];
-    let count = hit[Hit::COUNT] as usize;
-    let mut k: usize = 0;
-    while k < count {
+    let count = usize::from(hit[Hit::COUNT]);
+    let mut goals = [Goal::NONE; Slots::PINS];
+    for k in 0..count {
         let at = Hit::INPUTS + Hit::INPUT * k;
-        let pin = cells::pin_figures(pattern, hit[at] as usize);
-        nodes[k] = hit[at + Hit::NODE];
-        loads[k] = pin.load as u8;
-        bins[k] = pin.bin as u8;
-        times[k] = time_left(time, cells::delay(pin, load));
-        k += 1;
+        let pin = cells::pin_figures(pattern, usize::from(hit[at]));
+        goals[k] = Goal {
+            node: usize::from(hit[at + Hit::NODE]),
+            load: pin.load,
+            bin: pin.bin as usize,
+            time: time.saturating_sub(cells::delay(pin, load)),
+        };
     }
     Inputs {
         pattern: hit[Hit::PATTERN],
         crossing: hit[Hit::CROSSING],
         count,
-        nodes,
-        loads,
-        bins,
-        times,
+        goals,
     }
 }
 
 // The match chosen at a gate: the first that reaches the least area in time and the least arrival with it.
-fn choose_match<'a>(
-    rows: &'a [u32],
-    symbols: &'a [u32],
-    sizes: &'a [u8],
+fn choose_match(
+    rows: &[u32],
+    tree: &TreeRecord,
     found: &mut [u8],
     work: &[u64],
     most: usize,
     goal: Goal,
 ) -> Inputs
-    requires { (l : Library) × ((t : Tree) × ((s : Shape) × (Prepared most l t rows.now symbols.now sizes.now (length found.old) work.now × Driven l t goal s × (get_or symbols.now goal.node 0 < 2)))) }
-    ensures { MatchChosen most rows.now symbols.now sizes.now found.old work.now goal result }
+    requires { (l : Library) × ((t : Tree) × ((s : Shape) × (Prepared most l t rows.now tree.now.symbols tree.now.sizes (length found.old) work.now × Driven l t goal s × (get_or tree.now.symbols goal.node 0 < 2)))) }
+    ensures { MatchChosen most rows.now tree.now.symbols tree.now.sizes found.old work.now goal result }
 {
     let load = goal.load;
-    let w = curves::look_up(
-        work,
-        most,
-        Words::BINS * goal.node + goal.bin,
-        (goal.time + 1) as u64,
-    );
-    let count = matching::find_matches(rows, symbols, sizes, goal.node, found);
-    let first = Hit::BYTES * first_reaching(rows, found, count, symbols, work, most, load, w);
-    let at = PatternRow::WORDS * found[first + Hit::PATTERN] as usize;
-    read_inputs(
-        &rows[at..at + PatternRow::WORDS],
-        &found[first..first + Hit::BYTES],
-        load,
-        (w % Limits::TIMES) as u32,
-    )
+    let at = Words::BINS * goal.node + goal.bin;
+    let w = curves::look_up(work, most, at, u64::from(goal.time) + 1);
+    let count = matching::find_matches(rows, &tree.symbols, &tree.sizes, goal.node, found);
+    let first = Hit::BYTES * first_reaching(rows, found, count, &tree.symbols, work, most, load, w);
+    let hit = &found[first..first + Hit::BYTES];
+    let row = PatternRow::WORDS * usize::from(hit[Hit::PATTERN]);
+    let time = (w % Limits::TIMES) as u32;
+    read_inputs(&rows[row..row + PatternRow::WORDS], hit, load, time)
 }
 
-// What is asked of input k.
-fn input_goal(inputs: Inputs, k: usize) -> Goal
-    requires { k < 6 }
-    ensures { result ≡ goal_at inputs k }
-{
-    let nodes = inputs.nodes;
-    let loads = inputs.loads;
-    let bins = inputs.bins;
-    let times = inputs.times;
-    Goal {
-        node: nodes[k] as usize,
-        load: loads[k] as u32,
-        bin: bins[k] as usize,
-        time: times[k],
-    }
-}
-
-// One match more in a cover's record.
-fn append(cover: CoverRecord, node: usize, pattern: u8, crossing: u8) -> CoverRecord
-    requires { (cover.count < 64) × (node < 64) }
-    ensures { result ≡ appended cover (record { node = node; pattern = pattern; crossing = crossing } ∷ []) }
-{
-    let at = cover.count;
-    let mut nodes = cover.nodes;
-    let mut patterns = cover.patterns;
-    let mut crossings = cover.crossings;
-    nodes[at] = node as u8;
-    patterns[at] = pattern;
-    crossings[at] = crossing;
-    CoverRecord {
-        area: cover.area,
-        arrival: cover.arrival,
-        count: at + 1,
-        nodes,
-        patterns,
-        crossings,
-    }
-}
-
-// The cover with the matches of the cover chosen at a node, in ascending order of nodes, after those that it has. The nodes in the subtree
+// Puts the matches of the cover chosen at a node into a cover, in ascending order of nodes, after those that it has. The nodes in the subtree
 // fall from a node to the inputs of its match.
-pub fn choose<'a>(
-    rows: &'a [u32],
-    symbols: &'a [u32],
-    sizes: &'a [u8],
+pub fn choose(
+    rows: &[u32],
+    tree: &TreeRecord,
     found: &mut [u8],
     work: &[u64],
     most: usize,
     goal: Goal,
-    cover: CoverRecord,
-) -> CoverRecord
-    requires { (l : Library) × ((t : Tree) × ((s : Shape) × Chooses most l t rows.now symbols.now sizes.now (length found.old) work.now goal cover s)) }
-    ensures { CoverChosen most rows.now symbols.now sizes.now found.old work.now goal cover result }
+    cover: &mut CoverRecord,
+)
+    requires { (l : Library) × ((t : Tree) × ((s : Shape) × Chooses most l t rows.now tree.now.symbols tree.now.sizes (length found.old) work.now goal cover.old s)) }
+    ensures { CoverChosen most rows.now tree.now.symbols tree.now.sizes found.old work.now goal cover.old cover.new }
 {
-    let node = goal.node;
-    if Packed::LEAF <= symbols[node] {
-        return cover;
+    if Packed::LEAF <= tree.symbols[goal.node] {
+        return;
     }
-    let inputs = choose_match(rows, symbols, sizes, found, work, most, goal);
-    let count = inputs.count;
-    let mut grown = append(cover, node, inputs.pattern, inputs.crossing);
-    let mut k: usize = 0;
-    while k < count {
-        grown = choose(
-            rows,
-            symbols,
-            sizes,
-            found,
-            work,
-            most,
-            input_goal(inputs, k),
-            grown,
-        );
-        k += 1;
+    let inputs = choose_match(rows, tree, found, work, most, goal);
+    cover.push(MatchRecord {
+        node: goal.node as u8,
+        pattern: inputs.pattern,
+        crossing: inputs.crossing,
+    });
+    for k in 0..inputs.count {
+        choose(rows, tree, found, work, most, inputs.goals[k], cover);
     }
-    grown
 }

@@ -1,11 +1,10 @@
 -- What the choice of a cover is lent and what it promises, by the choice rule.
 use Rattle.std.specs.Prelude.{ℕ, suc, ◌+◌, ◌-◌, ◌%◌, ◌≤◌, ◌<◌, ◌≡◌, length, get_or}
-use mathlib.Core.List.{List, map, Memᴰ}
+use mathlib.Core.List.{List, Memᴰ}
 use Rattle.std.proofs.Math.Option.{some}
-use Rattle.std.proofs.lemmas.List.Edits.{sets}
 use Rattle.sheets_rules.specs.Model.{plain_leaf, Shape, Library, Tree}
 use Rattle.covers.specs.Match.{Input, Match, pin_load}
-use Rattle.covers.specs.Cover.{Point, Placed, Cover, feeds, input_delay}
+use Rattle.covers.specs.Cover.{Point, Cover, feeds, input_delay}
 use Rattle.covers.specs.Enumeration.{covers}
 use Rattle.covers.specs.Tradeoff.{nodes}
 use Rattle.covers.specs.Choice.{least, first_reaching, choice}
@@ -17,6 +16,7 @@ use Rattle.curves.specs.Inside.Words.{WorkArea}
 use Rattle.curves.specs.Inside.Best.{hit_at, pattern_of, legal_best}
 use Rattle.curves.specs.Inside.Stored.{CurvesStored}
 use Rattle.result_sheets.specs.declared.CoverRecord.{CoverRecord}
+use Rattle.result_sheets.specs.Public.{appended}
 use Rattle.choosing.specs.declared.Goal.{Goal}
 use Rattle.choosing.specs.declared.Inputs.{Inputs}
 
@@ -49,9 +49,9 @@ goal_of l m load t i =
     let pin = feeds m.pattern.cell i in
     record { node = i.node; load = pin_load l pin; bin = pin.bin; time = t - input_delay m.pattern.cell load i }
 
--- What is asked of input k, as it was read.
-abbrev pub goal_at : Inputs → ℕ → Goal
-goal_at r k = record { node = get_or r.nodes k 0; load = get_or r.loads k 0; bin = get_or r.bins k 0; time = get_or r.times k 0 }
+-- What stands where nothing is asked.
+abbrev pub no_goal : Goal
+no_goal = record { node = 0; load = 0; bin = 0; time = 0 }
 
 -- The inputs of a match.
 pub record InputsAre (l : Library) (m : Match) (load t : ℕ) (r : Inputs) : Type 0 where
@@ -59,7 +59,7 @@ pub record InputsAre (l : Library) (m : Match) (load t : ℕ) (r : Inputs) : Typ
   pub crossing_is : r.crossing ≡ m.crossing
   pub count_is : r.count ≡ length m.inputs
   pub few : length m.inputs ≤ 6
-  pub each : (k : ℕ) → k < length m.inputs → goal_at r k ≡ goal_of l m load t (get_or m.inputs k no_input)
+  pub each : (k : ℕ) → k < length m.inputs → get_or r.goals k no_goal ≡ goal_of l m load t (get_or m.inputs k no_input)
 
 -- The inputs are read of whichever match the hit holds.
 abbrev pub InputsRead : (pattern hit : List ℕ) → (load t : ℕ) → Inputs → Type 0
@@ -98,17 +98,6 @@ pub record Chooses (most : ℕ) (l : Library) (t : Tree) (rows ss zs : List ℕ)
   pub prepared : Prepared most l t rows ss zs room work
   pub driven : Driven l t goal s
   pub fits : cover.count + gates s ≤ 64
-
--- A cover's record with these matches after those that it has.
-abbrev pub appended : CoverRecord → List Placed → CoverRecord
-appended c xs = record {
-  area = c.area;
-  arrival = c.arrival;
-  count = c.count + length xs;
-  nodes = sets c.nodes c.count (map (λ (x : Placed). x.node) xs);
-  patterns = sets c.patterns c.count (map (λ (x : Placed). x.pattern) xs);
-  crossings = sets c.crossings c.count (map (λ (x : Placed). x.crossing) xs);
-}
 
 -- The matches of the cover that the choice rule names come after those of the record, whichever library and tree are stored.
 abbrev pub CoverChosen : ℕ → (rows ss zs found work : List ℕ) → Goal → CoverRecord → CoverRecord → Type 0
