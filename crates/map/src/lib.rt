@@ -33,7 +33,7 @@ fn map_stored(
     Ok(result_sheets::write_cover(output, cover))
 }
 
-// The trade-offs of a tree's root on their sheet, from a work area of zeros.
+// The trade-offs of a tree's root on their sheet, from a work area of zeros, where their points stand until it is cleared.
 fn list_zeros(
     library: &LibraryRecord,
     tree: &TreeRecord,

@@ -33,12 +33,12 @@ use Rattle.overlay.proofs.Standing.{heads_everywhere, stands_everywhere, subject
 use Rattle.curves.specs.Inside.Words.{absent, point_limit, stored, curve_at}
 use Rattle.curves.specs.Inside.Promises.{Worth}
 use Rattle.choosing.specs.declared.Goal.{Goal}
-use Rattle.choosing.specs.Inside.Promises.{at_root, Chooses, CoverChosen, appended}
+use Rattle.choosing.specs.Inside.Promises.{at_root, Chooses, CoverChosen}
 use Rattle.choosing.proofs.Gate.{chosen_there}
-use Rattle.choosing.proofs.Below.{appended_cover}
 use Rattle.result_sheets.specs.declared.CoverRecord.{CoverRecord}
-use Rattle.result_sheets.specs.Public.{placed_of, cover_of}
-use Rattle.map_core.specs.Inside.Found.{of_mapped, no_cover, bare_cover}
+use Rattle.result_sheets.specs.Public.{cover_of, bare_cover, appended}
+use Rattle.result_sheets.proofs.Laws.{appended_cover}
+use Rattle.map_core.specs.Inside.Found.{of_mapped, no_cover}
 use Rattle.map_core.specs.Inside.Promises.{rows_of, Curved, MapsLeaf, MappedIs}
 use Rattle.leaves.proofs.Symbols.{symbols_small, leaf_told}
 
@@ -58,7 +58,7 @@ module _ (l : Library) (load : ℕ) (x : Leaf) (time : ℕ) where
   leaf_late h = sym (ap (answered none) (leaf_is ∙ ap (λ (b : Bool). cond b (some (leaf_cover x load)) none) (lt-leb _ _ h)))
 
   pub leaf_timely : (a : ℕ) → a ≡ leaf_arrival x load → a ≤ time → of_mapped (Ok (bare_cover 0 a)) ≡ answered none (choice l load 0 (leaf x) time)
-  unfolding bare_cover placed_of answered choice_step leaf_cover leaf_point
+  unfolding answered choice_step leaf_cover leaf_point
   leaf_timely a e h =
       ap (λ (b : ℕ). success (record { point = record { area = 0; arrival = b }; placed = [] })) e
       ∙ sym (ap (answered none) (leaf_is ∙ ap (λ (b : Bool). cond b (some (leaf_cover x load)) none) (le-leb (leaf_arrival x load) time (subst (λ (b : ℕ). b ≤ time) e h))))
@@ -154,7 +154,6 @@ module _ {most : ℕ} {l : Library} {t : Tree} {library : LibraryRecord} {tree :
       module _ (goal : Goal) (goal_is : goal ≡ root_goal tree.load tree.required) (begun : CoverRecord) (begun_is : begun ≡ bare_cover (w / base) (w % base)) (rows : List ℕ) (rows_are : rows ≡ rows_of library) (found : List ℕ) (room : length found ≡ match_table) where
         -- What the choice is lent.
         pub gate_chooses : Chooses most l t rows tree.symbols tree.sizes (length found) work goal begun t.shape
-        unfolding bare_cover
         gate_chooses = rw (goal_is, begun_is, rows_are, room) (record {
           prepared = given.prepared;
           driven = record {
@@ -168,10 +167,10 @@ module _ {most : ℕ} {l : Library} {t : Tree} {library : LibraryRecord} {tree :
 
         -- What it names.
         pub gate_found : (cover : CoverRecord) → CoverChosen most rows tree.symbols tree.sizes found work goal begun cover → MappedIs most l t (Ok cover)
-        unfolding answered bare_cover point_of
+        unfolding answered point_of
         gate_found cover chooses =
             let c = chosen.0 in
             let is : cover ≡ appended (bare_cover (w / base) (w % base)) c.placed = rw begun_is at (chooses l t t.shape gate_chooses c (rw goal_is chosen.1)) in
             let p : point_of w ≡ c.point = some-injective _ _ (sym least_here ∙ sym (choice_point l tree.load 0 t.shape tree.required) ∙ ap (map (λ (d : Cover). d.point)) chosen.1) in
-            let whole : cover_of cover ≡ c = ap cover_of is ∙ appended_cover (bare_cover (w / base) (w % base)) c.placed refl (omega (arith, few_placed)) (omega (arith, few_placed)) (omega (arith, few_placed)) ∙ ap (λ (q : Point). record { point = q; placed = c.placed }) p in
+            let whole : cover_of cover ≡ c = ap cover_of is ∙ appended_cover (bare_cover (w / base) (w % base)) c.placed refl (omega (arith, few_placed)) ∙ ap (λ (q : Point). record { point = q; placed = c.placed }) p in
             record { answer_is = ap success whole ∙ chosen_is (some c) chosen.1; few = omega (arith, ap (λ (r : CoverRecord). r.count) is, few_placed) }

@@ -10,7 +10,6 @@ ghost use Rattle.covers.specs.Inside.Curve.{point_of};
 ghost use Rattle.leaves.specs.Inside.Leaf.{symbol_limit};
 ghost use Rattle.matching.specs.Inside.Found.{match_table};
 ghost use Rattle.curves.specs.Inside.Words.{stored};
-ghost use Rattle.map_core.specs.Inside.Found.{bare_cover};
 ghost use Rattle.map_core.specs.Inside.Promises.{rows_of, Started, Curved, Fills, MapsLeaf, MapsCurved, MapsTree, ListsCurved, ListsTree};
 
 use choosing::Goal;
@@ -27,20 +26,6 @@ const NO_COVER: Refusal = Refusal {
     reason: Reason::NoCover,
     place: 0,
 };
-
-// A cover with no match yet.
-pub fn bare(area: u32, arrival: u32) -> CoverRecord
-    ensures { result ≡ bare_cover area arrival }
-{
-    CoverRecord {
-        area,
-        arrival,
-        count: 0,
-        nodes: [0u8; Limits::TREE_NODES],
-        patterns: [0u8; Limits::TREE_NODES],
-        crossings: [0u8; Limits::TREE_NODES],
-    }
-}
 
 // The rows of a library that are filled.
 #[tactic(auto, using(sheets_rules::proofs::Stored::few_rows))]
@@ -91,7 +76,7 @@ fn map_leaf(symbol: u32, load: u32, time: u32) -> Result<CoverRecord, Refusal>
     if time < arrival {
         return Err(NO_COVER);
     }
-    Ok(bare(0, arrival))
+    Ok(CoverRecord::bare(0, arrival))
 }
 
 // The root's cover under its required time, from the curves.
@@ -122,17 +107,9 @@ fn map_root(
         bin: 0,
         time,
     };
-    let begun = bare((w / Limits::TIMES) as u32, (w % Limits::TIMES) as u32);
-    Ok(choosing::choose(
-        rows(library),
-        &tree.symbols,
-        &tree.sizes,
-        found,
-        work,
-        most,
-        goal,
-        begun,
-    ))
+    let mut cover = CoverRecord::bare((w / Limits::TIMES) as u32, (w % Limits::TIMES) as u32);
+    choosing::choose(rows(library), tree, found, work, most, goal, &mut cover);
+    Ok(cover)
 }
 
 // The cover that map hands over, for a sound library and a sound tree as decoded, where a node may have `most` trade-offs under a load, in

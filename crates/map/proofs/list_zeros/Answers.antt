@@ -16,7 +16,7 @@ write_list-requires c =
     let (l, (t, start)) = c.requires.started in
     let m = c.in_ok-count.ensures l t start in
     let few = start.allowed.listed in
-    (omega (arith, m.few, few), omega (arith, m.few, c.list_tree.auto.work, work_long start), omega (arith, m.few, few, c.requires.long), m.small)
+    (omega (arith, m.few, few), omega (arith, m.few, c.list_tree.auto.work, work_long start), omega (arith, m.few, few, c.requires.long), λ k h. m.small k (omega (arith, h)))
 
 pub returns : goal.returns
 unfolding of_reply

@@ -2,7 +2,6 @@ use mathlib.Core.Path.{subst, sym}
 use native.Mathlib.Omega.{arith}
 use Rattle.std.specs.Prelude.{Ok}
 use Rattle.result_sheets.specs.declared.CoverRecord.{CoverRecord}
-use Rattle.map_core.specs.Inside.Found.{bare_cover}
 use Rattle.map_core.specs.Inside.Promises.{MapsLeaf}
 use Rattle.map_core.proofs.Root.{leaf_late, leaf_timely}
 use Rattle.leaves.specs.Inside.Leaf.{leaf_of}
@@ -15,7 +14,6 @@ returns-then-time-arrival c =
     record { answer_is = λ l. leaf_late l a.load (leaf_of a.symbol) a.time (omega (arith, arrival, c.if-time-arrival)); few = tt }
 
 pub returns : goal.returns
-unfolding bare_cover
 returns c =
     let a = c.args in
     let arrival = c.leaf_arrival-arrival.ensures.0 in

@@ -25,10 +25,10 @@ choose-requires c =
     let (l, (t, given)) = c.requires.curved in
     let e = c.if-symbol-ge-LEAF in
     let z = c.if-w in
-    (l, (t, (t.shape, gate_chooses given (omega (arith, e)) c.look_up-w.result (rw c.from.ensures at c.look_up-w.ensures) (λ y. omega (arith, z, y)) _ (ap (λ (load : ℕ). root_goal load c.args.tree.now.required) c.from-load.ensures) _ c.bare-begun.ensures _ c.rows.ensures _ c.requires.room)))
+    (l, (t, (t.shape, gate_chooses given (omega (arith, e)) c.look_up-w.result (rw c.from.ensures at c.look_up-w.ensures) (λ y. omega (arith, z, y)) _ (cc) _ c.bare-cover.ensures _ c.rows.ensures _ c.requires.room)))
 
 pub returns : goal.returns
 returns c l t given =
     let e = c.if-symbol-ge-LEAF in
     let z = c.if-w in
-    gate_found given (omega (arith, e)) c.look_up-w.result (rw c.from.ensures at c.look_up-w.ensures) (λ y. omega (arith, z, y)) _ (ap (λ (load : ℕ). root_goal load c.args.tree.now.required) c.from-load.ensures) _ c.bare-begun.ensures _ c.rows.ensures _ c.requires.room c.choose.result c.choose.ensures
+    gate_found given (omega (arith, e)) c.look_up-w.result (rw c.from.ensures at c.look_up-w.ensures) (λ y. omega (arith, z, y)) _ (cc) _ c.bare-cover.ensures _ c.rows.ensures _ c.requires.room c.choose.new.cover c.choose.ensures

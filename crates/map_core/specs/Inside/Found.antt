@@ -1,5 +1,5 @@
 -- What the core found, as an answer.
-use Rattle.std.specs.Prelude.{ℕ, List, replicate, Result, Ok, Err}
+use Rattle.std.specs.Prelude.{ℕ, List, Result, Ok, Err}
 use Rattle.fields.specs.Answer.{Answer, success}
 use Rattle.sheets_rules.specs.declared.Reason.TheVariants.{Crowded, NoCover}
 use Rattle.sheets_rules.specs.declared.Refusal.{Refusal}
@@ -25,7 +25,3 @@ crowded n = record { item = 0; reason = Crowded; place = n }
 
 abbrev pub no_cover : Refusal
 no_cover = record { item = 0; reason = NoCover; place = 0 }
-
--- A cover's record with no match yet.
-unfoldable pub bare_cover : (area arrival : ℕ) → CoverRecord
-bare_cover area arrival = record { area = area; arrival = arrival; count = 0; nodes = replicate 64 0; patterns = replicate 64 0; crossings = replicate 64 0 }
