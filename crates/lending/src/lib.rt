@@ -64,14 +64,10 @@ pub fn words(most: usize) -> usize
 }
 
 // Makes these words zero.
+#[tactic(auto, unfolding(covers::specs::Lending::cleared))]
 pub fn clear(work: &mut [u64], most: usize)
     requires { (most ≤ 254) × (work_words most ≤ length work.old) }
     ensures { work.new ≡ cleared (work_words most) work.old }
 {
-    let count = words(most);
-    let mut k = 0;
-    while k < count {
-        work[k] = 0;
-        k += 1;
-    }
+    work[..words(most)].fill(0);
 }

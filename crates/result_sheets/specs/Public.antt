@@ -1,21 +1,35 @@
 -- What is written and read: covers and points as the code keeps them, and a sheet at the front of an output.
-use Rattle.std.specs.Prelude.{ℕ, ◌+◌, ◌*◌, ◌^◌, ◌≤◌, ◌<◌, ◌≡◌, List, [], ◌∷◌, ◌++◌, length, take, drop}
+use Rattle.std.specs.Prelude.{ℕ, ◌+◌, ◌*◌, ◌^◌, ◌≤◌, ◌<◌, ◌≡◌, List, ◌++◌, map, length, take, drop, replicate}
+use Rattle.std.proofs.lemmas.List.Edits.{sets}
 use Rattle.fields.specs.Reading.{place, start}
 use Rattle.covers.specs.Cover.{Placed, Cover}
 use Rattle.covers.specs.CoverSheet.{area_width, arrival_width, match_count_width, node_width, pattern_width, crossing_width, cover_read}
+use Rattle.result_sheets.specs.declared.MatchRecord.{MatchRecord}
 use Rattle.result_sheets.specs.declared.CoverRecord.{CoverRecord}
 use Rattle.result_sheets.specs.declared.CoverRead.{CoverRead}
 
--- Matches from their nodes, their patterns and their crossings.
-unfoldable pub placed_of : (nodes patterns crossings : List ℕ) → List Placed
-placed_of [] ps xs = []
-placed_of (n ∷ ns) [] xs = []
-placed_of (n ∷ ns) (p ∷ ps) [] = []
-placed_of (n ∷ ns) (p ∷ ps) (x ∷ xs) = record { node = n; pattern = p; crossing = x } ∷ placed_of ns ps xs
+-- The match that a record keeps, and the record that keeps a match.
+abbrev pub placed_of : MatchRecord → Placed
+placed_of m = record { node = m.node; pattern = m.pattern; crossing = m.crossing }
+
+abbrev pub record_of : Placed → MatchRecord
+record_of x = record { node = x.node; pattern = x.pattern; crossing = x.crossing }
 
 -- The cover that a record keeps.
 abbrev pub cover_of : CoverRecord → Cover
-cover_of r = record { point = record { area = r.area; arrival = r.arrival }; placed = placed_of (take r.count r.nodes) (take r.count r.patterns) (take r.count r.crossings) }
+cover_of r = record { point = record { area = r.area; arrival = r.arrival }; placed = map placed_of (take r.count r.matches) }
+
+-- What stands where no match is kept.
+abbrev pub no_match : MatchRecord
+no_match = record { node = 0; pattern = 0; crossing = 0 }
+
+-- A cover's record with no match yet.
+abbrev pub bare_cover : (area arrival : ℕ) → CoverRecord
+bare_cover area arrival = record { area = area; arrival = arrival; count = 0; matches = replicate 64 no_match }
+
+-- A cover's record with these matches after those that it has.
+abbrev pub appended : CoverRecord → List Placed → CoverRecord
+appended c xs = record { area = c.area; arrival = c.arrival; count = c.count + length xs; matches = sets c.matches c.count (map record_of xs) }
 
 -- How many bits one match takes.
 abbrev pub match_width : ℕ

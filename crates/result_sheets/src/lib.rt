@@ -1,11 +1,12 @@
 // The cover sheet and the list sheet, written into a lent output and read back.
 #![tactic(auto)]
 
-ghost use Rattle.std.specs.Prelude.{◌≡◌, ◌++◌, ◌+◌, ◌*◌, ◌<◌, ◌≤◌, ◌^◌, length, take, drop, replicate};
+ghost use Rattle.std.specs.Prelude.{◌≡◌, [], ◌∷◌, ◌++◌, ◌+◌, ◌*◌, ◌/◌, ◌<◌, ◌≤◌, ◌^◌, map, reverse, length, drop, replicate};
 ghost use Rattle.fields.specs.Reading.{place};
 ghost use Rattle.fields.specs.Written.{written};
 ghost use Rattle.covers.specs.CoverSheet.{match_count_width, point_count_width, placed_fields, point_fields, cover_sheet, list_sheet};
-ghost use Rattle.result_sheets.specs.Public.{placed_of, cover_of, cover_bits, Written, CoverIs};
+ghost use Rattle.result_sheets.specs.Public.{placed_of, bare_cover, appended, cover_of, cover_bits, Written, CoverIs};
+ghost use Rattle.covers.specs.Inside.Curve.{point_of};
 ghost use Rattle.result_sheets.specs.Inside.Promises.{points_of, Listable, MatchIs, MatchesAre};
 
 use fields::Scan;
@@ -38,15 +39,49 @@ impl Sheet {
     pub const MATCH: usize = Sheet::NODE + Sheet::PATTERN + Sheet::CROSSING;
 }
 
-// A cover: its area, its arrival, and the nodes, patterns and crossings of its `count` matches.
+// A match: its node, its pattern's number and its crossing number.
+#[derive(Clone, Copy)]
+pub struct MatchRecord {
+    pub node: u8,
+    pub pattern: u8,
+    pub crossing: u8,
+}
+
+// A cover: its area, its arrival, and its `count` matches, the first of the array.
 #[derive(Clone, Copy)]
 pub struct CoverRecord {
     pub area: u32,
     pub arrival: u32,
     pub count: usize,
-    pub nodes: [u8; Limits::TREE_NODES],
-    pub patterns: [u8; Limits::TREE_NODES],
-    pub crossings: [u8; Limits::TREE_NODES],
+    pub matches: [MatchRecord; Limits::TREE_NODES],
+}
+
+impl CoverRecord {
+    // A cover with no match yet.
+    pub fn bare(area: u32, arrival: u32) -> Self
+        ensures { result ≡ bare_cover area arrival }
+    {
+        let blank = MatchRecord {
+            node: 0,
+            pattern: 0,
+            crossing: 0,
+        };
+        CoverRecord {
+            area,
+            arrival,
+            count: 0,
+            matches: [blank; Limits::TREE_NODES],
+        }
+    }
+
+    // One match more, after those that it has.
+    pub fn push(&mut self, one: MatchRecord)
+        requires { self.old.count < 64 }
+        ensures { self.new ≡ appended self.old (placed_of one ∷ []) }
+    {
+        self.matches[self.count] = one;
+        self.count += 1;
+    }
 }
 
 // A cover that was read, and the scan after it.
@@ -59,49 +94,33 @@ pub struct CoverRead {
 #[derive(Clone, Copy)]
 pub struct MatchRead {
     pub scan: Scan,
-    pub node: u8,
-    pub pattern: u8,
-    pub crossing: u8,
+    pub found: MatchRecord,
 }
 
-#[derive(Clone, Copy)]
-pub struct MatchesRead {
-    pub scan: Scan,
-    pub nodes: [u8; Limits::TREE_NODES],
-    pub patterns: [u8; Limits::TREE_NODES],
-    pub crossings: [u8; Limits::TREE_NODES],
-}
-
-// Makes the first `count` bytes zero.
-fn clear(output: &mut [u8], count: usize)
-    requires { count ≤ length output.old }
-    ensures { output.new ≡ replicate count 0 ++ drop count output.old }
+// Makes the bytes that `width` bits take zero, and answers how many they are.
+fn clear(output: &mut [u8], width: usize) -> usize
+    requires { width ≤ 8 * length output.old }
+    ensures cleared { output.new ≡ replicate result 0 ++ drop result output.old }
+    ensures bytes { result ≡ (width + 7) / 8 }
 {
-    let mut k = 0;
-    while k < count {
-        output[k] = 0;
-        k += 1;
-    }
+    let bytes = width.div_ceil(8);
+    output[..bytes].fill(0);
+    bytes
 }
 
-// Puts the fields of the first `count` matches.
-fn put_matches(output: &mut [u8], nodes: &[u8], patterns: &[u8], crossings: &[u8], count: usize)
-    requires { (count < 2 ^ match_count_width) × (count ≤ length nodes.now) × (count ≤ length patterns.now) × (count ≤ length crossings.now) × (cover_bits count ≤ 8 * length output.old) }
-    ensures { output.new ≡ written (placed_fields (placed_of (take count nodes.now) (take count patterns.now) (take count crossings.now))) (cover_bits 0) output.old }
+// Puts the fields of the matches, after a cover's other fields.
+fn put_matches(output: &mut [u8], matches: &[MatchRecord])
+    requires { (length matches.now < 2 ^ match_count_width) × (cover_bits (length matches.now) ≤ 8 * length output.old) }
+    ensures { output.new ≡ written (placed_fields (map placed_of matches.now)) (cover_bits 0) output.old }
 {
     let mut at = Sheet::MATCHES_AT;
-    let mut k = 0;
-    while k < count {
-        bits::put(output, at, Sheet::NODE, nodes[k] as u32);
-        bits::put(output, at + Sheet::NODE, Sheet::PATTERN, patterns[k] as u32);
-        bits::put(
-            output,
-            at + Sheet::NODE + Sheet::PATTERN,
-            Sheet::CROSSING,
-            crossings[k] as u32,
-        );
-        at += Sheet::MATCH;
-        k += 1;
+    for one in matches {
+        bits::put(output, at, Sheet::NODE, u32::from(one.node));
+        at += Sheet::NODE;
+        bits::put(output, at, Sheet::PATTERN, u32::from(one.pattern));
+        at += Sheet::PATTERN;
+        bits::put(output, at, Sheet::CROSSING, u32::from(one.crossing));
+        at += Sheet::CROSSING;
     }
 }
 
@@ -111,36 +130,26 @@ pub fn write_cover(output: &mut [u8], cover: CoverRecord) -> usize
     ensures { Written (cover_sheet (cover_of cover)) output.old output.new result }
 {
     let count = cover.count;
-    let nodes = cover.nodes;
-    let patterns = cover.patterns;
-    let crossings = cover.crossings;
-    let bytes = (Sheet::MATCHES_AT + Sheet::MATCH * count + 7) / 8;
-    clear(output, bytes);
+    let bytes = clear(output, Sheet::MATCHES_AT + Sheet::MATCH * count);
     bits::put(output, 0, Sheet::AREA, cover.area);
     bits::put(output, Sheet::AREA, Sheet::ARRIVAL, cover.arrival);
     bits::put(output, Sheet::POINT, Sheet::MATCH_COUNT, count as u32);
-    put_matches(output, &nodes, &patterns, &crossings, count);
+    put_matches(output, &cover.matches[..count]);
     bytes
 }
 
-// Puts the fields of the first `count` words' points, the last first.
-fn put_points(output: &mut [u8], points: &[u64], count: usize)
-    requires { Listable count points.now output.old }
-    ensures { output.new ≡ written (point_fields (points_of count points.now)) point_count_width output.old }
+// Puts the fields of the words' points, the last first, after a list's count.
+fn put_points(output: &mut [u8], points: &[u64])
+    requires { Listable (length points.now) points.now output.old }
+    ensures { output.new ≡ written (point_fields (reverse (map point_of points.now))) point_count_width output.old }
 {
     let mut at = Sheet::POINT_COUNT;
-    let mut k = count;
-    while 0 < k {
-        k -= 1;
+    for k in (0..points.len()).rev() {
         let word = points[k];
         bits::put(output, at, Sheet::ARRIVAL, (word % Limits::TIMES) as u32);
-        bits::put(
-            output,
-            at + Sheet::ARRIVAL,
-            Sheet::AREA,
-            (word / Limits::TIMES) as u32,
-        );
-        at += Sheet::POINT;
+        at += Sheet::ARRIVAL;
+        bits::put(output, at, Sheet::AREA, (word / Limits::TIMES) as u32);
+        at += Sheet::AREA;
     }
 }
 
@@ -149,10 +158,9 @@ pub fn write_list(output: &mut [u8], points: &[u64], count: usize) -> usize
     requires { Listable count points.now output.old }
     ensures { Written (list_sheet (points_of count points.now)) output.old output.new result }
 {
-    let bytes = (Sheet::POINT_COUNT + Sheet::POINT * count + 7) / 8;
-    clear(output, bytes);
+    let bytes = clear(output, Sheet::POINT_COUNT + Sheet::POINT * count);
     bits::put(output, 0, Sheet::POINT_COUNT, count as u32);
-    put_points(output, points, count);
+    put_points(output, &points[..count]);
     bytes
 }
 
@@ -169,36 +177,26 @@ fn read_match(scan: Scan, s: &[u8]) -> MatchRead
     let at = crossing.scan;
     MatchRead {
         scan: at,
-        node: node.value as u8,
-        pattern: pattern.value as u8,
-        crossing: crossing.value as u8,
+        found: MatchRecord {
+            node: node.value as u8,
+            pattern: pattern.value as u8,
+            crossing: crossing.value as u8,
+        },
     }
 }
 
-// The matches.
-fn read_matches(scan: Scan, s: &[u8], count: u32) -> MatchesRead
-    requires { (count < 2 ^ match_count_width) × (place scan ≤ cover_bits 0) }
-    ensures { MatchesAre s.now count scan result }
+// The matches, put into the cover one after another, and the scan after them.
+fn read_matches(scan: Scan, s: &[u8], count: u32, cover: &mut CoverRecord) -> Scan
+    requires { (cover.old.count + count ≤ 63) × (place scan ≤ cover_bits 0) }
+    ensures { MatchesAre s.now count scan cover.old cover.new result }
 {
-    let mut nodes = [0u8; Limits::TREE_NODES];
-    let mut patterns = [0u8; Limits::TREE_NODES];
-    let mut crossings = [0u8; Limits::TREE_NODES];
     let mut at = scan;
-    let mut k: u32 = 0;
-    while k < count {
+    for _ in 0..count {
         let one = read_match(at, s);
         at = one.scan;
-        nodes[k as usize] = one.node;
-        patterns[k as usize] = one.pattern;
-        crossings[k as usize] = one.crossing;
-        k += 1;
+        cover.push(one.found);
     }
-    MatchesRead {
-        scan: at,
-        nodes,
-        patterns,
-        crossings,
-    }
+    at
 }
 
 // The cover that a sheet says, and whether anything is wrong with the sheet.
@@ -211,21 +209,8 @@ pub fn read_cover(s: &[u8]) -> CoverRead
     let at = arrival.scan;
     let count = fields::raw(at, s, Sheet::MATCH_COUNT);
     let at = count.scan;
-    let matches = read_matches(at, s, count.value);
-    let at = matches.scan;
-    let nodes = matches.nodes;
-    let patterns = matches.patterns;
-    let crossings = matches.crossings;
+    let mut cover = CoverRecord::bare(area.value, arrival.value);
+    let at = read_matches(at, s, count.value, &mut cover);
     let end = fields::end(at, s);
-    CoverRead {
-        scan: end,
-        cover: CoverRecord {
-            area: area.value,
-            arrival: arrival.value,
-            count: count.value as usize,
-            nodes,
-            patterns,
-            crossings,
-        },
-    }
+    CoverRead { scan: end, cover }
 }

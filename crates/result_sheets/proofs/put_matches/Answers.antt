@@ -1,26 +1,17 @@
 use native.Mathlib.Omega.{arith}
-use mathlib.Core.Path.{◌≡◌, refl, ◌∙◌}
+use mathlib.Core.Path.{◌∙◌}
+use Rattle.result_sheets.specs.Public.{no_match}
 use Rattle.result_sheets.proofs.Laws.{match_turn, matches_done}
 use Rattle.result_sheets.proofs.put_matches.Goals as goal
 
-pub loop-k-init : goal.loop-k-init
-loop-k-init c = (omega arith, omega arith, refl, refl)
-
-pub loop-k-preserved : goal.loop-k-preserved
-loop-k-preserved c =
-    let three = c.before.before in
-    let two = three.before.before.before.before.before in
-    let one = two.before.before.before.before.before in
-    let i = one.loop-k in
-    let start = one.before.before.before.before.before.before.before.before.before in
-    let a = start.args in
-    let turn = match_turn a.nodes.now a.patterns.now a.crossings.now i.k a.count (omega arith) start.requires.1 start.requires.2 start.requires.3
-    i.at i.output one.put.new.s two.put-in-loop-k.new.s three.put-in-loop-k-2.new.s one.put.ensures two.put-in-loop-k.ensures three.put-in-loop-k-2.ensures in
-    (omega arith, omega arith, turn.0 ∙ i.invariant.2, turn.1 ∙ i.invariant.3)
+pub loop-one-preserved : goal.loop-one-preserved
+loop-one-preserved c =
+    let i = c.loop-one in
+    let turn = match_turn c.args.matches.now i.one-index no_match (omega arith) i.at i.output c.put.new.s c.put-in-loop-one.new.s c.put-in-loop-one-2.new.s
+    c.from.ensures c.from-in-loop-one.ensures c.from-in-loop-one-2.ensures c.put.ensures c.put-in-loop-one.ensures c.put-in-loop-one-2.ensures in
+    record { place = omega arith; kept = turn.0 ∙ i.invariant.kept; rest = turn.1 ∙ i.invariant.rest }
 
 pub returns : goal.returns
 returns c =
-    let a = c.args in
-    let i = c.loop-k in
-    let done : i.k ≡ a.count = omega arith in
-    matches_done a.nodes.now a.patterns.now a.crossings.now i.k a.count i.at i.output done ∙ i.invariant.3
+    let i = c.loop-one in
+    matches_done c.args.matches.now i.one-index i.at i.output (omega arith) ∙ i.invariant.rest

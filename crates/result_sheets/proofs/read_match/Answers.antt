@@ -16,9 +16,11 @@ returns c =
     let e = scan_at s node_width free a.scan one.ensures refl in
     let f = scan_at s pattern_width free one.result.scan two.ensures e in
     record {
-      node = value_at_lem s node_width free a.scan one.ensures refl;
-      pattern = value_at_lem s pattern_width free one.result.scan two.ensures e;
-      crossing = value_at_lem s crossing_width free two.result.scan three.ensures f;
+      found = λ d. record {
+        node = value_at_lem s node_width free a.scan one.ensures refl d;
+        pattern = value_at_lem s pattern_width free one.result.scan two.ensures e d;
+        crossing = value_at_lem s crossing_width free two.result.scan three.ensures f d;
+      };
       scan_is = scan_at s crossing_width free two.result.scan three.ensures f;
       near = omega (arith, one.ensures.near, two.ensures.near, three.ensures.near);
     }

@@ -1,46 +1,40 @@
 use native.Mathlib.Omega.{arith}
-use Prim.Native.Nat.{ℕ}
+use Prim.Native.Nat.{◌+◌}
 use mathlib.Core.Path.{◌≡◌, refl, sym, ap, ◌∙◌}
-use mathlib.Core.List.{List, []}
+use mathlib.Core.List.{[], ◌∷◌, ◌++◌}
 use Rattle.fields.specs.declared.Scan.{Scan}
 use Rattle.fields.specs.Reading.{times}
-use Rattle.fields.proofs.Laws.{times_scan}
-use Rattle.sheets_rules.proofs.Laid.{filled_more}
+use Rattle.fields.proofs.Laws.{length_times, times_value, times_scan}
 use Rattle.covers.specs.Cover.{Placed}
 use Rattle.covers.specs.CoverSheet.{placed_read}
-use Rattle.result_sheets.specs.Inside.Promises.{column}
+use Rattle.result_sheets.specs.declared.CoverRecord.{CoverRecord}
+use Rattle.result_sheets.specs.Public.{placed_of, appended}
+use Rattle.result_sheets.proofs.Laws.{appended_none, appended_more}
 use Rattle.result_sheets.proofs.read_matches.Goals as goal
 
-pub loop-k-init : goal.loop-k-init
+pub loop-init : goal.loop-init
 unfolding times
-loop-k-init c = (omega arith, refl, refl, refl, refl, omega arith)
+loop-init c = record { cover = appended_none c.args.cover.now; scan = refl; near = omega arith }
 
-pub loop-k-preserved : goal.loop-k-preserved
+pub push-requires : goal.push-requires
+push-requires c = omega (arith, ap (λ (r : CoverRecord). r.count) c.loop.invariant.cover, length_times c.loop.counter (placed_read c.args.s.now) c.args.scan)
+
+pub loop-preserved : goal.loop-preserved
 unfolding placed_read
-loop-k-preserved c =
+loop-preserved c =
     let a = c.args in
-    let i = c.loop-k in
+    let i = c.loop in
     let r = placed_read a.s.now in
-    let e = i.invariant.4 in
-    let p = c.read_match-one.ensures in (
-      omega arith,
-      filled_more 64 0 (λ (x : Placed). x.node) r a.scan i.k i.nodes c.read_match-one.result.node i.invariant.1 (p.node ∙ ap (λ (q : Scan). (r [] q).0.node) e),
-      filled_more 64 0 (λ (x : Placed). x.pattern) r a.scan i.k i.patterns c.read_match-one.result.pattern i.invariant.2 (p.pattern ∙ ap (λ (q : Scan). (r [] q).0.pattern) e),
-      filled_more 64 0 (λ (x : Placed). x.crossing) r a.scan i.k i.crossings c.read_match-one.result.crossing i.invariant.3 (p.crossing ∙ ap (λ (q : Scan). (r [] q).0.crossing) e),
-      p.scan_is ∙ ap (λ (q : Scan). (r [] q).1) e ∙ sym (times_scan i.k r a.scan),
-      omega (arith, p.near, i.invariant.5),
-    )
-
-pub returns : goal.returns
-returns c =
-    let a = c.args in
-    let i = c.loop-k in
-    let done : i.k ≡ a.count = omega arith in
-    let x : ℕ → List Placed × Scan = λ k. times k (placed_read a.s.now) a.scan in
+    let one = c.read_match-one.ensures in
+    let xs = (times i.counter r a.scan).0 in
+    let found : placed_of c.read_match-one.result.found ≡ (r xs (times i.counter r a.scan).1).0 = one.found ∙ ap (λ (q : Scan). (r [] q).0) i.invariant.scan in
+    let more : xs ++ (placed_of c.read_match-one.result.found ∷ []) ≡ (times (i.counter + 1) r a.scan).0 = ap (λ (x : Placed). xs ++ (x ∷ [])) found ∙ sym (times_value i.counter r a.scan) in
     record {
-      nodes = i.invariant.1 ∙ ap (λ (k : ℕ). column (λ y. y.node) (x k).0) done;
-      patterns = i.invariant.2 ∙ ap (λ (k : ℕ). column (λ y. y.pattern) (x k).0) done;
-      crossings = i.invariant.3 ∙ ap (λ (k : ℕ). column (λ y. y.crossing) (x k).0) done;
-      scan_is = i.invariant.4 ∙ ap (λ (k : ℕ). (x k).1) done;
-      near = omega (arith, i.invariant.5);
+      cover =
+          c.push.ensures
+          ∙ ap (λ (q : CoverRecord). appended q (placed_of c.read_match-one.result.found ∷ [])) i.invariant.cover
+          ∙ appended_more a.cover.now xs (placed_of c.read_match-one.result.found ∷ [])
+          ∙ ap (appended a.cover.now) more;
+      scan = one.scan_is ∙ ap (λ (q : Scan). (r [] q).1) i.invariant.scan ∙ sym (times_scan i.counter r a.scan);
+      near = omega (arith, one.near, i.invariant.near);
     }

@@ -1,14 +1,13 @@
-use Prim.Native.Nat.{◌≤◌, ◌+◌, ◌-◌, ◌*◌}
+use Prim.Native.Nat.{◌≤◌, ◌+◌, ◌*◌}
 use mathlib.Core.Path.{◌≡◌}
 use Rattle.fields.specs.Reading.{place, times}
 use Rattle.covers.specs.CoverSheet.{placed_read}
-use Rattle.result_sheets.specs.Inside.Promises.{column}
+use Rattle.result_sheets.specs.Public.{appended}
 use Rattle.result_sheets.proofs.read_matches.Given as goal
 
-abbrev pub invariant-loop-k : goal.invariant-loop-k
-invariant-loop-k l =
-    let x = times l.k (placed_read l.s) l.initial.at in
-    (l.k ≤ l.count) × (l.nodes ≡ column (λ y. y.node) x.0) × (l.patterns ≡ column (λ y. y.pattern) x.0) × (l.crossings ≡ column (λ y. y.crossing) x.0) × (l.at ≡ x.1) × (place l.at ≤ place l.initial.at + 18 * l.k)
-
-abbrev pub decreases-loop-k : goal.decreases-loop-k
-decreases-loop-k l = l.count - l.k
+abbrev pub invariant-loop : goal.invariant-loop
+invariant-loop l = record {
+  cover : l.cover ≡ appended l.initial.cover (times l.counter (placed_read l.s) l.initial.at).0;
+  scan : l.at ≡ (times l.counter (placed_read l.s) l.initial.at).1;
+  near : place l.at ≤ place l.initial.at + 18 * l.counter;
+}

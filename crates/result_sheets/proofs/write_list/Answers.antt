@@ -5,7 +5,5 @@ use Rattle.result_sheets.proofs.write_list.Goals as goal
 pub returns : goal.returns
 returns c =
     let a = c.args in
-    let cleared = c.clear in
-    let one = c.put in
-    let done = c.put_points in
-    list_written a.points.now a.count (omega arith) a.output.now cleared.new.output one.new.s done.new.output cleared.ensures one.ensures done.ensures
+    list_written a.points.now a.count c.clear-bytes.result a.output.now c.clear-bytes.new.output c.put.new.s c.put_points.new.output (omega arith)
+    c.clear-bytes.ensures.bytes c.clear-bytes.ensures.cleared c.put.ensures c.put_points.ensures

@@ -2,32 +2,23 @@
 use Rattle.std.specs.Prelude.{ℕ, ◌+◌, ◌*◌, ◌^◌, ◌≤◌, ◌<◌, ◌≡◌, List, [], map, reverse, length, take, get_or}
 use Rattle.fields.specs.declared.Scan.{Scan}
 use Rattle.fields.specs.Reading.{place, times}
-use Rattle.sheets_rules.specs.Inside.Layout.{padded}
-use Rattle.covers.specs.Cover.{Placed, Point}
+use Rattle.covers.specs.Cover.{Point}
 use Rattle.covers.specs.CoverSheet.{placed_read, area_width, arrival_width, point_count_width}
-use Rattle.result_sheets.specs.Public.{match_width}
+use Rattle.result_sheets.specs.Public.{placed_of, appended, match_width}
+use Rattle.result_sheets.specs.declared.CoverRecord.{CoverRecord}
 use Rattle.result_sheets.specs.declared.MatchRead.{MatchRead}
-use Rattle.result_sheets.specs.declared.MatchesRead.{MatchesRead}
 use Rattle.covers.specs.Inside.Curve.{point_of}
-
--- One number of each match, in an array of 64.
-abbrev pub column : (Placed → ℕ) → List Placed → List ℕ
-column f xs = padded 64 0 (map f xs)
 
 module _ (s : List ℕ) where
   pub record MatchIs (scan : Scan) (r : MatchRead) : Type 0 where
-    pub node : r.node ≡ (placed_read s [] scan).0.node
-    pub pattern : r.pattern ≡ (placed_read s [] scan).0.pattern
-    pub crossing : r.crossing ≡ (placed_read s [] scan).0.crossing
+    pub found : placed_of r.found ≡ (placed_read s [] scan).0
     pub scan_is : r.scan ≡ (placed_read s [] scan).1
     pub near : place r.scan ≤ place scan + match_width
 
-  pub record MatchesAre (count : ℕ) (scan : Scan) (r : MatchesRead) : Type 0 where
-    pub nodes : r.nodes ≡ column (λ x. x.node) (times count (placed_read s) scan).0
-    pub patterns : r.patterns ≡ column (λ x. x.pattern) (times count (placed_read s) scan).0
-    pub crossings : r.crossings ≡ column (λ x. x.crossing) (times count (placed_read s) scan).0
-    pub scan_is : r.scan ≡ (times count (placed_read s) scan).1
-    pub near : place r.scan ≤ place scan + match_width * count
+  pub record MatchesAre (count : ℕ) (scan : Scan) (entry exit : CoverRecord) (r : Scan) : Type 0 where
+    pub cover : exit ≡ appended entry (times count (placed_read s) scan).0
+    pub scan_is : r ≡ (times count (placed_read s) scan).1
+    pub near : place r ≤ place scan + match_width * count
 
 -- The points of the first `count` words, the last word's first.
 unfoldable pub points_of : ℕ → List ℕ → List Point
