@@ -127,26 +127,26 @@ module _ (input : List ℕ) (lengths : ℕ) where
 -- ---- the text for an input
 
 -- What is put into a text that is lent `room` bytes.
+pub text_within : (longest room : ℕ) (text : List ℕ) → longest ≤ room → within longest room text ≡ text
+unfolding within
+text_within longest room text h = rw (le-leb longest room h)
+
 module _ (longest room : ℕ) (is_spoiled : Bool) (answer : Answer (List ℕ)) where
   pub text_none : room < longest → within longest room (framed is_spoiled answer) ≡ []
   unfolding within
   text_none h = rw (lt-leb longest room h)
 
-  pub text_spoiled : longest ≤ room → is_spoiled ≡ true → within longest room (framed is_spoiled answer) ≡ spoiled_line
-  unfolding within framed
-  text_spoiled h e = rw (le-leb longest room h, e)
-
   pub text_whole : longest ≤ room → is_spoiled ≡ false → within longest room (framed is_spoiled answer) ≡ outcome_text answer
   unfolding within framed
   text_whole h e = rw (le-leb longest room h, e)
 
--- What is put into a text that was empty stands at the front of its slice; and its front can be lent.
-pub at_front : {words : List ℕ} {entry exit : Text} → entry.len ≡ 0 → Appended words entry exit → Written words entry.bytes.now exit.bytes.now exit.len
-at_front {words} {entry} {exit} e h =
+-- What is put into a text that was empty stands at the front of its slice, which is lent with `before` in it and is left with `after`; and its front can be lent.
+pub at_front : {words before after : List ℕ} {entry exit : Text} → entry.bytes.now ≡ before → entry.len ≡ 0 → Appended words entry exit → after ≡ exit.bytes.now → Written words before after exit.len
+at_front {words} {before} {after} {entry} {exit} is none h left =
     let long : exit.len ≡ length words = omega (arith, h.len) in
     record {
       bytes = long;
-      output = sym (take-append-drop exit.len exit.bytes.now) ∙ ap₂ (λ (a b : List ℕ). a ++ b) (h.text ∙ ap (λ (k : ℕ). take k entry.bytes.now ++ words) e) (h.rest ∙ ap (λ (k : ℕ). drop k entry.bytes.now) long);
+      output = left ∙ sym (take-append-drop exit.len exit.bytes.now) ∙ ap₂ (λ (a b : List ℕ). a ++ b) (h.text ∙ ap (λ (k : ℕ). take k entry.bytes.now ++ words) none) (h.rest ∙ ap₂ drop long is);
     }
 
 pub counted : {words entry exit : List ℕ} {r : ℕ} → Written words entry exit r → Written words entry exit r × IsPrefixLen r exit

@@ -2,8 +2,8 @@
 use Prim.Native.Nat.{ℕ, zero, suc, ◌+◌, ◌-◌, ◌*◌, ◌/◌, ◌%◌, ◌^◌, ◌≤◌, ◌<◌}
 use mathlib.Core.Path.{◌≡◌, refl, sym, ap, ap₂, subst, ◌∙◌}
 use mathlib.Core.Bool.{Bool, true, false, cond, true≢false}
-use mathlib.Core.List.{List, [], ◌∷◌, ◌++◌, flat_map, append_assoc, Memᴰ}
-use native.Mathlib.Nat.{mul-suc, pow-suc, pow-le-pow_right, mod-eq_of_lt}
+use mathlib.Core.List.{List, [], ◌∷◌, ◌++◌, flat_map, append-nil, append_assoc, Memᴰ}
+use native.Mathlib.Nat.{add-zero, mul-suc, pow-suc, pow-le-pow_right, mod-eq_of_lt}
 use native.Mathlib.Decide.{dec_lt}
 use native.Mathlib.Omega.{arith}
 use borrow.Author.Tests.{lt-ltb, le-ltb, ltb-true}
@@ -131,6 +131,10 @@ module _ {A : Type 0} (f : A → List ℕ) where
   lines_short most (x ∷ xs) h = omega (arith, length-append (f x) (flat_map f xs), h x (Memᴰ.head refl), lines_short most xs (λ y m. h y (Memᴰ.tail m)), mul-suc most (length xs))
 
 -- ---- text put into a slice
+
+-- Nothing put.
+pub appended_none : (t : Text) → Appended [] t t
+appended_none t = record { same_slice = refl; same_room = refl; len = sym (add-zero t.len); text = sym (append-nil (text_of t)); rest = refl }
 
 -- What is put after what was put is put with it.
 pub appended_both : {u v : List ℕ} {entry mid exit : Text} → Appended u entry mid → Appended v mid exit → Appended (u ++ v) entry exit
