@@ -41,7 +41,10 @@ fn count_cells(matches: &[MatchRecord], rows: &[u32]) -> [Entry; CELLS]
     requires { (l : Library) × Countable l rows.now (map placed_of matches.now) }
     ensures { Tallies rows.now (map placed_of matches.now) result }
 {
-    let mut entries = [Entry { count: 0, amount: 0 }; CELLS];
+    let mut entries = [Entry {
+        count: 0,
+        amount: 0,
+    }; CELLS];
     for one in matches {
         let row = PatternRow::WORDS * usize::from(one.pattern);
         let entry = &mut entries[rows[row + PatternRow::CELL] as usize];

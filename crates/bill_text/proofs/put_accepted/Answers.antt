@@ -1,4 +1,3 @@
-use mathlib.Core.Path.{◌≡◌}
 use Rattle.fields.specs.Reading.{start}
 use Rattle.sheets_rules.specs.LibrarySheet.{library as library_of}
 use Rattle.sheets_rules.specs.TreeSheet.{tree as tree_of}

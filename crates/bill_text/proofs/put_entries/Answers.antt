@@ -1,5 +1,5 @@
 use native.Mathlib.Omega.{arith}
-use mathlib.Core.Path.{◌≡◌, subst}
+use mathlib.Core.Path.{◌≡◌}
 use lib.ListN.{length}
 use Rattle.bill_text.proofs.Laws.{entries_none, entry_fits, sum_fits, entry_put}
 use Rattle.bill_text.proofs.put_entries.Goals as goal

@@ -1,5 +1,5 @@
 use native.Mathlib.Omega.{arith}
-use mathlib.Core.Path.{◌≡◌, ap}
+use mathlib.Core.Path.{ap}
 use Prim.Native.Nat.{◌<◌}
 use lib.ListN.{length, length-append}
 use Rattle.text.proofs.Laws.{appended_none, appended_both}

@@ -1,5 +1,4 @@
 use native.Mathlib.Omega.{arith}
-use mathlib.Core.Path.{◌≡◌}
 use Rattle.text.specs.Text.{line, spaced}
 use Rattle.text.proofs.Laws.{appended_both}
 use Rattle.bill_rules.specs.Billed.{total_line}

@@ -1,7 +1,6 @@
 use native.Mathlib.Omega.{arith}
-use mathlib.Core.Path.{◌≡◌, ap}
+use mathlib.Core.Path.{ap}
 use lib.ListN.{length, length-append}
-use Rattle.result_sheets.specs.declared.CoverRecord.{CoverRecord}
 use Rattle.result_sheets.specs.Public.{cover_of}
 use Rattle.result_sheets.proofs.Laws.{Room}
 use Rattle.text.proofs.Laws.{appended_both}

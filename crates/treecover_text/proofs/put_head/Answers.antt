@@ -1,5 +1,4 @@
 use native.Mathlib.Omega.{arith}
-use mathlib.Core.Path.{◌≡◌}
 use Rattle.text.specs.Text.{spaced, line}
 use Rattle.text.proofs.Laws.{appended_both}
 use Rattle.treecover_text.specs.Printed.{cover_line}

@@ -1,8 +1,5 @@
 use native.Mathlib.Omega.{arith}
-use Prim.Native.Nat.{ℕ}
-use mathlib.Core.Path.{◌≡◌, ap}
-use lib.ListN.{length}
-use Rattle.text.specs.Text.{decimal, spaced}
+use Rattle.text.specs.Text.{spaced}
 use Rattle.text.proofs.Laws.{appended_both}
 use Rattle.treecover_text.proofs.Laws.{row_line_lem, row_line_length}
 use Rattle.treecover_text.proofs.put_match.Goals as goal

@@ -1,4 +1,3 @@
-use mathlib.Core.Path.{◌≡◌}
 use Rattle.treecover_text.proofs.Laws.{text_read, printable_read}
 use Rattle.treecover_text.proofs.put_sheet.Goals as goal
 

@@ -1,5 +1,4 @@
 use native.Mathlib.Omega.{arith}
-use mathlib.Core.Bool.{false}
 use Rattle.frame.proofs.Laws.{not_spoiled, rest_is}
 use Rattle.treecover_text.proofs.sheets_of.Goals as goal
 
