@@ -2,34 +2,37 @@
 use Prim.Native.Nat.{ℕ, zero, suc, ◌+◌, ◌-◌, ◌*◌, ◌≤◌, ◌<◌}
 use mathlib.Core.Path.{◌≡◌, refl, sym, ap, ap₂, subst, ◌∙◌}
 use mathlib.Core.Bool.{Bool, true, false, cond}
-use mathlib.Core.List.{List, [], ◌∷◌, ◌++◌, map, flat_map, append-nil}
+use mathlib.Core.List.{List, [], ◌∷◌, ◌++◌, map, map-append, flat_map, append-nil, Memᴰ}
 use native.Mathlib.Nat.{add-zero, zero-mul, suc-mul, mul-le-mul, le_refl}
 use native.Mathlib.Numerals.{add-one}
 use native.Mathlib.Decide.{ℕ_discrete}
 use native.Mathlib.Omega.{arith}
 use lib.Dec.{ltb}
 use lib.IntN.{ℤ, pos, negsuc, ◌-ℤ◌}
-use lib.ListN.{length, get_or, set, take, replicate, length-append, length-map}
-use lib.Seq.{take-suc, length-take-le, get_or-take, get_or-set_same, get_or-set_other}
+use lib.ListN.{length, get_or, set, take, replicate, length-append, length-map, length-set}
+use lib.Seq.{take-suc, length-take-le, get_or-set_same, get_or-set_other}
+use Rattle.std.proofs.lemmas.List.{get_or-replicate}
 use borrow.Author.Tests.{lt-ltb}
 use mir.Syntax.{w32}
 use mir.Val.{SFits, to_z, of_z}
 use mir.ValLaws.{to_z-of_z, to_z_pos}
-use Rattle.fields.proofs.Lists.{at_mem, at_map, zeros_at}
+use Rattle.fields.proofs.Lists.{at_mem, at_map}
 use Rattle.sheets_rules.specs.Model.{Library, cell_of, area_of}
 use Rattle.sheets_rules.specs.Inside.Layout.{row_words}
 use Rattle.covers.specs.Lists.{keep_if, select}
 use Rattle.covers.specs.Cover.{Placed}
-use Rattle.result_sheets.specs.declared.CoverRecord.{CoverRecord}
-use Rattle.result_sheets.specs.Public.{placed_of, cover_of}
-use Rattle.result_sheets.proofs.Laws.{Room}
+use Rattle.result_sheets.specs.declared.MatchRecord.{MatchRecord}
+use Rattle.result_sheets.specs.Public.{placed_of, no_match}
 use Rattle.text.specs.Text.{decimal, line, spaced}
-use Rattle.text.proofs.Laws.{flat_map_append}
-use Rattle.bill_rules.specs.Bill.{uses, entry_of, entries_below, amounts, margin}
+use Rattle.text.specs.declared.Text.{Text}
+use Rattle.text.specs.Inside.Promises.{HasRoom, Appended}
+use Rattle.text.proofs.Laws.{flat_map_append, appended_none, appended_both}
+use Rattle.bill_rules.specs.Bill.{uses, entry_of, entries_below, summed, amounts, margin}
 use Rattle.bill_rules.specs.Billed.{entry_line}
 use Rattle.bill_rules.proofs.Counting.{uses_same, uses_other, uses_few, uses_append}
 use Rattle.bill_rules.proofs.Entries.{amounts_next}
-use Rattle.bill_text.specs.Inside.Promises.{entry_text, CellTold, Countable, TallyIs}
+use Rattle.bill_text.specs.declared.Entry.{Entry}
+use Rattle.bill_text.specs.Inside.Promises.{entry_text, CellTold, Countable, entry_at, no_entry, TallyIs, Tallied, EntriesPut}
 
 -- ---- the margin
 
@@ -63,105 +66,102 @@ module _ (a b : ℕ) (h : a < 2147483648) (g : b < 2147483648) where
 
 -- ---- counting
 
+abbrev entry : (count amount : ℕ) → Entry
+entry count amount = record { count = count; amount = amount }
+
 module _ (l : Library) where
-  pub tally_none : TallyIs l [] (replicate 64 0) (replicate 64 0)
+  pub tally_none : TallyIs l [] (replicate 64 no_entry)
   unfolding uses select
-  tally_none n h = (zeros_at 64 n, zeros_at 64 n ∙ sym (zero-mul (area_of l n)))
+  tally_none n h = get_or-replicate 64 n no_entry no_entry h ∙ ap (entry 0) (sym (zero-mul (area_of l n)))
 
   -- One match more.
   module _ (ys : List Placed) (x : Placed) (c a : ℕ) (is : c ≡ cell_of l x.pattern) (area : a ≡ area_of l (cell_of l x.pattern)) where
-    more_same : (n : ℕ) → n ≡ c → uses l (ys ++ (x ∷ [])) n ≡ uses l ys n + 1
+    more_same : uses l (ys ++ (x ∷ [])) c ≡ uses l ys c + 1
     unfolding uses select
-    more_same n e = uses_append l ys (x ∷ []) n ∙ ap (λ (k : ℕ). uses l ys n + k) (uses_same l x [] n (sym (e ∙ is)))
+    more_same = uses_append l ys (x ∷ []) c ∙ ap (λ (k : ℕ). uses l ys c + k) (uses_same l x [] c (sym is))
 
     more_other : (n : ℕ) → (n ≡ c → ⊥) → uses l (ys ++ (x ∷ [])) n ≡ uses l ys n
     unfolding uses select
     more_other n e = uses_append l ys (x ∷ []) n ∙ ap (λ (k : ℕ). uses l ys n + k) (uses_other l x [] n (λ f. e (sym f ∙ sym is))) ∙ add-zero (uses l ys n)
 
-    tally_more : (counts amounts : List ℕ) → c < length counts → c < length amounts → TallyIs l ys counts amounts → TallyIs l (ys ++ (x ∷ [])) (set counts c (get_or counts c 0 + 1)) (set amounts c (get_or amounts c 0 + a))
-    tally_more counts amounts h g before n small = go (ℕ_discrete n c)
+    tally_more : (entries : List Entry) → c < length entries → TallyIs l ys entries →
+        let old = get_or entries c no_entry in TallyIs l (ys ++ (x ∷ [])) (set entries c (entry (old.count + 1) (old.amount + a)))
+    tally_more entries h before n small = go (ℕ_discrete n c)
       where
-        go : Dec (n ≡ c) → (get_or (set counts c (get_or counts c 0 + 1)) n 0 ≡ uses l (ys ++ (x ∷ [])) n) × (get_or (set amounts c (get_or amounts c 0 + a)) n 0 ≡ uses l (ys ++ (x ∷ [])) n * area_of l n)
+        old : Entry
+        old = get_or entries c no_entry
+
+        go : Dec (n ≡ c) → get_or (set entries c (entry (old.count + 1) (old.amount + a))) n no_entry ≡ entry_at l (ys ++ (x ∷ [])) n
         go (yes e) =
-            let here = before c (omega (arith, e)) in
-            rw e (
-              get_or-set_same counts c (get_or counts c 0 + 1) 0 h ∙ ap (λ (k : ℕ). k + 1) here.0 ∙ sym (more_same c refl),
-              get_or-set_same amounts c (get_or amounts c 0 + a) 0 g
-                  ∙ ap₂ ◌+◌ here.1 (area ∙ ap (area_of l) (sym is))
-                  ∙ sym (ap (λ (k : ℕ). k * area_of l c) (more_same c refl ∙ add-one (uses l ys c)) ∙ suc-mul (uses l ys c) (area_of l c)),
-            )
-        go (no e) = (get_or-set_other counts c n (get_or counts c 0 + 1) 0 e ∙ (before n small).0 ∙ sym (more_other n e), get_or-set_other amounts c n (get_or amounts c 0 + a) 0 e ∙ (before n small).1 ∙ ap (λ (k : ℕ). k * area_of l n) (sym (more_other n e)))
-
--- The patterns that the matches name, in an array.
-abbrev pub Names : List Placed → ℕ → List ℕ → Type 0
-Names xs count patterns = map (λ (x : Placed). x.pattern) xs ≡ take count patterns
-
-placed_names : (count : ℕ) (ns ps xs : List ℕ) → count ≤ length ns → count ≤ length ps → count ≤ length xs → Names (placed_of (take count ns) (take count ps) (take count xs)) count ps
-unfolding placed_of
-placed_names zero ns ps xs a b c = refl
-placed_names (suc k) [] ps xs a b c = absurd (omega arith)
-placed_names (suc k) (n ∷ ns) [] xs a b c = absurd (omega arith)
-placed_names (suc k) (n ∷ ns) (p ∷ ps) [] a b c = absurd (omega arith)
-placed_names (suc k) (n ∷ ns) (p ∷ ps) (x ∷ xs) a b c = ap (λ (r : List ℕ). p ∷ r) (placed_names k ns ps xs (omega arith) (omega arith) (omega arith))
-
-pub cover_names : (cover : CoverRecord) → Room cover → Names (cover_of cover).placed cover.count cover.patterns
-cover_names cover room = placed_names cover.count cover.nodes cover.patterns cover.crossings room.0 room.1 room.2
+            rw e
+            (get_or-set_same entries c (entry (old.count + 1) (old.amount + a)) no_entry h
+            ∙ ap₂ entry
+            (ap (λ (v : Entry). v.count + 1) (before c h) ∙ sym more_same)
+            (ap₂ (λ (v : Entry) (k : ℕ). v.amount + k) (before c h) (area ∙ ap (area_of l) (sym is)) ∙ sym (ap (λ (k : ℕ). k * area_of l c) (more_same ∙ add-one (uses l ys c)) ∙ suc-mul (uses l ys c) (area_of l c))))
+        go (no e) =
+            get_or-set_other entries c n (entry (old.count + 1) (old.amount + a)) no_entry e
+            ∙ before n (omega (arith, length-set {A = Entry}))
+            ∙ ap (λ (k : ℕ). entry k (k * area_of l n)) (sym (more_other n e))
 
 -- A match's row is there, and its cell's numbers are small.
-pub record Here (rows : List ℕ) (row : ℕ) (counts amounts : List ℕ) : Type 0 where
+pub record Here (rows : List ℕ) (row : ℕ) (old : Entry) : Type 0 where
   pub row_in : row + 2 < length rows
   pub cell_small : get_or rows (row + 0) 0 < 64
   pub area_small : get_or rows (row + 2) 0 ≤ 65535
-  pub count_small : get_or counts (get_or rows (row + 0) 0) 0 ≤ 63
-  pub amount_small : get_or amounts (get_or rows (row + 0) 0) 0 ≤ 63 * 65535
+  pub count_small : old.count ≤ 63
+  pub amount_small : old.amount ≤ 63 * 65535
 
 -- Match k of the list, of which the first k are counted.
-module _ (l : Library) (rows : List ℕ) (xs : List Placed) (countable : Countable l rows xs) (count : ℕ) (patterns : List ℕ) (room : count ≤ length patterns) (names : Names xs count patterns) (k : ℕ) (h : k < count) where
-  abbrev nowhere : Placed
-  nowhere = record { node = 0; pattern = 0; crossing = 0 }
-
+module _ (l : Library) (rows : List ℕ) (ms : List MatchRecord) (countable : Countable l rows (map placed_of ms)) (k : ℕ) (h : k < length ms) {pattern : ℕ} (named : pattern ≡ (get_or ms k no_match).pattern) where
   abbrev match : Placed
-  match = get_or xs k nowhere
+  match = placed_of (get_or ms k no_match)
 
   abbrev row : ℕ
-  row = row_words * get_or patterns k 0
-
-  among : k < length xs
-  among = omega (arith, length-map xs (λ (x : Placed). x.pattern), ap length names, length-take-le count patterns room)
-
-  named : match.pattern ≡ get_or patterns k 0
-  named = sym (at_map (λ (x : Placed). x.pattern) xs k nowhere 0 among) ∙ ap (λ (ps : List ℕ). get_or ps k 0) names ∙ get_or-take count patterns k 0 h
+  row = row_words * pattern
 
   told : CellTold l rows match
-  told = countable.told match (at_mem xs k nowhere among)
+  told =
+      let long : k < length (map placed_of ms) = omega (arith, length-map ms placed_of) in
+      countable.told match (subst (λ (x : Placed). Memᴰ x (map placed_of ms)) (at_map placed_of ms k no_match match h) (at_mem (map placed_of ms) k match long))
 
   cell_here : get_or rows (row + 0) 0 ≡ cell_of l match.pattern
-  cell_here = ap (λ (p : ℕ). get_or rows (row_words * p + 0) 0) (sym named) ∙ told.cell_is
+  cell_here = ap (λ (p : ℕ). get_or rows (row_words * p + 0) 0) named ∙ told.cell_is
 
   area_here : get_or rows (row + 2) 0 ≡ area_of l (cell_of l match.pattern)
-  area_here = ap (λ (p : ℕ). get_or rows (row_words * p + 2) 0) (sym named) ∙ told.area_is
+  area_here = ap (λ (p : ℕ). get_or rows (row_words * p + 2) 0) named ∙ told.area_is
 
-  module _ (counts amounts : List ℕ) (tally : TallyIs l (take k xs) counts amounts) where
+  module _ (entries : List Entry) (long : length entries ≡ 64) (tally : TallyIs l (map placed_of (take k ms)) entries) where
     abbrev cell : ℕ
     cell = get_or rows (row + 0) 0
 
-    pub here : Here rows row counts amounts
+    abbrev old : Entry
+    old = get_or entries cell no_entry
+
+    pub here : Here rows row old
     here =
         let small : cell < 64 = omega (arith, cell_here, told.cell_small) in
-        let few : uses l (take k xs) cell ≤ 63 = omega (arith, uses_few l (take k xs) cell, length-take-le k xs (omega (arith, among)), countable.few, among) in
+        let kept : old ≡ entry_at l (map placed_of (take k ms)) cell = tally cell (omega arith) in
+        let few : uses l (map placed_of (take k ms)) cell ≤ 63 = omega (
+          arith,
+          uses_few l (map placed_of (take k ms)) cell,
+          length-map (take k ms) placed_of,
+          length-take-le k ms (omega arith),
+          countable.few,
+          length-map ms placed_of,
+        ) in
         let area : area_of l cell ≤ 65535 = omega (arith, told.area_small, ap (area_of l) cell_here) in
         record {
           row_in = omega (arith, told.row_in, ap (λ (p : ℕ). row_words * p) named);
           cell_small = small;
           area_small = omega (arith, area_here, told.area_small);
-          count_small = omega (arith, (tally cell small).0);
-          amount_small = omega (arith, (tally cell small).1, mul-le-mul few area);
+          count_small = omega (arith, ap (λ (v : Entry). v.count) kept);
+          amount_small = omega (arith, ap (λ (v : Entry). v.amount) kept, mul-le-mul few area);
         }
 
-    pub tally_turn : length counts ≡ 64 → length amounts ≡ 64 → TallyIs l (take (k + 1) xs) (set counts cell (get_or counts cell 0 + 1)) (set amounts cell (get_or amounts cell 0 + get_or rows (row + 2) 0))
-    tally_turn lc la =
-        rw (add-one k, take-suc xs k nowhere among)
-        (tally_more l (take k xs) match cell (get_or rows (row + 2) 0) cell_here area_here counts amounts (omega (arith, here.cell_small)) (omega (arith, here.cell_small)) tally)
+    pub tally_turn : TallyIs l (map placed_of (take (k + 1) ms)) (set entries cell (entry (old.count + 1) (old.amount + get_or rows (row + 2) 0)))
+    tally_turn =
+        rw (add-one k, take-suc ms k no_match h, map-append placed_of (take k ms) (get_or ms k no_match ∷ []))
+        (tally_more l (map placed_of (take k ms)) match cell (get_or rows (row + 2) 0) cell_here area_here entries (omega (arith, here.cell_small)) tally)
 
 -- ---- lines
 
@@ -196,3 +196,33 @@ module _ (l : Library) (xs : List Placed) where
 
   pub lines_within : (n m : ℕ) → n ≤ m → (length (lines n) ≤ length (lines m)) × (amounts (entries_below l xs n) ≤ amounts (entries_below l xs m))
   lines_within n m h = let up : n + (m - n) ≡ m = omega arith in subst (λ (k : ℕ). (length (lines n) ≤ length (lines k)) × (amounts (entries_below l xs n) ≤ amounts (entries_below l xs k))) up (lines_rise n (m - n))
+
+-- The entries of the first n cells are put: there is room for the next, its amount can be added, and it is put after them.
+module _ {l : Library} {xs : List Placed} {entries : List Entry} {first : Text} (h : Tallied l xs entries first) {n : ℕ} (below : n < length entries) {text : Text} {total : ℕ} (so : EntriesPut l xs n first text total) where
+  abbrev next : Entry
+  next = get_or entries n no_entry
+
+  counted : next.count ≡ uses l xs n
+  counted = ap (λ (v : Entry). v.count) (h.tally_is n below)
+
+  totalled : next.amount ≡ uses l xs n * area_of l n
+  totalled = ap (λ (v : Entry). v.amount) (h.tally_is n below)
+
+  within : (length (lines l xs (n + 1)) ≤ length (lines l xs (length entries))) × (amounts (entries_below l xs (n + 1)) ≤ amounts (entries_below l xs (length entries)))
+  within = lines_within l xs (n + 1) (length entries) (omega arith)
+
+  pub entry_fits : HasRoom (entry_text n next.count next.amount) text
+  entry_fits = omega (arith, so.lines_put.len, so.lines_put.same_room, within.0, h.room, simp length-append at (ap length (lines_more l xs n counted totalled)))
+
+  pub sum_fits : total + next.amount < 4294967296
+  sum_fits = omega (arith, so.total_is, within.1, h.small, total_more l xs n counted totalled)
+
+  pub entry_put : {exit : Text} → Appended (entry_text n next.count next.amount) text exit → EntriesPut l xs (n + 1) first exit (total + next.amount)
+  entry_put {exit} put = record {
+    lines_put = subst (λ (w : List ℕ). Appended w first exit) (lines_more l xs n counted totalled) (appended_both so.lines_put put);
+    total_is = ap (λ (k : ℕ). k + next.amount) so.total_is ∙ total_more l xs n counted totalled;
+  }
+
+pub entries_none : (l : Library) (xs : List Placed) (text : Text) → EntriesPut l xs 0 text text 0
+unfolding entries_below flat_map summed
+entries_none l xs text = record { lines_put = appended_none text; total_is = refl }

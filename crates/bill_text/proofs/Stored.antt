@@ -1,10 +1,12 @@
 -- What a legal cover's bill needs: small numbers, room, and that the lines make up its text.
 use Prim.Native.Nat.{ℕ, ◌+◌, ◌≤◌, ◌<◌}
 use mathlib.Core.Path.{◌≡◌, sym, ap, subst, ◌∙◌}
+use mathlib.Core.Bool.{Bool, false}
 use mathlib.Core.List.{List, ◌++◌, flat_map, Memᴰ}
 use native.Mathlib.Omega.{arith}
 use lib.IntN.{ℤ}
-use lib.ListN.{length, length-append}
+use lib.ListN.{length, take, length-append}
+use lib.Seq.{get_or-take, length-take-le}
 use Rattle.fields.specs.Reading.{start}
 use Rattle.fields.specs.Answer.{success}
 use Rattle.sheets_rules.specs.declared.LibraryRead.{LibraryRead}
@@ -27,18 +29,20 @@ use Rattle.covers.proofs.Listing.{known_patterns}
 use Rattle.covers.proofs.FromSheets.{root_bounds, cover_fits}
 use Rattle.result_sheets.specs.declared.CoverRecord.{CoverRecord}
 use Rattle.result_sheets.specs.declared.CoverRead.{CoverRead}
-use Rattle.result_sheets.specs.Public.{cover_of, CoverIs}
+use Rattle.result_sheets.specs.Public.{cover_of, CoverIs, Written}
 use Rattle.judge_rules.specs.Judgement.{judgement}
+use Rattle.text.specs.declared.Text.{Text}
 use Rattle.text.specs.Inside.Promises.{Appended}
-use Rattle.text.proofs.Laws.{appended_three}
+use Rattle.text.proofs.Laws.{appended_both}
 use Rattle.bill_rules.specs.Bill.{entries_below, amounts, margin, bill}
-use Rattle.bill_rules.specs.Billed.{entry_line, total_line, margin_line, bill_text, bill_shown, longest_bill}
+use Rattle.bill_rules.specs.Billed.{is_spoiled, library_part, tree_part, cover_part, entry_line, total_line, margin_line, bill_text, bill_shown, longest_bill, billed, billed_within}
 use Rattle.bill_rules.proofs.Accepted.{accepted}
 use Rattle.bill_rules.proofs.Text.{small_total, bill_short}
 use Rattle.bill_rules.proofs.Demands.{shown_bill}
-use Rattle.frame.specs.Framed.{outcome_text}
-use Rattle.bill_text.specs.declared.Put.{Put}
-use Rattle.bill_text.specs.Inside.Promises.{CellTold, Countable, TallyIs, Tallied, EntriesPut, BillStored}
+use Rattle.frame.specs.Framed.{outcome_text, framed}
+use Rattle.frame.proofs.Laws.{text_within, at_front}
+use Rattle.bill_text.specs.declared.Entry.{Entry}
+use Rattle.bill_text.specs.Inside.Promises.{CellTold, Countable, no_entry, TallyIs, Tallied, EntriesPut, BillStored}
 
 module _ {l : Library} {t : Tree} {rows : List ℕ} {cells : ℕ} {cover : CoverRecord} {required : ℕ} (h : BillStored l t rows cells cover required) where
   abbrev xs : List Placed
@@ -82,18 +86,28 @@ module _ {l : Library} {t : Tree} {rows : List ℕ} {cells : ℕ} {cover : Cover
     length-append (total_line total) (margin_line spare),
   )
 
-  pub listing : {tallied sums : List ℕ} → TallyIs l xs tallied sums → (text : List ℕ) → longest_bill ≤ length text → Tallied l xs tallied sums cells text
-  listing is text room = record {
-    tally_is = is;
-    few_cells = omega (arith, h.cells_are, h.sound.few_cells);
-    small = omega (arith, small_total t h.sound h.tree h.legal, ap (λ (n : ℕ). amounts (entries_below l xs n)) h.cells_are);
-    room = omega (arith, parts_short);
-  }
+  cells_in : cells ≤ 64
+  cells_in = omega (arith, h.cells_are, h.sound.few_cells)
 
-  pub bill_put : {entry one two exit : List ℕ} {r : Put} {at end : ℕ} {z : ℤ} → EntriesPut l xs cells entry one r → Appended (total_line r.total) one r.at two at → Appended (margin_line z) two at exit end → z ≡ spare → Appended (bill_text (bill l t (cover_of cover))) entry 0 exit end
-  bill_put {entry} {one} {two} {exit} {r} {at} {end} {z} a b c e =
-      subst (λ (w : List ℕ). Appended w entry 0 exit end) text_is
-      (appended_three (omega arith) a.lines_put (subst (λ (n : ℕ). Appended (total_line n) one r.at two at) a.total_is b) (subst (λ (k : ℤ). Appended (margin_line k) two at exit end) e c))
+  -- The entries of the library's cells, of those of 64 cells.
+  module _ (entries : List Entry) (long : length entries ≡ 64) where
+    all : length (take cells entries) ≡ cells
+    all = let few = cells_in in length-take-le cells entries (omega arith)
+
+    pub listing : TallyIs l xs entries → (text : Text) → text.len + longest_bill ≤ length text.bytes.now → Tallied l xs (take cells entries) text
+    listing is text room = record {
+      tally_is = λ n below. let low : n < cells = omega (arith, all) in get_or-take cells entries n no_entry low ∙ is n (omega (arith, cells_in));
+      small = omega (arith, small_total t h.sound h.tree h.legal, ap (λ (n : ℕ). amounts (entries_below l xs n)) (all ∙ h.cells_are));
+      room = omega (arith, parts_short, ap (λ (n : ℕ). length (flat_map entry_line (entries_below l xs n))) all);
+    }
+
+    pub listed : {first text : Text} {sum : ℕ} → EntriesPut l xs (length (take cells entries)) first text sum → EntriesPut l xs cells first text sum
+    listed {first} {text} {sum} = subst (λ (n : ℕ). EntriesPut l xs n first text sum) all
+
+  pub bill_put : {first one two exit : Text} {sum : ℕ} {z : ℤ} → EntriesPut l xs cells first one sum → Appended (total_line sum) one two → Appended (margin_line z) two exit → z ≡ spare → Appended (bill_text (bill l t (cover_of cover))) first exit
+  bill_put {first} {one} {two} {exit} a b c e =
+      subst (λ (w : List ℕ). Appended w first exit) text_is
+      (appended_both a.lines_put (appended_both (subst (λ (n : ℕ). Appended (total_line n) one two) a.total_is b) (subst (λ (k : ℤ). Appended (margin_line k) two exit) e c)))
 
 -- ---- what is read of an accepted cover
 
@@ -116,3 +130,14 @@ module _ (ls ts cs : List ℕ) {p : Point} (accepts : judgement ls ts cs ≡ suc
   pub shown_read : bill_text (bill (library_of ls start).0 (tree_of ts start).0 (cover_of cover.cover)) ≡ outcome_text (bill_shown ls ts cs)
   unfolding outcome_text
   shown_read = ap (λ (c : Cover). bill_text (bill (library_of ls start).0 (tree_of ts start).0 c)) hc.cover_is ∙ sym (ap outcome_text (shown_bill ls ts cs accepts))
+
+-- ---- what is printed
+
+pub billed_whole : (input : List ℕ) {ls ts cs : List ℕ} → is_spoiled input ≡ false → ls ≡ library_part input → ts ≡ tree_part input → cs ≡ cover_part input → outcome_text (bill_shown ls ts cs) ≡ billed input
+unfolding billed framed
+billed_whole input whole l t c = (λ i. outcome_text (bill_shown (l i) (t i) (c i))) ∙ sym (ap (λ (b : Bool). framed b (bill_shown (library_part input) (tree_part input) (cover_part input))) whole)
+
+-- What is put into a text that was empty, in a slice with room, is what is to be written.
+pub front_written : (room : ℕ) (input : List ℕ) {before after : List ℕ} {entry exit : Text} → longest_bill ≤ room → entry.bytes.now ≡ before → entry.len ≡ 0 → Appended (billed input) entry exit → after ≡ exit.bytes.now → Written (billed_within room input) before after exit.len
+unfolding billed_within
+front_written room input h is none put left = rw (text_within longest_bill room (billed input) h) (at_front is none put left)

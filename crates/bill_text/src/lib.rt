@@ -1,128 +1,102 @@
 // The text that `bill` prints: the bill of the cover that the last of an input's three sheets says.
 #![tactic(auto)]
 
-ghost use Rattle.std.specs.Prelude.{◌≡◌, List, ◌+◌, ◌≤◌, ◌<◌, ◌^◌, length, take};
+ghost use Rattle.std.specs.Prelude.{◌≡◌, List, ◌+◌, ◌≤◌, ◌<◌, ◌^◌, true, false, map, length, take, MatchOption};
 ghost use Rattle.io.specs.Counts.{IsPrefixLen};
 ghost use Rattle.fields.specs.Answer.{success};
 ghost use Rattle.sheets_rules.specs.Model.{Library, Tree};
 ghost use Rattle.covers.specs.Cover.{Point, Placed};
-ghost use Rattle.covers.specs.CoverSheet.{match_count_width};
-ghost use Rattle.result_sheets.specs.Public.{cover_of, Written};
+ghost use Rattle.result_sheets.specs.Public.{placed_of, Written};
 ghost use Rattle.judge_rules.specs.Judgement.{judgement};
-ghost use Rattle.text.specs.Inside.Promises.{Appended};
+ghost use Rattle.text.specs.Inside.Promises.{HasRoom, Appended};
 ghost use Rattle.frame.specs.Framed.{outcome_text};
 ghost use Rattle.bill_rules.specs.Bill.{margin as marginOf};
-ghost use Rattle.bill_rules.specs.Billed.{total_line, margin_line, bill_shown, longest_bill, billed_within};
+ghost use Rattle.bill_rules.specs.Billed.{is_spoiled, total_line, margin_line, bill_shown, longest_bill, billed, billed_within};
 ghost use Rattle.bill_rules.specs.Demands.{BilledWhereWhole};
-ghost use Rattle.bill_text.specs.Inside.Promises.{entry_text, Countable, Tallies, Tallied, TallyPut, BillStored, BillPut};
+ghost use Rattle.bill_text.specs.Inside.Promises.{entry_text, Countable, Tallies, Tallied, TallyPut, BillStored, BillPut, AreSheets};
 
-use frame::Frame;
+use frame::Sheets;
 use judge_rules::CoverJudged;
-use result_sheets::CoverRecord;
+use result_sheets::{CoverRecord, MatchRecord};
 use sheets_rules::{Limits, PatternRow};
+use text::Text;
 
 // How many lengths an input has: library, tree and cover sheet.
-#[derive(Clone, Copy)]
-struct Input {}
-
-impl Input {
-    const LENGTHS: usize = 3;
-}
+const LENGTHS: usize = 3;
 
 // No text is longer than this: 63 cells, the total and the margin.
+pub const LONGEST: usize = 912;
+
+const CELLS: usize = Limits::CELLS as usize;
+
+// How many matches are of a cell, and their areas added up.
 #[derive(Clone, Copy)]
-pub struct Text {}
-
-impl Text {
-    pub const LONGEST: usize = 912;
+pub struct Entry {
+    pub count: u32,
+    pub amount: u32,
 }
 
-// For each cell how many matches are of it, and their areas added up.
-#[derive(Clone, Copy)]
-pub struct Tally {
-    pub counts: [u32; Tally::CELLS],
-    pub amounts: [u32; Tally::CELLS],
-}
-
-impl Tally {
-    pub const CELLS: usize = Limits::CELLS as usize;
-}
-
-// Where the lines of the cells end, and their total.
-#[derive(Clone, Copy)]
-pub struct Put {
-    pub at: usize,
-    pub total: u32,
-}
-
-// Counts the matches of a cover by their cells.
-fn count_cells(cover: CoverRecord, rows: &[u32]) -> Tally
-    requires { (cover.count < 2 ^ match_count_width) × ((l : Library) × Countable l rows.now (cover_of cover).placed) }
-    ensures { Tallies rows.now (cover_of cover).placed result }
+// Counts matches by their cells, and adds up their areas.
+fn count_cells(matches: &[MatchRecord], rows: &[u32]) -> [Entry; CELLS]
+    requires { (l : Library) × Countable l rows.now (map placed_of matches.now) }
+    ensures { Tallies rows.now (map placed_of matches.now) result }
 {
-    let count = cover.count;
-    let patterns = cover.patterns;
-    let mut counts = [0u32; Tally::CELLS];
-    let mut amounts = [0u32; Tally::CELLS];
-    let mut k = 0;
-    while k < count {
-        let row = PatternRow::WORDS * patterns[k] as usize;
-        let cell = rows[row + PatternRow::CELL] as usize;
-        counts[cell] += 1;
-        amounts[cell] += rows[row + PatternRow::AREA];
-        k += 1;
+    let mut entries = [Entry {
+        count: 0,
+        amount: 0,
+    }; CELLS];
+    for one in matches {
+        let row = PatternRow::WORDS * usize::from(one.pattern);
+        let entry = &mut entries[rows[row + PatternRow::CELL] as usize];
+        entry.count += 1;
+        entry.amount += rows[row + PatternRow::AREA];
     }
-    Tally { counts, amounts }
+    entries
 }
 
-// The line of a cell, if it is used.
-fn put_entry(text: &mut [u8], at: usize, cell: usize, count: u32, amount: u32) -> usize
-    requires { at + length (entry_text cell count amount) ≤ length text.old }
-    ensures { Appended (entry_text cell count amount) text.old at text.new result }
+// Puts the line of a cell, if it is used.
+fn put_entry(text: &mut Text, cell: usize, entry: Entry)
+    requires { HasRoom (entry_text cell entry.count entry.amount) text.old }
+    ensures { Appended (entry_text cell entry.count entry.amount) text.old text.new }
 {
-    if count == 0 {
-        return at;
+    if entry.count == 0 {
+        return;
     }
-    let second = text::put_number(text, at, cell as u64);
-    text::put_last(text, second, count as u64, amount as u64)
+    text.put_number(cell as u64);
+    text.put_last(u64::from(entry.count), u64::from(entry.amount));
 }
 
-// A line for each of `cells` cells that is used.
-fn put_entries(text: &mut [u8], tally: Tally, cells: usize) -> Put
-    requires { (l : Library) × ((xs : List Placed) × Tallied l xs tally.counts tally.amounts cells text.old) }
-    ensures { TallyPut tally cells text.old text.new result }
+// Puts a line for each cell that is used, and answers the total.
+fn put_entries(text: &mut Text, entries: &[Entry]) -> u32
+    requires { (l : Library) × ((xs : List Placed) × Tallied l xs entries.now text.old) }
+    ensures { TallyPut entries.now text.old text.new result }
 {
-    let counts = tally.counts;
-    let amounts = tally.amounts;
-    let mut at = 0;
-    let mut total: u32 = 0;
-    let mut n = 0;
-    while n < cells {
-        at = put_entry(text, at, n, counts[n], amounts[n]);
-        total += amounts[n];
-        n += 1;
+    let mut total = 0;
+    for (cell, entry) in entries.iter().enumerate() {
+        put_entry(text, cell, *entry);
+        total += entry.amount;
     }
-    Put { at, total }
+    total
 }
 
-// The line of the total.
-fn put_total(text: &mut [u8], at: usize, total: u32) -> usize
-    requires { at + length (total_line total) ≤ length text.old }
-    ensures { Appended (total_line total) text.old at text.new result }
+// Puts the line of the total.
+fn put_total(text: &mut Text, total: u32)
+    requires { HasRoom (total_line total) text.old }
+    ensures { Appended (total_line total) text.old text.new }
 {
-    let second = text::put_word(text, at, b"total ");
-    let end = text::put_number(text, second, total as u64);
-    text::put_word(text, end, b"\n")
+    text.put_word(b"total ");
+    text.put_number(u64::from(total));
+    text.put_word(b"\n");
 }
 
-// The line of the margin.
-fn put_margin(text: &mut [u8], at: usize, margin: i32) -> usize
-    requires { at + length (margin_line margin) ≤ length text.old }
-    ensures { Appended (margin_line margin) text.old at text.new result }
+// Puts the line of the margin.
+fn put_margin(text: &mut Text, margin: i32)
+    requires { HasRoom (margin_line margin) text.old }
+    ensures { Appended (margin_line margin) text.old text.new }
 {
-    let second = text::put_word(text, at, b"margin ");
-    let end = text::put_signed(text, second, margin);
-    text::put_word(text, end, b"\n")
+    text.put_word(b"margin ");
+    text.put_signed(margin);
+    text.put_word(b"\n");
 }
 
 // The required time minus the arrival: negative for a late cover.
@@ -133,43 +107,61 @@ fn margin_of(required: u32, arrival: u32) -> i32
     required as i32 - arrival as i32
 }
 
-// The bill of a legal cover.
-fn put_bill(text: &mut [u8], rows: &[u32], cells: usize, cover: CoverRecord, required: u32) -> usize
-    requires { (longest_bill ≤ length text.old) × ((l : Library) × ((t : Tree) × BillStored l t rows.now cells cover required)) }
-    ensures { BillPut rows.now cells cover required text.old text.new result }
+// Puts the bill of a legal cover.
+fn put_bill(text: &mut Text, rows: &[u32], cells: usize, cover: CoverRecord, required: u32)
+    requires { (text.old.len + longest_bill ≤ length text.old.bytes.now) × ((l : Library) × ((t : Tree) × BillStored l t rows.now cells cover required)) }
+    ensures { BillPut rows.now cells cover required text.old text.new }
 {
-    let margin = margin_of(required, cover.arrival);
-    let tally = count_cells(cover, rows);
-    let put = put_entries(text, tally, cells);
-    let at = put_total(text, put.at, put.total);
-    put_margin(text, at, margin)
+    let entries = count_cells(&cover.matches[..cover.count], rows);
+    let total = put_entries(text, &entries[..cells]);
+    put_total(text, total);
+    put_margin(text, margin_of(required, cover.arrival));
 }
 
-// The bill of an accepted cover.
-fn put_accepted(text: &mut [u8], library: &[u8], tree: &[u8], cover: &[u8]) -> usize
-    requires { (longest_bill ≤ length text.old) × ((p : Point) × (judgement library.now tree.now cover.now ≡ success p)) }
-    ensures { Appended (outcome_text (bill_shown library.now tree.now cover.now)) text.old 0 text.new result }
+// Puts the bill of an accepted cover.
+fn put_accepted(text: &mut Text, library: &[u8], tree: &[u8], cover: &[u8])
+    requires { (text.old.len + longest_bill ≤ length text.old.bytes.now) × ((p : Point) × (judgement library.now tree.now cover.now ≡ success p)) }
+    ensures { Appended (outcome_text (bill_shown library.now tree.now cover.now)) text.old text.new }
 {
-    let read = library::read_library(library);
-    let decoded = read.library;
-    let rows = decoded.rows;
-    let cells = decoded.count;
-    let read = tree::read_tree(tree);
-    let decoded = read.tree;
-    let required = decoded.required;
-    let read = result_sheets::read_cover(cover);
-    put_bill(text, &rows, cells, read.cover, required)
+    let library = library::read_library(library).library;
+    let required = tree::read_tree(tree).tree.required;
+    let cover = result_sheets::read_cover(cover).cover;
+    put_bill(text, &library.rows, library.count, cover, required);
 }
 
-// What is said of a cover: the refusal, or its bill.
-fn put_judged(text: &mut [u8], library: &[u8], tree: &[u8], cover: &[u8]) -> usize
-    requires { longest_bill ≤ length text.old }
-    ensures { Appended (outcome_text (bill_shown library.now tree.now cover.now)) text.old 0 text.new result }
+// Puts what is said of a cover: the refusal, or its bill.
+fn put_judged(text: &mut Text, library: &[u8], tree: &[u8], cover: &[u8])
+    requires { text.old.len + longest_bill ≤ length text.old.bytes.now }
+    ensures { Appended (outcome_text (bill_shown library.now tree.now cover.now)) text.old text.new }
 {
-    let judged = judge::judge_cover(library, tree, cover);
-    match judged {
+    match judge::judge_cover(library, tree, cover) {
         CoverJudged::Refused(refusal) => frame::put_refusal(text, refusal),
         CoverJudged::Accepted(_, _) => put_accepted(text, library, tree, cover),
+    }
+}
+
+// The library, the tree and the cover sheet of an input; none if it is spoiled.
+fn sheets_of(input: &[u8]) -> Option<(&[u8], &[u8], &[u8])>
+    ensures { MatchOption result (is_spoiled input.now ≡ true) (AreSheets input.now) }
+{
+    let mut left = Sheets::of_input(input, LENGTHS)?;
+    let library = left.take_sheet()?;
+    let tree = left.take_sheet()?;
+    let cover = left.take_sheet()?;
+    if !left.bytes.is_empty() {
+        return None;
+    }
+    Some((library, tree, cover))
+}
+
+// Puts what is printed for an input.
+fn put_billed(text: &mut Text, input: &[u8])
+    requires { text.old.len + longest_bill ≤ length text.old.bytes.now }
+    ensures { Appended (billed input.now) text.old text.new }
+{
+    match sheets_of(input) {
+        None => frame::put_spoiled(text),
+        Some((library, tree, cover)) => put_judged(text, library, tree, cover),
     }
 }
 
@@ -180,34 +172,17 @@ pub fn print_bill(input: &[u8], text: &mut [u8]) -> usize
     ensures prefix_len { IsPrefixLen result text.new }
     ensures billed_where_whole { BilledWhereWhole (length text.old) input.now (take result text.new) }
 {
-    if text.len() < Text::LONGEST {
+    if text.len() < LONGEST {
         return 0;
     }
-    let split = frame::split_input(input, Input::LENGTHS, true);
-    if split.spoiled {
-        return frame::put_spoiled(text);
-    }
-    let places = split.places;
-    let library = places[0];
-    let tree = places[1];
-    let cover = places[2];
-    let end = places[3];
-    put_judged(
-        text,
-        &input[library..tree],
-        &input[tree..cover],
-        &input[cover..end],
-    )
+    let mut text = Text::new(text);
+    put_billed(&mut text, input);
+    text.len
 }
 
 // Reads an input from standard input and prints its text; answers how many bytes were printed.
 pub fn run() -> usize
     ensures { result ≤ longest_bill }
 {
-    let mut input = [0u8; Frame::BUFFER];
-    let count = frame::read_input(&mut input);
-    let mut text = [0u8; Text::LONGEST];
-    let length = print_bill(&input[..count], &mut text);
-    io::write_all(Frame::STDOUT, &text[..length]);
-    length
+    frame::run(&mut [0u8; LONGEST], print_bill)
 }

@@ -2,22 +2,20 @@
 use Prim.Native.Nat.{ℕ, zero, suc, ◌+◌, ◌-◌, ◌*◌, ◌/◌, ◌%◌, ◌^◌, ◌≤◌, ◌<◌}
 use mathlib.Core.Path.{◌≡◌, refl, sym, ap, ap₂, subst, ◌∙◌}
 use mathlib.Core.Bool.{Bool, true, false, cond, true≢false}
-use mathlib.Core.List.{List, [], ◌∷◌, ◌++◌, flat_map, append_assoc, Memᴰ}
-use native.Mathlib.Nat.{add-zero, zero-add, add_assoc, mul-suc, pow-suc, pow-le-pow_right, mod-eq_of_lt}
+use mathlib.Core.List.{List, [], ◌∷◌, ◌++◌, flat_map, append-nil, append_assoc, Memᴰ}
+use native.Mathlib.Nat.{add-zero, mul-suc, pow-suc, pow-le-pow_right, mod-eq_of_lt}
 use native.Mathlib.Decide.{dec_lt}
 use native.Mathlib.Omega.{arith}
 use borrow.Author.Tests.{lt-ltb, le-ltb, ltb-true}
 use lib.IntN.{ℤ, pos, negsuc, nat_abs, ◌-ℤ◌}
-use lib.ListN.{length, take, drop, length-append}
-use lib.Seq.{paste, paste-zero, take-length, length-take-le, take_at, drop_at, drop-drop}
-use lib.Dec.{T, ltb}
-use lib.Signed.{mag, non_neg, lt_z}
-use mir.Syntax.{w32, w64}
-use mir.Val.{Fits, SFits, to_z, of_z}
-use mir.ValLaws.{to_z-of_z}
+use lib.ListN.{length, drop, length-append}
+use lib.Seq.{drop-drop}
+use lib.Dec.{ltb}
+use lib.Signed.{lt_z}
 use Rattle.io.specs.Digits.{hex_digit_ascii, last_digits, IsDigitCount}
 use Rattle.text.specs.Text.{digit, decimal_in, decimal, minus, signed, spaced, line}
-use Rattle.text.specs.Inside.Promises.{Appended}
+use Rattle.text.specs.declared.Text.{Text}
+use Rattle.text.specs.Inside.Promises.{text_of, Appended}
 
 -- ---- numbers
 
@@ -100,37 +98,6 @@ not_negative : (z : ℤ) → lt_z z (pos 0) ≡ false → (k : ℕ) × (z ≡ po
 not_negative (pos k) t = (k, refl)
 not_negative (negsuc n) t = absurd (true≢false t)
 
--- A negative integer of 32 bits taken from 0 in 64 bits.
-module _ (z : ℤ) (f : SFits w32 z) where
-  abbrev opposite : ℤ
-  opposite = pos 0 -ℤ to_z w64 (of_z w64 z)
-
-  -- What the subtraction asks, what the cast to an unsigned number asks, and that the result is how far the integer is from 0.
-  pub record Negated : Type 0 where
-    pub subtracts : SFits w64 opposite
-    pub casts : T (non_neg (to_z w64 (of_z w64 opposite))) × Fits w64 (nat_abs (to_z w64 (of_z w64 opposite)))
-    pub result : nat_abs (to_z w64 (of_z w64 opposite)) ≡ nat_abs z
-
-  pub fits_wide : SFits w64 z
-  fits_wide = record { sfits = omega (arith, f.sfits) }
-
-  pub negated : lt_z z (pos 0) ≡ true → Negated
-  negated t =
-      let (k, e) = is_negative z t in
-      let small : k < 2147483648 = omega (arith, f.sfits, ap mag e) in
-      let opposite-is : opposite ≡ pos (suc k) = ap (λ (v : ℤ). pos 0 -ℤ v) (to_z-of_z w64 z fits_wide ∙ e) ∙ ap pos (zero-add (suc k)) in
-      let fits : SFits w64 opposite = subst (SFits w64) (sym opposite-is) (record { sfits = omega arith }) in
-      let read : to_z w64 (of_z w64 opposite) ≡ pos (suc k) = to_z-of_z w64 opposite fits ∙ opposite-is in
-      record {
-        subtracts = fits;
-        casts = subst (λ (v : ℤ). T (non_neg v) × Fits w64 (nat_abs v)) (sym read) (tt, record { fits = omega arith });
-        result = ap nat_abs read ∙ sym (ap nat_abs e);
-      }
-
-  -- One that is not negative, cast to an unsigned number.
-  pub unsigned_casts : lt_z z (pos 0) ≡ false → T (non_neg z) × Fits w64 (nat_abs z)
-  unsigned_casts t = let (k, e) = not_negative z t in subst (λ (v : ℤ). T (non_neg v) × Fits w64 (nat_abs v)) (sym e) (tt, record { fits = omega (arith, f.sfits, ap mag e) })
-
 -- The text of an integer, by its sign.
 pub signed_negative : (z : ℤ) → lt_z z (pos 0) ≡ true → signed z ≡ minus ∷ decimal (nat_abs z)
 unfolding signed
@@ -165,34 +132,18 @@ module _ {A : Type 0} (f : A → List ℕ) where
 
 -- ---- text put into a slice
 
--- A word copied whole.
-pub word_put : (entry word exit : List ℕ) (at k : ℕ) → k ≡ length word → exit ≡ paste entry at word k → Appended word entry at exit (at + k)
-word_put entry word exit at k e p = record {
-  place = ap (λ (j : ℕ). at + j) e;
-  text = p ∙ ap (λ (j : ℕ). paste entry at word j) e ∙ ap (λ (w : List ℕ). take at entry ++ w ++ drop (at + length word) entry) (take-length word);
-}
-
 -- Nothing put.
-pub appended_none : (entry : List ℕ) (at : ℕ) → Appended [] entry at entry at
-appended_none entry at = record { place = sym (add-zero at); text = paste-zero entry at [] }
+pub appended_none : (t : Text) → Appended [] t t
+appended_none t = record { same_slice = refl; same_room = refl; len = sym (add-zero t.len); text = sym (append-nil (text_of t)); rest = refl }
 
 -- What is put after what was put is put with it.
-pub appended_both : {u v entry mid exit : List ℕ} {at a b : ℕ} → at ≤ length entry → Appended u entry at mid a → Appended v mid a exit b → Appended (u ++ v) entry at exit b
-appended_both {u} {v} {entry} {mid} {exit} {at} {a} {b} h p q =
-    let front : List ℕ = take at entry ++ u in
-    let long : length front ≡ a = length-append (take at entry) u ∙ ap (λ (k : ℕ). k + length u) (length-take-le at entry h) ∙ sym p.place in
-    let seam : mid ≡ front ++ drop (at + length u) entry = p.text in
-    let joined : length (u ++ v) ≡ length u + length v = length-append u v in
+pub appended_both : {u v : List ℕ} {entry mid exit : Text} → Appended u entry mid → Appended v mid exit → Appended (u ++ v) entry exit
+appended_both {u} {v} {entry} {mid} {exit} p q =
+    let past : (s : List ℕ) → drop exit.len s ≡ drop (length v) (drop mid.len s) = λ s. ap (λ (k : ℕ). drop k s) q.len ∙ sym (drop-drop (length v) mid.len s) in
     record {
-      place = omega (arith, p.place, q.place, joined);
-      text =
-          q.text
-          ∙ ap₂ (λ (x y : List ℕ). x ++ v ++ y)
-          (ap (take a) seam ∙ take_at front (drop (at + length u) entry) a long)
-          (sym (drop-drop (length v) a mid) ∙ ap (drop (length v)) (ap (drop a) seam ∙ drop_at front (drop (at + length u) entry) a long) ∙ drop-drop (length v) (at + length u) entry)
-          ∙ ap₂ (λ (x : List ℕ) (k : ℕ). x ++ drop k entry) (append_assoc (take at entry) u v) (add_assoc at (length u) (length v) ∙ ap (λ (k : ℕ). at + k) (sym joined));
+      same_slice = q.same_slice ∙ p.same_slice;
+      same_room = q.same_room ∙ p.same_room;
+      len = omega (arith, p.len, q.len, length-append u v);
+      text = q.text ∙ ap (λ (s : List ℕ). s ++ v) p.text ∙ append_assoc (text_of entry) u v;
+      rest = q.rest ∙ past mid.bytes.now ∙ ap (drop (length v)) p.rest ∙ sym (past entry.bytes.now);
     }
-
-pub appended_three : {u v w entry one two exit : List ℕ} {at a b r : ℕ} → at ≤ length entry → Appended u entry at one a → Appended v one a two b → Appended w two b exit r → Appended (u ++ (v ++ w)) entry at exit r
-appended_three {u} {v} {w} {entry} {exit = exit} {at} {r = r} h p q s =
-    subst (λ (x : List ℕ). Appended x entry at exit r) (append_assoc u v w) (appended_both h (appended_both h p q) s)

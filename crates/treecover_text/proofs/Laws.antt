@@ -1,14 +1,14 @@
 -- Laws about the lines that are put.
 use Prim.Native.Nat.{ℕ, zero, suc, ◌+◌, ◌*◌, ◌≤◌, ◌<◌}
 use mathlib.Core.Path.{◌≡◌, sym, ap, ap₂, subst, ◌∙◌}
-use mathlib.Core.List.{List, [], ◌∷◌, ◌++◌, flat_map, append-nil, append_assoc, Memᴰ}
+use mathlib.Core.List.{List, [], ◌∷◌, ◌++◌, map, map-append, flat_map, append-nil, Memᴰ}
 use native.Mathlib.Nat.{add-zero}
 use native.Mathlib.Omega.{arith}
 use native.Mathlib.Numerals.{add-one}
-use lib.ListN.{length, take, get_or, length-append}
-use lib.Seq.{take_all}
+use lib.ListN.{length, take, drop, get_or, length-append, length-map, take-append-drop}
+use lib.Seq.{take-suc}
 use Rattle.fields.specs.Reading.{Live, start}
-use Rattle.fields.proofs.Lists.{at_mem}
+use Rattle.fields.proofs.Lists.{at_mem, at_map}
 use Rattle.sheets_rules.specs.declared.LibraryRead.{LibraryRead}
 use Rattle.sheets_rules.specs.declared.LibraryRecord.{LibraryRecord}
 use Rattle.sheets_rules.specs.LibrarySheet.{library as library_of}
@@ -21,11 +21,13 @@ use Rattle.fields.proofs.Answer.{says_holds}
 use Rattle.covers.specs.Cover.{Placed, Cover}
 use Rattle.result_sheets.specs.declared.CoverRecord.{CoverRecord}
 use Rattle.result_sheets.specs.declared.CoverRead.{CoverRead}
-use Rattle.result_sheets.specs.Public.{cover_of, CoverIs}
-use Rattle.result_sheets.proofs.Laws.{placed_at, Room, many}
+use Rattle.result_sheets.specs.declared.MatchRecord.{MatchRecord}
+use Rattle.result_sheets.specs.Public.{placed_of, cover_of, CoverIs}
+use Rattle.result_sheets.proofs.Laws.{Room, many}
+use Rattle.text.specs.declared.Text.{Text}
 use Rattle.text.specs.Text.{decimal, spaced, line}
 use Rattle.text.specs.Inside.Promises.{Appended}
-use Rattle.text.proofs.Laws.{length_spaced, length_line, appended_none, appended_both}
+use Rattle.text.proofs.Laws.{length_spaced, length_line, flat_map_append, appended_none, appended_both}
 use Rattle.treecover_text.specs.Printed.{cover_word, cover_line}
 use Rattle.treecover_text.specs.Inside.Rows.{rows_of, cover_in, row_line, row_lines, row_text, HaveRows, Printable}
 
@@ -53,57 +55,50 @@ module _ (rows : List ℕ) (node pattern crossing : ℕ) where
 
 -- ---- the lines of the matches
 
-module _ (rows : List ℕ) where
-  pub no_lines : (entry : List ℕ) (from : ℕ) → Appended (row_lines rows []) entry from entry from
+-- The lines of some of the matches that are kept, and the line of match k.
+module _ (rows : List ℕ) (ms : List MatchRecord) where
+  abbrev pub lines : List MatchRecord → List ℕ
+  lines xs = row_lines rows (map placed_of xs)
+
+  pub lines_none : (t : Text) → Appended (lines (take 0 ms)) t t
   unfolding row_lines flat_map
-  no_lines entry from = appended_none entry from
+  lines_none t = appended_none t
 
-  lines_fit : (xs : List Placed) (k : ℕ) (d : Placed) → k < length xs → length (row_lines rows (take k xs)) + length (row_line rows (get_or xs k d)) ≤ length (row_lines rows xs)
-  unfolding row_lines flat_map
-  lines_fit [] k d h = absurd (omega arith)
-  lines_fit (x ∷ xs) zero d h = omega (arith, length-append (row_line rows x) (row_lines rows xs))
-  lines_fit (x ∷ xs) (suc k) d h = omega (arith, length-append (row_line rows x) (row_lines rows xs), length-append (row_line rows x) (row_lines rows (take k xs)), lines_fit xs k d (omega arith))
+  lines_append : (xs ys : List MatchRecord) → lines (xs ++ ys) ≡ lines xs ++ lines ys
+  unfolding row_lines
+  lines_append xs ys = ap (flat_map (row_line rows)) (map-append placed_of xs ys) ∙ flat_map_append (row_line rows) (map placed_of xs) (map placed_of ys)
 
-  lines_more : (xs : List Placed) (k : ℕ) (d : Placed) → k < length xs → row_lines rows (take k xs) ++ row_line rows (get_or xs k d) ≡ row_lines rows (take (suc k) xs)
-  unfolding row_lines flat_map
-  lines_more [] k d h = absurd (omega arith)
-  lines_more (x ∷ xs) zero d h = sym (append-nil (row_line rows x))
-  lines_more (x ∷ xs) (suc k) d h = append_assoc (row_line rows x) (row_lines rows (take k xs)) (row_line rows (get_or xs k d)) ∙ ap (λ (r : List ℕ). row_line rows x ++ r) (lines_more xs k d (omega arith))
+  module _ (k : ℕ) (d : MatchRecord) (h : k < length ms) where
+    abbrev match : MatchRecord
+    match = get_or ms k d
 
--- Match k of a cover.
-module _ (rows : List ℕ) (cover : CoverRecord) (k : ℕ) (h : k < cover.count) (room : Room cover) where
-  abbrev matches : List Placed
-  matches = (cover_of cover).placed
+    line_more : lines (take k ms) ++ row_line rows (placed_of match) ≡ lines (take (k + 1) ms)
+    unfolding row_lines flat_map
+    line_more = rw (add-one k, take-suc ms k d h, lines_append (take k ms) (match ∷ []), append-nil)
 
-  abbrev match : Placed
-  match = record { node = get_or cover.nodes k 0; pattern = get_or cover.patterns k 0; crossing = get_or cover.crossings k 0 }
+    pub line_fits : length (lines (take k ms)) + length (row_line rows (placed_of match)) ≤ length (lines ms)
+    line_fits = omega (
+      arith,
+      length-append (lines (take k ms)) (row_line rows (placed_of match)),
+      ap length line_more,
+      length-append (lines (take (k + 1) ms)) (lines (drop (k + 1) ms)),
+      ap length (lines_append (take (k + 1) ms) (drop (k + 1) ms)),
+      ap (λ (xs : List MatchRecord). length (lines xs)) (take-append-drop (k + 1) ms),
+    )
 
-  here : get_or matches k match ≡ match
-  here = placed_at cover.count k cover.nodes cover.patterns cover.crossings match h room.0 room.1 room.2
+    pub line_row : HaveRows rows (map placed_of ms) → row_words * match.pattern < length rows
+    line_row rowed =
+        let x = placed_of match in
+        let long : k < length (map placed_of ms) = omega (arith, length-map ms placed_of) in
+        rowed x (subst (λ (y : Placed). Memᴰ y (map placed_of ms)) (at_map placed_of ms k d x h) (at_mem (map placed_of ms) k x long))
 
-  among : k < length matches
-  among = omega (arith, many cover room)
+    pub line_put : {entry text exit : Text} → Appended (lines (take k ms)) entry text → Appended (row_line rows (placed_of match)) text exit → Appended (lines (take (k + 1) ms)) entry exit
+    line_put {entry} {exit = exit} p q = subst (λ (w : List ℕ). Appended w entry exit) line_more (appended_both p q)
 
-  pub match_row : HaveRows rows matches → row_words * get_or cover.patterns k 0 < length rows
-  match_row rowed = rowed match (subst (λ (x : Placed). Memᴰ x matches) here (at_mem matches k match among))
-
-  pub match_fits : length (row_lines rows (take k matches)) + length (row_line rows match) ≤ length (row_lines rows matches)
-  match_fits = rw here at (lines_fit rows matches k match among)
-
-  pub match_turn : {entry text exit : List ℕ} {from at r : ℕ} → from ≤ length entry → Appended (row_lines rows (take k matches)) entry from text at → Appended (row_line rows match) text at exit r → Appended (row_lines rows (take (k + 1) matches)) entry from exit r
-  match_turn {entry} {exit = exit} {from} {r = r} l p q =
-      subst (λ (w : List ℕ). Appended w entry from exit r)
-      (ap (λ (x : Placed). row_lines rows (take k matches) ++ row_line rows x) (sym here) ∙ lines_more rows matches k match among ∙ ap (λ (j : ℕ). row_lines rows (take j matches)) (sym (add-one k)))
-      (appended_both l p q)
-
--- All of them.
-module _ (cover : CoverRecord) (room : Room cover) where
-  pub matches_done : (k : ℕ) → k ≡ cover.count → take k (cover_of cover).placed ≡ (cover_of cover).placed
-  matches_done k e = take_all k (cover_of cover).placed (omega (arith, many cover room))
-
-  pub cover_text_lem : (rows : List ℕ) → cover_line cover.area cover.arrival cover.count ++ row_lines rows (cover_of cover).placed ≡ row_text rows (cover_of cover)
-  unfolding row_text
-  cover_text_lem rows = ap (λ (n : ℕ). cover_line cover.area cover.arrival n ++ row_lines rows (cover_of cover).placed) (sym (many cover room))
+-- The lines of a cover.
+pub cover_text_lem : (cover : CoverRecord) → Room cover → (rows : List ℕ) → cover_line cover.area cover.arrival cover.count ++ row_lines rows (cover_of cover).placed ≡ row_text rows (cover_of cover)
+unfolding row_text
+cover_text_lem cover room rows = ap (λ (n : ℕ). cover_line cover.area cover.arrival n ++ row_lines rows (cover_of cover).placed) (sym (many cover room))
 
 -- ---- what is read back
 
@@ -114,5 +109,5 @@ module _ {library sheet : List ℕ} {read : LibraryRead} {found : CoverRead} (h 
   pub text_read : row_text read.library.rows (cover_of found.cover) ≡ row_text (rows_of library) (cover_in sheet)
   text_read = ap₂ row_text rows_read g.cover_is
 
-  pub printable_read : (text : List ℕ) → Printable (rows_of library) (cover_in sheet) text → Printable read.library.rows (cover_of found.cover) text
+  pub printable_read : (text : Text) → Printable (rows_of library) (cover_in sheet) text → Printable read.library.rows (cover_of found.cover) text
   printable_read text p = subst (λ (r : List ℕ). Printable r (cover_of found.cover) text) (sym rows_read) (subst (λ (c : Cover). Printable (rows_of library) c text) (sym g.cover_is) p)

@@ -32,9 +32,11 @@ use Rattle.covers.proofs.Demands.{operation_alike}
 use Rattle.map_rules.specs.declared.Reply.{Reply}
 use Rattle.map_rules.specs.Public.{of_reply, Operated}
 use Rattle.result_sheets.specs.Public.{Written}
+use Rattle.text.specs.declared.Text.{Text}
+use Rattle.text.specs.Inside.Promises.{Appended}
 use Rattle.frame.specs.Framed as Framed
 use Rattle.frame.specs.Framed.{spoiled, rest, refusal_line, outcome_text}
-use Rattle.frame.proofs.Laws.{text_whole, front_is}
+use Rattle.frame.proofs.Laws.{text_within, text_whole, at_front, front_is}
 use Rattle.treecover_text.specs.Printed.{cover_text, text_answer, words_lent, map_shown, ShownAlike, longest_text, printed, printed_within}
 use Rattle.treecover_text.specs.Demands.{TextDemands, PrintedWhereWhole}
 use Rattle.treecover_text.specs.Inside.Rows.{cover_in, row_text, HaveRows}
@@ -137,6 +139,11 @@ module _ (ls ts : List ℕ) where
 
   pub text_demands : (text : List ℕ) → text ≡ outcome_text (map_shown ls ts) → TextDemands ls ts text
   text_demands text e = rw e (demands shown refl)
+
+-- What is put into a text that was empty, in a slice with room, is what is to be written.
+pub front_written : (room : ℕ) (input : List ℕ) {before after : List ℕ} {entry exit : Text} → longest_text ≤ room → entry.bytes.now ≡ before → entry.len ≡ 0 → Appended (printed input) entry exit → after ≡ exit.bytes.now → Written (printed_within room input) before after exit.len
+unfolding printed_within
+front_written room input h is none put left = rw (text_within longest_text room (printed input) h) (at_front is none put left)
 
 -- What is written at the front of a text is worth what is demanded.
 pub text_worth : (room : ℕ) (input : List ℕ) {entry exit : List ℕ} {r : ℕ} → Written (printed_within room input) entry exit r → PrintedWhereWhole room input (take r exit)

@@ -1,111 +1,111 @@
 // The text that `treecover` prints: the outcome of map for an input that holds a library and a tree.
 #![tactic(auto)]
 
-ghost use Rattle.std.specs.Prelude.{◌+◌, ◌*◌, ◌<◌, ◌≤◌, ◌^◌, length, take};
+ghost use Rattle.std.specs.Prelude.{◌≡◌, ◌+◌, ◌*◌, ◌<◌, ◌≤◌, ◌^◌, true, false, length, map, take, MatchOption};
 ghost use Rattle.io.specs.Counts.{IsPrefixLen};
 ghost use Rattle.fields.specs.Reading.{Live, start};
 ghost use Rattle.sheets_rules.specs.LibrarySheet.{library as library_of};
 ghost use Rattle.sheets_rules.specs.Inside.Layout.{row_words};
 ghost use Rattle.covers.specs.CoverSheet.{match_count_width};
-ghost use Rattle.result_sheets.specs.Public.{cover_of, Written};
-ghost use Rattle.text.specs.Inside.Promises.{Appended};
-ghost use Rattle.frame.specs.Framed.{outcome_text};
-ghost use Rattle.treecover_text.specs.Printed.{cover_line, map_shown, longest_text, printed_within};
+ghost use Rattle.result_sheets.specs.Public.{placed_of, cover_of, Written};
+ghost use Rattle.text.specs.Inside.Promises.{HasRoom, Appended};
+ghost use Rattle.frame.specs.Framed.{spoiled, outcome_text};
+ghost use Rattle.treecover_text.specs.Printed.{cover_line, map_shown, longest_text, printed, printed_within};
 ghost use Rattle.treecover_text.specs.Demands.{PrintedWhereWhole};
-ghost use Rattle.treecover_text.specs.Inside.Rows.{rows_of, cover_in, row_line, row_lines, row_text, HaveRows, Printable};
+ghost use Rattle.treecover_text.specs.Inside.Rows.{rows_of, cover_in, row_line, row_lines, row_text, HaveRows, Printable, AreSheets};
 
-use frame::Frame;
+use frame::Sheets;
 use map_rules::Reply;
-use result_sheets::CoverRecord;
+use result_sheets::{CoverRecord, MatchRecord};
 use sheets_rules::{Limits, PatternRow};
+use text::Text;
 
 // How many lengths an input has: the library's alone.
-#[derive(Clone, Copy)]
-struct Input {}
-
-impl Input {
-    const LENGTHS: usize = 1;
-}
+const LENGTHS: usize = 1;
 
 // No text is longer than this: that of a cover of 63 matches.
-#[derive(Clone, Copy)]
-pub struct Text {}
+pub const LONGEST: usize = 844;
 
-impl Text {
-    pub const LONGEST: usize = 844;
+// Puts the first line of a cover.
+fn put_head(text: &mut Text, area: u32, arrival: u32, count: usize)
+    requires { HasRoom (cover_line area arrival count) text.old }
+    ensures { Appended (cover_line area arrival count) text.old text.new }
+{
+    text.put_word(b"cover");
+    text.put_spaced(u64::from(area));
+    text.put_last(u64::from(arrival), count as u64);
 }
 
-// The first line of a cover.
-fn put_head(text: &mut [u8], area: u32, arrival: u32, count: usize) -> usize
-    requires { length (cover_line area arrival count) ≤ length text.old }
-    ensures { Appended (cover_line area arrival count) text.old 0 text.new result }
+// Puts the line of a match.
+fn put_match(text: &mut Text, one: MatchRecord, rows: &[u32])
+    requires { (row_words * one.pattern < length rows.now) × HasRoom (row_line rows.now (placed_of one)) text.old }
+    ensures { Appended (row_line rows.now (placed_of one)) text.old text.new }
 {
-    let second = text::put_word(text, 0, b"cover");
-    let third = text::put_spaced(text, second, area as u64);
-    text::put_last(text, third, arrival as u64, count as u64)
+    let cell = rows[PatternRow::WORDS * usize::from(one.pattern) + PatternRow::CELL];
+    text.put_number(u64::from(one.node));
+    text.put_spaced(u64::from(cell));
+    text.put_last(u64::from(one.pattern), u64::from(one.crossing));
 }
 
-// The line of a match.
-fn put_match(text: &mut [u8], at: usize, node: u8, pattern: u8, crossing: u8, rows: &[u32]) -> usize
-    requires { (row_words * pattern < length rows.now) × (at + length (row_line rows.now (record { node = node; pattern = pattern; crossing = crossing })) ≤ length text.old) }
-    ensures { Appended (row_line rows.now (record { node = node; pattern = pattern; crossing = crossing })) text.old at text.new result }
+// Puts a line for each match.
+fn put_matches(text: &mut Text, matches: &[MatchRecord], rows: &[u32])
+    requires { HaveRows rows.now (map placed_of matches.now) × HasRoom (row_lines rows.now (map placed_of matches.now)) text.old }
+    ensures { Appended (row_lines rows.now (map placed_of matches.now)) text.old text.new }
 {
-    let cell = rows[PatternRow::WORDS * pattern as usize + PatternRow::CELL];
-    let second = text::put_number(text, at, node as u64);
-    let third = text::put_spaced(text, second, cell as u64);
-    text::put_last(text, third, pattern as u64, crossing as u64)
-}
-
-// A line for each match of a cover.
-fn put_matches(text: &mut [u8], from: usize, cover: CoverRecord, rows: &[u32]) -> usize
-    requires { (cover.count < 2 ^ match_count_width) × HaveRows rows.now (cover_of cover).placed × (from + length (row_lines rows.now (cover_of cover).placed) ≤ length text.old) }
-    ensures { Appended (row_lines rows.now (cover_of cover).placed) text.old from text.new result }
-{
-    let count = cover.count;
-    let nodes = cover.nodes;
-    let patterns = cover.patterns;
-    let crossings = cover.crossings;
-    let mut at = from;
-    let mut k = 0;
-    while k < count {
-        at = put_match(text, at, nodes[k], patterns[k], crossings[k], rows);
-        k += 1;
+    for one in matches {
+        put_match(text, *one, rows);
     }
-    at
 }
 
-// The text of a cover.
-fn put_cover(text: &mut [u8], cover: CoverRecord, rows: &[u32]) -> usize
+// Puts the text of a cover.
+fn put_cover(text: &mut Text, cover: CoverRecord, rows: &[u32])
     requires { (cover.count < 2 ^ match_count_width) × Printable rows.now (cover_of cover) text.old }
-    ensures { Appended (row_text rows.now (cover_of cover)) text.old 0 text.new result }
+    ensures { Appended (row_text rows.now (cover_of cover)) text.old text.new }
 {
-    let at = put_head(text, cover.area, cover.arrival, cover.count);
-    put_matches(text, at, cover, rows)
+    put_head(text, cover.area, cover.arrival, cover.count);
+    put_matches(text, &cover.matches[..cover.count], rows);
 }
 
-// The text of a cover sheet, by a sound library's cells.
-fn put_sheet(text: &mut [u8], sheet: &[u8], library: &[u8]) -> usize
+// Puts the text of a cover sheet, by a sound library's cells.
+fn put_sheet(text: &mut Text, sheet: &[u8], library: &[u8])
     requires { Live (library_of library.now start).1 × Printable (rows_of library.now) (cover_in sheet.now) text.old }
-    ensures { Appended (row_text (rows_of library.now) (cover_in sheet.now)) text.old 0 text.new result }
+    ensures { Appended (row_text (rows_of library.now) (cover_in sheet.now)) text.old text.new }
 {
-    let read = library::read_library(library);
-    let decoded = read.library;
-    let rows = decoded.rows;
-    let read = result_sheets::read_cover(sheet);
-    put_cover(text, read.cover, &rows)
+    let library = library::read_library(library).library;
+    let cover = result_sheets::read_cover(sheet).cover;
+    put_cover(text, cover, &library.rows);
 }
 
-// The outcome of map for a library and a tree.
-fn put_map(text: &mut [u8], library: &[u8], tree: &[u8]) -> usize
-    requires { longest_text ≤ length text.old }
-    ensures { Appended (outcome_text (map_shown library.now tree.now)) text.old 0 text.new result }
+// Puts the outcome of map for a library and a tree.
+fn put_map(text: &mut Text, library: &[u8], tree: &[u8])
+    requires { text.old.len + longest_text ≤ length text.old.bytes.now }
+    ensures { Appended (outcome_text (map_shown library.now tree.now)) text.old text.new }
 {
     let mut output = [0u8; Limits::OUTPUT_MAP];
     let mut work = [0u64; Limits::WORK];
-    let reply = map::map(library, tree, &mut output, &mut work);
-    match reply {
+    match map::map(library, tree, &mut output, &mut work) {
         Reply::Refused(refusal) => frame::put_refusal(text, refusal),
         Reply::Sheets(bytes) => put_sheet(text, &output[..bytes], library),
+    }
+}
+
+// The library and the tree of an input; none if it is spoiled.
+fn sheets_of(input: &[u8]) -> Option<(&[u8], &[u8])>
+    ensures { MatchOption result (spoiled input.now 1 false ≡ true) (AreSheets input.now) }
+{
+    let mut left = Sheets::of_input(input, LENGTHS)?;
+    let library = left.take_sheet()?;
+    Some((library, left.bytes))
+}
+
+// Puts what is printed for an input.
+fn put_printed(text: &mut Text, input: &[u8])
+    requires { text.old.len + longest_text ≤ length text.old.bytes.now }
+    ensures { Appended (printed input.now) text.old text.new }
+{
+    match sheets_of(input) {
+        None => frame::put_spoiled(text),
+        Some((library, tree)) => put_map(text, library, tree),
     }
 }
 
@@ -116,27 +116,17 @@ pub fn print_cover(input: &[u8], text: &mut [u8]) -> usize
     ensures prefix_len { IsPrefixLen result text.new }
     ensures printed_where_whole { PrintedWhereWhole (length text.old) input.now (take result text.new) }
 {
-    if text.len() < Text::LONGEST {
+    if text.len() < LONGEST {
         return 0;
     }
-    let split = frame::split_input(input, Input::LENGTHS, false);
-    if split.spoiled {
-        return frame::put_spoiled(text);
-    }
-    let places = split.places;
-    let library = places[0];
-    let tree = places[1];
-    put_map(text, &input[library..tree], &input[tree..])
+    let mut text = Text::new(text);
+    put_printed(&mut text, input);
+    text.len
 }
 
 // Reads an input from standard input and prints its text; answers how many bytes were printed.
 pub fn run() -> usize
     ensures { result ≤ longest_text }
 {
-    let mut input = [0u8; Frame::BUFFER];
-    let count = frame::read_input(&mut input);
-    let mut text = [0u8; Text::LONGEST];
-    let length = print_cover(&input[..count], &mut text);
-    io::write_all(Frame::STDOUT, &text[..length]);
-    length
+    frame::run(&mut [0u8; LONGEST], print_cover)
 }

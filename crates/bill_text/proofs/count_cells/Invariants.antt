@@ -1,16 +1,10 @@
-use Prim.Native.Nat.{◌-◌, ◌≤◌}
 use mathlib.Core.Path.{◌≡◌}
-use mathlib.Core.List.{List}
+use mathlib.Core.List.{map}
 use lib.ListN.{length, take}
 use Rattle.sheets_rules.specs.Model.{Library}
-use Rattle.covers.specs.Cover.{Placed}
+use Rattle.result_sheets.specs.Public.{placed_of}
 use Rattle.bill_text.specs.Inside.Promises.{Countable, TallyIs}
-use Rattle.bill_text.proofs.Laws.{Names}
 use Rattle.bill_text.proofs.count_cells.Given as goal
 
-abbrev pub invariant-loop-k : goal.invariant-loop-k
-invariant-loop-k now =
-    (now.k ≤ now.count) × (length now.counts ≡ 64) × (length now.amounts ≡ 64) × ((l : Library) (xs : List Placed) → Countable l now.rows xs → Names xs now.count now.patterns → TallyIs l (take now.k xs) now.counts now.amounts)
-
-abbrev pub decreases-loop-k : goal.decreases-loop-k
-decreases-loop-k l = l.count - l.k
+abbrev pub invariant-loop-one : goal.invariant-loop-one
+invariant-loop-one now = (length now.entries ≡ 64) × ((l : Library) → Countable l now.rows (map placed_of now.matches) → TallyIs l (map placed_of (take now.one-index now.matches)) now.entries)

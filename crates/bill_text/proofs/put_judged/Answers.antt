@@ -1,9 +1,6 @@
 use native.Mathlib.Omega.{arith}
-use Prim.Native.Nat.{ℕ}
-use mathlib.Core.Path.{sym, ap, subst, ◌∙◌}
-use mathlib.Core.List.{List}
+use mathlib.Core.Path.{◌≡◌, sym, ap, ◌∙◌}
 use Rattle.judge_rules.specs.Public.{of_cover_judged}
-use Rattle.text.specs.Inside.Promises.{Appended}
 use Rattle.frame.specs.Framed.{outcome_text}
 use Rattle.frame.proofs.Laws.{refusal_short}
 use Rattle.bill_rules.proofs.Demands.{shown_refusal}
@@ -16,13 +13,10 @@ put_refusal-requires c =
 pub put_accepted-requires : goal.put_accepted-requires
 unfolding of_cover_judged
 put_accepted-requires c =
-    (c.requires, (record { area = c.in-Accepted.field-0; arrival = c.in-Accepted.field-1 }, sym c.judge_cover-judged.ensures.answer_is ∙ ap of_cover_judged c.in-Accepted.is))
+    (c.requires, (record { area = c.in-Accepted.field-0; arrival = c.in-Accepted.field-1 }, sym c.judge_cover.ensures.answer_is ∙ ap of_cover_judged c.in-Accepted.is))
 
 pub returns-in-Refused : goal.returns-in-Refused
 unfolding outcome_text of_cover_judged
 returns-in-Refused c =
     let a = c.args in
-    let put = c.put_refusal in
-    subst (λ (w : List ℕ). Appended w a.text.now 0 put.new.text put.result)
-    (sym (ap outcome_text (shown_refusal a.library.now a.tree.now a.cover.now (sym c.judge_cover-judged.ensures.answer_is ∙ ap of_cover_judged c.in-Refused.is))))
-    put.ensures
+    rw (ap outcome_text (shown_refusal a.library.now a.tree.now a.cover.now (sym c.judge_cover.ensures.answer_is ∙ ap of_cover_judged c.in-Refused.is))) c.put_refusal.ensures

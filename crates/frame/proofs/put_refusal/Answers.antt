@@ -5,12 +5,12 @@ use Rattle.frame.specs.Framed.{refusal_line}
 use Rattle.frame.proofs.Laws.{refusal_length}
 use Rattle.frame.proofs.put_refusal.Goals as goal
 
-pub put_word-at-requires : goal.put_word-at-requires
-put_word-at-requires c = let a = c.args in omega (arith, refusal_length a.refusal.number a.refusal.place)
+pub put_word-requires : goal.put_word-requires
+put_word-requires c = let a = c.args in omega (arith, refusal_length a.refusal.number a.refusal.place)
 
 pub put_last-requires : goal.put_last-requires
-put_last-requires c = let a = c.args in omega (arith, refusal_length a.refusal.number a.refusal.place)
+put_last-requires c = let a = c.args in rw c.from.ensures (omega (arith, refusal_length a.refusal.number a.refusal.place))
 
 pub returns : goal.returns
 unfolding refusal_line line
-returns c = appended_both (omega arith) c.put_word-at.ensures c.put_last.ensures
+returns c = appended_both c.put_word.ensures (rw c.from.ensures at c.put_last.ensures)

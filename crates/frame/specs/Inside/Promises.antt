@@ -1,17 +1,31 @@
 -- What is found out about an input.
-use Rattle.std.specs.Prelude.{ℕ, ◌≤◌, ◌≡◌, Bool, false, List, get_or}
-use Rattle.frame.specs.declared.Split.{Split}
-use Rattle.frame.specs.Framed.{sheet_at, spoiled}
+use Rattle.std.specs.Prelude.{ℕ, ◌+◌, ◌*◌, ◌<◌, ◌≤◌, ◌≡◌, Bool, true, List, length, take, drop, Option, MatchOption}
+use Rattle.std.specs.Borrow.{Bor, MutBor}
+use Rattle.io.specs.Counts.{IsPrefixLen}
+use Rattle.frame.specs.declared.Sheets.{Sheets}
+use Rattle.frame.specs.Framed.{input_limit, sheet_at, sheet, spoiled}
 
 -- How many lengths an input has at the most.
 abbrev pub most_lengths : ℕ
 most_lengths = 3
 
--- Where each sheet begins, and where the last one ends.
-abbrev pub PlacesAre : List ℕ → ℕ → List ℕ → Type 0
-PlacesAre input lengths places = (k : ℕ) → k ≤ lengths → get_or places k 0 ≡ sheet_at input lengths k
+-- The input is spoiled, whether bytes may be left over or not.
+abbrev pub IsSpoiled : (input : List ℕ) (lengths : ℕ) → Type 0
+IsSpoiled input lengths = (exact : Bool) → spoiled input lengths exact ≡ true
 
--- Whether the input is spoiled and, if it is not, where its sheets are.
-pub record SplitIs (input : List ℕ) (lengths : ℕ) (exact : Bool) (r : Split) : Type 0 where
-  pub spoiled_is : r.spoiled ≡ spoiled input lengths exact
-  pub places_are : r.spoiled ≡ false → PlacesAre input lengths r.places
+-- The first k sheets of an input are taken.
+pub record Taken (input : List ℕ) (lengths k : ℕ) (left : Sheets) : Type 0 where
+  pub lengths_in : 2 * lengths ≤ length input
+  pub in_limit : length input ≤ input_limit
+  pub sheets_in : sheet_at input lengths k ≤ length input
+  pub lengths_left : left.lengths.now ≡ drop (2 * k) (take (2 * lengths) input)
+  pub bytes_left : left.bytes.now ≡ drop (sheet_at input lengths k) input
+
+-- The next sheet of any input is taken, unless the input is spoiled.
+abbrev pub TakesNext : (entry exit : Sheets) → Option (Bor (List ℕ)) → Type 0
+TakesNext entry exit r = (input : List ℕ) (lengths k : ℕ) → k < lengths → Taken input lengths k entry →
+    MatchOption r (IsSpoiled input lengths) (λ s. (s.now ≡ sheet input lengths k) × Taken input lengths (k + 1) exit)
+
+-- Each call answers how many bytes it put at the front of the text that it was lent.
+abbrev pub PutsFront : (Bor (List ℕ) → MutBor (List ℕ) → ℕ → MutBor (List ℕ) → Type 0) → Type 0
+PutsFront post = (input : Bor (List ℕ)) (entry exit : MutBor (List ℕ)) (r : ℕ) → post input entry r exit → IsPrefixLen r exit.now

@@ -1,11 +1,8 @@
 use native.Mathlib.Omega.{arith}
-use Prim.Native.Nat.{ℕ}
-use mathlib.Core.Path.{sym, ap, subst}
-use mathlib.Core.List.{List}
+use mathlib.Core.Path.{◌≡◌, sym, ap}
 use lib.ListN.{length}
 use lib.Seq.{length-take-le}
 use Rattle.map_rules.specs.Public.{of_reply}
-use Rattle.text.specs.Inside.Promises.{Appended}
 use Rattle.frame.proofs.Laws.{refusal_short}
 use Rattle.treecover_text.proofs.Outcome.{replied}
 use Rattle.treecover_text.proofs.put_map.Goals as goal
@@ -16,25 +13,20 @@ put_refusal-requires c =
 
 pub slice_bounds-output-end : goal.slice_bounds-output-end
 unfolding of_reply
-slice_bounds-output-end c = omega (arith, (replied c.args.library.now c.args.tree.now c.map-reply.ensures.operated c.in-Sheets.is).0)
+slice_bounds-output-end c = (replied c.args.library.now c.args.tree.now c.map.ensures.operated c.in-Sheets.is).0
 
 pub slice_bounds-put_sheet-end : goal.slice_bounds-put_sheet-end
 unfolding of_reply
-slice_bounds-put_sheet-end c = sym (length-take-le c.in-Sheets.bytes c.map-reply.new.output (replied c.args.library.now c.args.tree.now c.map-reply.ensures.operated c.in-Sheets.is).0)
+slice_bounds-put_sheet-end c = sym (length-take-le c.in-Sheets.bytes c.map.new.output (replied c.args.library.now c.args.tree.now c.map.ensures.operated c.in-Sheets.is).0)
 
 pub put_sheet-requires : goal.put_sheet-requires
 unfolding of_reply
-put_sheet-requires c = let says = (replied c.args.library.now c.args.tree.now c.map-reply.ensures.operated c.in-Sheets.is).1 in (says.live, (says.rows, omega (arith, says.short, ap length says.text_is)))
+put_sheet-requires c = let says = (replied c.args.library.now c.args.tree.now c.map.ensures.operated c.in-Sheets.is).1 in (says.live, (says.rows, omega (arith, says.short, ap length says.text_is)))
 
 pub returns-in-Refused : goal.returns-in-Refused
 unfolding of_reply
-returns-in-Refused c =
-    let a = c.args in
-    let put = c.put_refusal in
-    subst (λ (w : List ℕ). Appended w a.text.now 0 put.new.text put.result) (sym (replied a.library.now a.tree.now c.map-reply.ensures.operated c.in-Refused.is)) put.ensures
+returns-in-Refused c = rw (replied c.args.library.now c.args.tree.now c.map.ensures.operated c.in-Refused.is) c.put_refusal.ensures
 
 pub returns-in-Sheets : goal.returns-in-Sheets
 unfolding of_reply
-returns-in-Sheets c =
-    let put = c.put_sheet in
-    subst (λ (w : List ℕ). Appended w c.args.text.now 0 put.new.text put.result) (replied c.args.library.now c.args.tree.now c.map-reply.ensures.operated c.in-Sheets.is).1.text_is put.ensures
+returns-in-Sheets c = rw (replied c.args.library.now c.args.tree.now c.map.ensures.operated c.in-Sheets.is).1.text_is at c.put_sheet.ensures

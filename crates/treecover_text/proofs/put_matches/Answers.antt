@@ -1,45 +1,21 @@
-use borrow.Author.Rules.{rules}
 use native.Mathlib.Omega.{arith}
-use mathlib.Core.Path.{◌≡◌, refl, subst}
-use mathlib.Core.List.{List}
-use lib.ListN.{length}
-use Rattle.covers.specs.Cover.{Placed}
-use Rattle.result_sheets.proofs.Laws.{Room}
-use Rattle.text.specs.Inside.Promises.{Appended}
-use Rattle.treecover_text.specs.Inside.Rows.{row_lines}
-use Rattle.treecover_text.proofs.Laws.{no_lines, match_row, match_fits, match_turn, matches_done}
-use Rattle.treecover_text.proofs.put_matches.Lts as lts
-use Rattle.treecover_text.proofs.put_matches.Tie as tie
-use Rattle.treecover_text.proofs.put_matches.Reads as reads
+use lib.Seq.{take_all}
+use Rattle.result_sheets.specs.Public.{no_match}
+use Rattle.treecover_text.proofs.Laws.{lines_none, line_row, line_fits, line_put}
 use Rattle.treecover_text.proofs.put_matches.Goals as goal
 
-room : (c : lts.Start tie.the-claims reads.Pre reads.Post goal.the-invariant-loop-k goal.the-decreases-loop-k) → Room c.args.cover
-room c =
-    let n : length c.args.cover.nodes ≡ 64 = search rules in
-    let p : length c.args.cover.patterns ≡ 64 = search rules in
-    let x : length c.args.cover.crossings ≡ 64 = search rules in
-    (omega arith, omega arith, omega arith)
+pub loop-one-init : goal.loop-one-init
+loop-one-init c = lines_none c.args.rows.now c.args.matches.now c.args.text.now
 
-pub loop-k-init : goal.loop-k-init
-loop-k-init c = let a = c.args in (omega arith, refl, no_lines a.rows.now a.text.now a.from)
+pub put_match-requires : goal.put_match-requires
+put_match-requires c =
+    let rows = c.args.rows.now in
+    let ms = c.args.matches.now in
+    let k = c.loop-one.one-index in
+    (line_row rows ms k no_match c.loop-one-test.true c.requires.0, omega (arith, line_fits rows ms k no_match c.loop-one-test.true))
 
-pub put_match-at-requires : goal.put_match-at-requires
-put_match-at-requires c =
-    let start = c.before.before.before.before.before.before.before.before.before in
-    let a = start.args in
-    let i = c.loop-k in
-    (match_row a.rows.now a.cover i.k (omega arith) (room start) start.requires.1, omega (arith, i.invariant.2.place, start.requires.2, match_fits a.rows.now a.cover i.k (omega arith) (room start)))
-
-pub loop-k-preserved : goal.loop-k-preserved
-loop-k-preserved c =
-    let start = c.before.before.before.before.before.before.before.before.before.before.before.before in
-    let a = start.args in
-    let i = c.loop-k in
-    (omega arith, omega arith, match_turn a.rows.now a.cover i.k (omega arith) (room start) (omega (arith, start.requires.2)) i.invariant.2 c.put_match-at.ensures)
+pub loop-one-preserved : goal.loop-one-preserved
+loop-one-preserved c = line_put c.args.rows.now c.args.matches.now c.loop-one.one-index no_match c.loop-one-test.true c.loop-one.invariant c.put_match.ensures
 
 pub returns : goal.returns
-returns c =
-    let start = c.before.before.before.before.before.before.before.before in
-    let a = start.args in
-    let i = c.loop-k in
-    subst (λ (xs : List Placed). Appended (row_lines a.rows.now xs) a.text.now a.from i.text i.at) (matches_done a.cover (room start) i.k (omega arith)) i.invariant.2
+returns c = rw (take_all c.loop-one.one-index c.args.matches.now c.loop-one-test.false) at c.loop-one.invariant

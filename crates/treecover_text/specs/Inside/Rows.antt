@@ -1,5 +1,6 @@
 -- The text of a cover, where the patterns' rows give the cells.
-use Rattle.std.specs.Prelude.{ℕ, ◌*◌, ◌<◌, ◌≤◌, length, get_or}
+use Rattle.std.specs.Prelude.{ℕ, ◌*◌, ◌<◌, ◌≤◌, ◌≡◌, false, length, get_or}
+use Rattle.std.specs.Borrow.{Bor}
 use mathlib.Core.List.{List, [], ◌∷◌, ◌++◌, flat_map, Memᴰ}
 use Rattle.fields.specs.Reading.{start}
 use Rattle.sheets_rules.specs.LibrarySheet.{library}
@@ -7,6 +8,9 @@ use Rattle.sheets_rules.specs.Inside.Layout.{row_words, library_laid}
 use Rattle.covers.specs.Cover.{Placed, Cover}
 use Rattle.covers.specs.CoverSheet.{cover_read}
 use Rattle.text.specs.Text.{decimal, line}
+use Rattle.text.specs.declared.Text.{Text}
+use Rattle.text.specs.Inside.Promises.{HasRoom}
+use Rattle.frame.specs.Framed.{spoiled, sheet, rest}
 use Rattle.treecover_text.specs.Printed.{cover_line}
 
 -- The rows of a library's patterns, and the cover that a sheet says.
@@ -35,5 +39,9 @@ module _ (rows : List ℕ) where
   HaveRows xs = (x : Placed) → Memᴰ x xs → row_words * x.pattern < length rows
 
   -- And the text has room.
-  abbrev pub Printable : Cover → List ℕ → Type 0
-  Printable c text = HaveRows c.placed × (length (row_text c) ≤ length text)
+  abbrev pub Printable : Cover → Text → Type 0
+  Printable c text = HaveRows c.placed × HasRoom (row_text c) text
+
+-- The library and the tree of an input that is not spoiled.
+abbrev pub AreSheets : (input : List ℕ) → Bor (List ℕ) × Bor (List ℕ) → Type 0
+AreSheets input (library, tree) = (spoiled input 1 false ≡ false) × (library.now ≡ sheet input 1 0) × (tree.now ≡ rest input 1)
