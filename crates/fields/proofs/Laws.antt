@@ -15,7 +15,7 @@ use borrow.Table.Steps.{cases}
 use Rattle.bits.specs.Bits.{place_of, field_at, value_at, cursor_at}
 use Rattle.bits.proofs.Laws.{value_lt, place_at}
 use Rattle.bits.specs.declared.Cursor.{Cursor}
-use Rattle.std.specs.Prelude.{Option, Some, None}
+use Rattle.std.specs.Prelude.{Option, Some, None, Result, Ok, Err}
 use Rattle.fields.specs.declared.Flaw.{Flaw}
 use Rattle.fields.specs.Reading.{Scan}
 use Rattle.fields.specs.Reading.{At, Refused}
@@ -24,7 +24,7 @@ use Rattle.fields.specs.declared.Fault.TheVariants.{Truncated, Tail}
 use Rattle.fields.specs.Reading.{Verdict}
 use Rattle.fields.specs.Reading.{Sound, Faulty}
 use Rattle.fields.specs.Reading.{Reader, times, start, place, free, within, field, scanned, settled, tailed, Live}
-use Rattle.fields.specs.Inside.Promises.{Took, Flawed, UpTo}
+use Rattle.fields.specs.Inside.Promises.{Took, Flawed, UpTo, verdict_of}
 
 pub start_place : place start ≡ 0
 start_place = place_at 0
@@ -206,3 +206,13 @@ times_more {A} n r c {q} {q'} {xs} {x} e e' =
 pub live? : (c : Scan) → Dec (Live c)
 live? (At c) = yes tt
 live? (Refused f p) = no (λ x. x)
+
+-- ---- a verdict that a caller found
+
+pub verdict_sound : (r : Result (Unit {0}) Fault) → verdict_of r ≡ Sound → r ≡ Ok tt
+verdict_sound (Ok tt) e = refl
+verdict_sound (Err f) e = absurd (cc)
+
+pub verdict_faulty : (r : Result (Unit {0}) Fault) (f : Fault) → verdict_of r ≡ Faulty f → r ≡ Err f
+verdict_faulty (Ok u) f e = absurd (cc)
+verdict_faulty (Err g) f e = let same : g ≡ f = cc in ap Err same

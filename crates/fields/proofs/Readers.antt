@@ -24,7 +24,11 @@ module _ {A B : Type 0} where
   pub keeps_then : (r : Reader A) (rest : A → Reader B) → Keeps r → ((a : A) → Keeps (rest a)) → Keeps (r >>= rest)
   keeps_then r rest h g f p = ap (λ (c : Scan). (rest (r (Refused f p)).0 c).1) (h f p) ∙ g (r (Refused f p)).0 f p
 
--- What `?` hands on is the flaw that was found.
+-- What `?` hands on is the error that was found.
+pub passed : {B E : Type 0} {e : E} (P : Result B E → Type 0) (r : Result B E) → IsErrAnd r (λ y. y ≡ e) → P (Err e) → P r
+passed P r is h = let p = err_from_is_err_and r is in rw (p.1, p.2) h
+
+-- And of a reader of a sheet, the flaw.
 pub stopped : {A B : Type 0} {old new : Sheet} {reads : List ℕ → Reader A} {Holds : A → B → Type 0} {bits : ℕ} {e : Flaw} (r : Result B Flaw) →
     IsErrAnd r (λ y. y ≡ e) → Reads old new reads Holds bits (Err e) → Reads old new reads Holds bits r
 stopped {A} {B} {old} {new} {reads} {Holds} {bits} r is h = let p = err_from_is_err_and r is in rw (p.1, p.2) h
