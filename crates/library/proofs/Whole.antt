@@ -4,7 +4,8 @@ use mathlib.Core.List.{List, map}
 use Prim.Native.Nat.{ℕ, ◌+◌, ◌*◌, ◌≤◌}
 use native.Mathlib.Omega.{arith}
 use lib.ListN.{length, replicate}
-use Rattle.std.specs.Prelude.{Result, Ok, Err}
+use Rattle.std.specs.Prelude.{Result, Ok, Err, MatchResult, IsErrAnd}
+use Rattle.std.proofs.lemmas.Result.{err_from_is_err_and}
 use Rattle.fields.specs.declared.Flaw.{Flaw}
 use Rattle.fields.specs.declared.Sheet.{Sheet}
 use Rattle.fields.specs.Answer.{success, on_success, said, Bounded}
@@ -14,7 +15,7 @@ use Rattle.fields.proofs.Answer.{told_said, flawed_said}
 use Rattle.fields.proofs.Readers.{Keeps, keeps_then, keeps_times, first_stops, then_reads, from_start}
 use Rattle.sheets_rules.specs.declared.Bins.{Bins}
 use Rattle.sheets_rules.specs.declared.Counts.{Counts}
-use Rattle.sheets_rules.specs.declared.Reason.TheVariants.{Library}
+use Rattle.sheets_rules.specs.declared.Reason.TheVariants as Reason
 use Rattle.sheets_rules.specs.declared.Refusal.{Refusal}
 use Rattle.sheets_rules.specs.Model.{Library, Pin, bin_load_of, Cell, Pattern, patterns, patterns_from, pins_most}
 use Rattle.sheets_rules.specs.LibrarySheet.{bins, cells, library, cell_after}
@@ -67,7 +68,7 @@ module _ (s : List ℕ) {sheet mid : Sheet} (o : Opens s sheet) where
       let t = from_start s o all in
       record { says = ap (ended s) t.says; near = t.near }
 
-  module _ {b : Bins} (hb : Reads sheet mid bins BinsHold (3 + bin_bits * 4) (Ok b)) (l l' : List ℕ) {new : Sheet} where
+  module _ {b : Bins} (hb : Reads sheet mid bins BinsHold (3 + bin_bits * 4) (Ok b)) (l l' : List ℕ) (new : Sheet) where
     abbrev OfCells : Result Counts Flaw → Type 0
     OfCells = Reads mid new (λ s. cells s b.count) (CellsHold b l l') (7 + cell_bits * 64)
 
@@ -91,6 +92,7 @@ module _ (s : List ℕ) {sheet mid : Sheet} (o : Opens s sheet) where
       unfolding library_laid patterns
       all =
           let t = hb.takes.holds in
+          let cs = (cells mid.bytes.now (length xs) (At mid.at)).0 in
           then_reads bins after_bins {more = 7 + cell_bits * 64} _ hb
           (ok_done (of_cells xs) (counted (Ok n) h) (λ g. record {
             bins_are = λ i. record { count = t.counted i; loads = t.loads i };
@@ -100,8 +102,8 @@ module _ (s : List ℕ) {sheet mid : Sheet} (o : Opens s sheet) where
             patterns_few = g.patterns_are.few;
             laid =
                 g.patterns_are.laid
-                ∙ ap (λ (loads : List ℕ). table_from row_words l 0 (pattern_rows loads (patterns_from 0 _))) t.loads
-                ∙ ap (table_from row_words l 0) (rows_padded xs (omega (arith, t.counted, t.few)) _);
+                ∙ ap (λ (loads : List ℕ). table_from row_words l 0 (pattern_rows loads (patterns_from 0 cs))) t.loads
+                ∙ ap (table_from row_words l 0) (rows_padded xs (omega (arith, t.counted, t.few)) (patterns_from 0 cs));
           }))
           (omega arith)
 
@@ -120,7 +122,21 @@ module _ (s : List ℕ) {sheet mid : Sheet} (o : Opens s sheet) where
 
 -- A library's refusal.
 abbrev pub refused_at : Flaw → Refusal
-refused_at e = record { item = 0; reason = Library e.fault; place = e.place }
+refused_at e = record { item = 0; reason = Reason.Library e.fault; place = e.place }
+
+-- What an error was made of, and a value that was none.
+module _ {A E F : Type 0} (P : E → F → Type 0) (m : Result A F) where
+  pub mapped_ok : (r : Result A E) (x : A) → MatchResult r (λ y. m ≡ Ok y) (λ e. IsErrAnd m (P e)) → m ≡ Ok x → r ≡ Ok x
+  mapped_ok (Ok y) x h e = let both : ◌≡◌ {A = Result A F} (Ok y) (Ok x) = sym h ∙ e in let same : y ≡ x = cc in ap Ok same
+  mapped_ok (Err f) x h e = let p = err_from_is_err_and m h in let both : ◌≡◌ {A = Result A F} (Err p.0) (Ok x) = sym p.1 ∙ e in absurd (cc)
+
+  pub mapped_err : (r : Result A E) (q : F) → MatchResult r (λ y. m ≡ Ok y) (λ e. IsErrAnd m (P e)) → m ≡ Err q → (e : E) × (r ≡ Err e) × P e q
+  mapped_err (Ok y) q h e = let both : ◌≡◌ {A = Result A F} (Ok y) (Err q) = sym h ∙ e in absurd (cc)
+  mapped_err (Err f) q h e =
+      let p = err_from_is_err_and m h in
+      let both : ◌≡◌ {A = Result A F} (Err p.0) (Err q) = sym p.1 ∙ e in
+      let same : p.0 ≡ q = cc in
+      (f, refl, subst (P f) same p.2)
 
 -- With its rows laid out in a table of zeros the library is whole; or the sheet is refused.
 pub library_is : (s l' : List ℕ) (r : Contents) → Told (ContentsHold (replicate table_words 0) l') (library s start) r →

@@ -8,7 +8,7 @@ use Rattle.library.proofs.Laws.{front_copied, pattern_stops, pattern_lacks, patt
 use Rattle.library.proofs.read_pattern.Goals as goal
 
 pub read_shape-requires : goal.read_shape-requires
-read_shape-requires c = (record { width = omega arith; most = omega arith; nodes = omega arith; pins = λ p. omega arith }, refl, omega arith, ?)
+read_shape-requires c = (record { width = omega arith; most = omega arith; nodes = omega arith; pins = λ p. omega arith }, refl, omega arith)
 
 pub returns-in_err-read : goal.returns-in_err-read
 returns-in_err-read c =
