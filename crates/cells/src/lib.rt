@@ -18,17 +18,16 @@ pub struct PinFigures {
 }
 
 // Whether a match that drives a load is legal.
+#[tactic(auto, unfolding(crate::specs::Inside::Cell::row_legal))]
 pub fn is_legal(row: &[u32], load: u32) -> bool
     requires { length row.now ≡ row_words }
     ensures { result ≡ row_legal row.now load }
 {
-    if row[PatternRow::HELD] != 0 {
-        return false;
-    }
-    load <= row[PatternRow::HIGHEST]
+    row[PatternRow::HELD] == 0 && load <= row[PatternRow::HIGHEST]
 }
 
 // The figures of the pin with a number.
+#[tactic(auto, unfolding(crate::specs::Inside::Cell::row_figures))]
 pub fn pin_figures(row: &[u32], pin: usize) -> PinFigures
     requires { (length row.now ≡ row_words) × (pin < pins_most) }
     ensures { result ≡ row_figures row.now pin }

@@ -15,10 +15,11 @@ pub fn leaf_arrival(symbol: u32, load: u32) -> u64
     ensures { (result ≡ leaf_arrival (leaf_of symbol) load) × (result < base) }
 {
     let packed = symbol - Packed::LEAF;
-    (packed % Packed::DRIVE + packed / Packed::DRIVE * load) as u64
+    u64::from(packed % Packed::DRIVE + packed / Packed::DRIVE * load)
 }
 
 // The symbol of a leaf with another arrival and the same drive.
+#[tactic(auto, unfolding(crate::specs::Inside::Leaf::leaf_of))]
 pub fn with_arrival(symbol: u32, arrival: u32) -> u32
     requires { (2 ≤ symbol) × (symbol ≤ symbol_limit) × (arrival ≤ 1000000) }
     ensures { result ≡ leaf_symbol (record { number = arrival; drive = (leaf_of symbol).drive }) }

@@ -1,7 +1,7 @@
 -- Crossings of a pattern in ascending order: which may be passed over after a walk.
 use Prim.Native.Nat.{ℕ, zero, suc, ◌+◌, ◌-◌, ◌*◌, ◌/◌, ◌%◌, ◌^◌, ◌≤◌, ◌<◌}
 use mathlib.Core.Path.{◌≡◌, refl, sym, ap, subst, ◌∙◌}
-use mathlib.Core.Bool.{true, cond, false≢true}
+use mathlib.Core.Bool.{true, false≢true}
 use mathlib.Core.List.{List, [], ◌∷◌, ◌++◌, append-nil}
 use mathlib.Core.Option.{Option, none, some}
 use native.Mathlib.Nat.{zero-add, mul-le-mul_right, suc-mul, mul-mod_left, mul_assoc, mod-lt, div-lt_iff_lt-mul}
@@ -11,13 +11,14 @@ use lib.Dec.{ltb}
 use lib.Pow.{pow-add, pow_pos, shr_lt, shr_mono, split}
 use borrow.Author.Tests.{eqb-true, eq-eqb, lt-ltb}
 use borrow.Table.Steps.{cases}
+use Rattle.std.specs.Prelude.{Result, Ok, Err}
 use Rattle.sheets_rules.specs.Model.{Shape, Pattern, nands}
 use Rattle.sheets_rules.specs.Inside.Sound.{SoundDrawing}
 use Rattle.covers.specs.Lists.{keep_if, select}
 use Rattle.covers.specs.Crossing.{crossing_limit, redrawn, is_crossing, counted}
 use Rattle.covers.specs.Match.{Input, Match, matched, put_first, fitting_under}
 use Rattle.covers.proofs.Basics.{tests, select_append}
-use Rattle.overlay.specs.declared.Walked.{Walked}
+use Rattle.overlay.specs.declared.Inputs.{Inputs}
 use Rattle.overlay.specs.Inside.Promises.{WalkIs}
 use Rattle.overlay.proofs.Patterns.{matched_laid, redrawn_sound}
 
@@ -119,29 +120,31 @@ module _ (n : ℕ) (s : Shape) (k : ℕ) (p : Pattern) where
 
 -- ---- after a walk
 
-module _ {d s : Shape} {n x pins : ℕ} {walked : Walked} (sound : SoundDrawing pins d) (few : nands d ≤ 5) (walk_is : WalkIs d s n x walked) (crossing : is_crossing d x ≡ true) where
-  -- The bits that decide, and the next crossing that has others.
-  abbrev pub bits : ℕ
-  bits = cond walked.matched (nands d) walked.used
+-- The bits that decide what it found: after a match those of all NANDs.
+abbrev pub bits : Shape → Result Inputs ℕ → ℕ
+bits d (Ok inputs) = nands d
+bits d (Err used) = used
 
-  abbrev after : ℕ
-  after = next x (5 - bits)
+-- The next crossing that has others.
+abbrev after : ℕ → Shape → Result Inputs ℕ → ℕ
+after x d r = next x (5 - bits d r)
 
-  pub bits_few : bits ≤ nands d
-  bits_few = cases walked.matched (λ e. rw e (omega arith)) (λ e. rw e walk_is.used_few)
+module _ {d : Shape} (s : Shape) (n x : ℕ) {pins : ℕ} (sound : SoundDrawing pins d) (few : nands d ≤ 5) (crossing : is_crossing d x ≡ true) where
+  pub bits_few : (r : Result Inputs ℕ) → WalkIs d s n x r → bits d r ≤ nands d
+  bits_few (Ok inputs) w = omega arith
+  bits_few (Err used) w = w.used_few
 
-  pub passed_over : (y : ℕ) → x < y → y < after → is_crossing d y ≡ true → matched (redrawn y d) n s ≡ none
-  passed_over y h g e = cases walked.matched
-      (λ m.
+  pub passed_over : (r : Result Inputs ℕ) → WalkIs d s n x r → (y : ℕ) → x < y → y < after x d r → is_crossing d y ≡ true → matched (redrawn y d) n s ≡ none
+  passed_over (Ok inputs) w y h g e =
       let k = 5 - nands d in
-      let same = same_block x k y (omega arith) (rw m at g) in
-      absurd (omega (arith, split x k, split y k, (crossing_is d x crossing).1, (crossing_is d y e).1, ap (λ q. q * 2 ^ k) same)))
-      (λ m. matched_laid (redrawn y d) n s (redrawn_sound y sound).gate ∙ walk_is.ruled_out m y (same_block x (5 - walked.used) y (omega arith) (rw m at g)))
+      let same = same_block x k y (omega arith) g in
+      absurd (omega (arith, split x k, split y k, (crossing_is d x crossing).1, (crossing_is d y e).1, ap (λ q. q * 2 ^ k) same))
+  passed_over (Err used) w y h g e = matched_laid (redrawn y d) n s (redrawn_sound y sound).gate ∙ w.ruled_out y (same_block x (5 - used) y (omega arith) g)
 
-  pub crossing_after : after < crossing_limit → is_crossing d after ≡ true
-  crossing_after h =
-      let over = nands d - bits in
-      let e : over + (5 - nands d) ≡ 5 - bits = omega (arith, bits_few) in
-      let f : 2 ^ (5 - bits) ≡ 2 ^ over * 2 ^ (5 - nands d) = rw (← e) (pow-add 2 over (5 - nands d)) in
-      is_crossing_lem d after h
-      (ap (λ b. ((x / 2 ^ (5 - bits) + 1) * b) % 2 ^ (5 - nands d)) f ∙ rw (← mul_assoc (x / 2 ^ (5 - bits) + 1)) (mul-mod_left ((x / 2 ^ (5 - bits) + 1) * 2 ^ over) (2 ^ (5 - nands d))))
+  pub crossing_after : (r : Result Inputs ℕ) → WalkIs d s n x r → after x d r < crossing_limit → is_crossing d (after x d r) ≡ true
+  crossing_after r w h =
+      let over = nands d - bits d r in
+      let e : over + (5 - nands d) ≡ 5 - bits d r = omega (arith, bits_few r w) in
+      let f : 2 ^ (5 - bits d r) ≡ 2 ^ over * 2 ^ (5 - nands d) = rw (← e) (pow-add 2 over (5 - nands d)) in
+      is_crossing_lem d (after x d r) h
+      (ap (λ b. ((x / 2 ^ (5 - bits d r) + 1) * b) % 2 ^ (5 - nands d)) f ∙ rw (← mul_assoc (x / 2 ^ (5 - bits d r) + 1)) (mul-mod_left ((x / 2 ^ (5 - bits d r) + 1) * 2 ^ over) (2 ^ (5 - nands d))))

@@ -1,8 +1,7 @@
 -- The patterns of a sound library, tried one after another at a node, each under its crossings.
 use Prim.Native.Nat.{ℕ, suc, ◌+◌, ◌-◌, ◌*◌, ◌/◌, ◌≤◌, ◌<◌}
 use mathlib.Core.Path.{◌≡◌, refl, sym, ap, ◌∙◌}
-use mathlib.Core.Bool.{Bool, true, false, cond, true≢false, false≢true}
-use mathlib.Core.List.Memᴰ
+use mathlib.Core.Bool.{Bool, true}
 use mathlib.Core.List.{List, [], ◌∷◌, ◌++◌, map, map-append, append_assoc, append-nil, Memᴰ}
 use mathlib.Core.Option.{Option, none, some}
 use native.Mathlib.Nat.{zero-add, add-zero}
@@ -10,28 +9,26 @@ use native.Mathlib.Numerals.{add-one}
 use native.Mathlib.Omega.{arith}
 use lib.ListN.{length, get_or, set, take, drop, length-append, length-map}
 use lib.Seq.{sets, take-suc, length-take-le}
-use borrow.Rule.Slice.PartMut.{put_mid}
 use borrow.Table.Steps.{cases}
-use Rattle.fields.proofs.Lists.{mid_sets, at_map}
+use Rattle.fields.proofs.Lists.{sets_append, front_sets, at_map}
 use Rattle.sheets_rules.specs.Model.{Shape, Library, Pattern, Tree, patterns, nands}
-use Rattle.sheets_rules.specs.Inside.Layout.{table_from, row_words}
+use Rattle.sheets_rules.specs.Inside.Layout.{row_words}
 use Rattle.sheets_rules.specs.Inside.Sound.{SoundDrawing, SoundCell, SoundLibrary}
-use Rattle.sheets_rules.proofs.Laid.{table_append}
-use Rattle.sheets_rules.proofs.Tables.{row_at}
 use Rattle.sheets_rules.proofs.Patterns.{sound_pattern}
 use Rattle.covers.specs.Lists.{keep_if, select}
 use Rattle.covers.specs.Crossing.{crossing_limit, redrawn, is_crossing, counted, crossings}
 use Rattle.covers.specs.Match.{Input, Match, laid, matched, put_first, fitting_under, fitting_from, fitting}
-use Rattle.covers.proofs.Basics.{option_cases, at_in}
+use Rattle.covers.proofs.Basics.{at_in}
 use Rattle.covers.proofs.Matching.{whenever, IsFitting, fitting_are}
 use Rattle.covers.proofs.Nodes.{root_in}
-use Rattle.overlay.specs.declared.Walked.{Walked}
+use Rattle.overlay.specs.declared.Inputs.{Inputs}
 use Rattle.overlay.specs.Inside.Standing.{extent, Measured}
-use Rattle.overlay.specs.Inside.Promises.{WalkIs}
+use Rattle.std.specs.Prelude.{Result}
+use Rattle.overlay.specs.Inside.Promises.{inputs_of, WalkIs}
 use Rattle.overlay.proofs.Patterns.{pinned, redrawn_sound, FromDrawing, laid_from, matched_laid, no_pattern, pattern_at, at_hand, row_stored, walkable}
-use Rattle.matching.specs.Inside.Found.{match_bytes, match_table, inputs_at, inputs_bytes, hit_of}
-use Rattle.matching.specs.Inside.Promises.{Few, Writable, Trying, Ready}
-use Rattle.matching.proofs.Written.{length_hit}
+use Rattle.matching.specs.declared.Hit.{Hit}
+use Rattle.matching.specs.Inside.Found.{match_most, hit_of}
+use Rattle.matching.specs.Inside.Promises.{Trying, Ready}
 use Rattle.matching.proofs.Crossings.{next, next_above, matches_below, matches_at, below_more, bits, bits_few, passed_over, crossing_after}
 
 -- ---- one pattern under one crossing
@@ -51,72 +48,41 @@ module _ {pins : ℕ} {d : Shape} (sound : SoundDrawing pins d) (few_pins : pins
       let f : FromDrawing (redrawn x d) _ = whenever (laid_from (redrawn x d) n s) (sym gate ∙ e) in
       record { few = omega (arith, f.few, again.nands); pinned = λ i m. pinned again f i m }
 
-  pub writable : {walked : Walked} → WalkIs d s n x walked → Writable (matched (redrawn x d) n s) walked
-  writable w = record { walked_is = rw gate w.found_is; few = option_cases (matched (redrawn x d) n s) (λ e. rw e tt) (λ is e. rw e (inputs_sound e).few) }
-
--- What is written for a walk.
-pub missing : {o : Option (List Input)} {walked : Walked} → Writable o walked → walked.matched ≡ false → o ≡ none
-missing {o = none} w e = refl
-missing {o = some is} w e = absurd (false≢true (sym e ∙ w.walked_is.matches))
-
-pub record There (o : Option (List Input)) (walked : Walked) : Type 0 where
-  pub inputs : List Input
-  pub is_there : o ≡ some inputs
-  pub writable : Writable (some inputs) walked
-
-pub there : {o : Option (List Input)} {walked : Walked} → Writable o walked → walked.matched ≡ true → There o walked
-there {o = none} w e = absurd (true≢false (sym e ∙ w.walked_is))
-there {o = some is} w e = record { inputs = is; is_there = refl; writable = w }
-
-module _ (k x : ℕ) (p : Pattern) (t : List ℕ) where
-  pub wrote_none : {o : Option (List Input)} → o ≡ none → (0 ≡ length (put_first k p x o [])) × (t ≡ table_from match_bytes t 0 (map hit_of (put_first k p x o [])))
-  unfolding put_first table_from
-  wrote_none e = rw e (refl, refl)
-
-  pub wrote_one : {o : Option (List Input)} {t' : List ℕ} {count : ℕ} (is : List Input) → o ≡ some is → count ≡ length is → t' ≡ sets (set (set (set t 0 k) 1 x) 2 count) inputs_at (inputs_bytes is) →
-      (1 ≡ length (put_first k p x o [])) × (t' ≡ table_from match_bytes t 0 (map hit_of (put_first k p x o [])))
-  unfolding put_first table_from hit_of
-  wrote_one is e c h = rw e (refl, h ∙ ap (λ n. sets (set (set (set t 0 k) 1 x) 2 n) inputs_at (inputs_bytes is)) c)
-
 -- ---- one turn of the loop over the crossings
-
--- What one turn wrote into the part that it was lent stands in the table.
-lent_back : (t : List ℕ) (count m : ℕ) (rs : List (List ℕ)) → m ≡ match_bytes → match_bytes * count + m ≤ length t → length rs ≤ 1 → ((r : List ℕ) → Memᴰ r rs → length r ≤ match_bytes) →
-    put_mid (match_bytes * count) m t (table_from match_bytes (take m (drop (match_bytes * count) t)) 0 rs) ≡ table_from match_bytes t count rs
-unfolding table_from
-lent_back t count m [] e h g f = mid_sets t (match_bytes * count) m [] h (omega arith)
-lent_back t count m (r ∷ []) e h g f = mid_sets t (match_bytes * count) m r h (omega (arith, f r (Memᴰ.head refl)))
-lent_back t count m (r ∷ (q ∷ rs)) e h g f = absurd (omega arith)
 
 put_more : (k : ℕ) (p : Pattern) (x : ℕ) (o : Option (List Input)) (ms : List Match) → length (put_first k p x o ms) ≤ suc (length ms)
 unfolding put_first
 put_more k p x none ms = omega arith
 put_more k p x (some is) ms = omega arith
 
-pub put_few : (k : ℕ) (p : Pattern) (x : ℕ) (o : Option (List Input)) → length (put_first k p x o []) ≤ 1
-put_few k p x o = put_more k p x o []
-
-put_small : (k : ℕ) (p : Pattern) (x : ℕ) (o : Option (List Input)) → Few o → (r : List ℕ) → Memᴰ r (map hit_of (put_first k p x o [])) → length r ≤ match_bytes
-unfolding put_first
-put_small k p x none f r m = absurd (Memᴰ.not-nil m)
-put_small k p x (some is) f r (Memᴰ.head e) = omega (arith, ap length e, length_hit (record { number = k; crossing = x; pattern = p; inputs = is }))
-put_small k p x (some is) f r (Memᴰ.tail m) = absurd (Memᴰ.not-nil m)
-
-module _ (n : ℕ) (s : Shape) (k : ℕ) (p : Pattern) (x : ℕ) {walked : Walked} (w : Writable (matched (redrawn x p.drawing) n s) walked) where
-  -- The matches under the crossings so far, and one crossing more.
-  pub crossing_turn : (t₀ t part : List ℕ) (count found r m x' : ℕ) → m ≡ match_bytes → match_bytes * found + m ≤ length t →
-      matches_below n s k p x' ≡ matches_below n s k p x ++ matches_at n s k p x →
-      found ≡ count + length (matches_below n s k p x) → t ≡ table_from match_bytes t₀ count (map hit_of (matches_below n s k p x)) →
-      (r ≡ length (matches_at n s k p x)) × (part ≡ table_from match_bytes (take m (drop (match_bytes * found) t)) 0 (map hit_of (matches_at n s k p x))) →
-      (found + r ≡ count + length (matches_below n s k p x')) × (put_mid (match_bytes * found) m t part ≡ table_from match_bytes t₀ count (map hit_of (matches_below n s k p x')))
-  crossing_turn t₀ t part count found r m x' e g more ec et h =
-      let fs = matches_below n s k p x in
-      let ms = matches_at n s k p x in
-      let o = matched (redrawn x p.drawing) n s in (
-        omega (arith, ap length more, length-append fs ms, h.0),
-        rw (h.1, lent_back t found m (map hit_of ms) e g (omega (arith, length-map ms hit_of, put_few k p x o)) (put_small k p x o w.few))
-            (rw (more, map-append hit_of fs ms, table_append match_bytes t₀ count (map hit_of fs), length-map fs hit_of, ← ec, ← et)),
+module _ (n : ℕ) (s : Shape) (k : ℕ) (p : Pattern) (x : ℕ) where
+  -- The matches under the crossings so far, and those under one crossing more.
+  turn : (t₀ t : List Hit) (count found x' : ℕ) (ms : List Match) → matches_below n s k p x' ≡ matches_below n s k p x ++ ms →
+      found ≡ count + length (matches_below n s k p x) → t ≡ sets t₀ count (map hit_of (matches_below n s k p x)) →
+      (found + length ms ≡ count + length (matches_below n s k p x')) × (sets t found (map hit_of ms) ≡ sets t₀ count (map hit_of (matches_below n s k p x')))
+  turn t₀ t count found x' ms more ec et =
+      let fs = matches_below n s k p x in (
+        omega (arith, ap length more, length-append fs ms),
+        rw (more, map-append hit_of fs ms, sets_append, length-map fs hit_of, ← ec, ← et),
       )
+
+  -- Under this one there is a match, or none.
+  pub turn_found : (t₀ t : List Hit) (count found x' : ℕ) (is : List Input) {inputs : Inputs} → matched (redrawn x p.drawing) n s ≡ some is → inputs ≡ inputs_of is →
+      matches_below n s k p x' ≡ matches_below n s k p x ++ matches_at n s k p x →
+      found ≡ count + length (matches_below n s k p x) → t ≡ sets t₀ count (map hit_of (matches_below n s k p x)) →
+      (found + 1 ≡ count + length (matches_below n s k p x')) × (set t found (record { pattern = k; crossing = x; inputs = inputs }) ≡ sets t₀ count (map hit_of (matches_below n s k p x')))
+  unfolding put_first hit_of
+  turn_found t₀ t count found x' is e f more ec et =
+      let m : Match = record { number = k; crossing = x; pattern = p; inputs = is } in
+      rw f (turn t₀ t count found x' (m ∷ []) (rw e at more) ec et)
+
+  pub turn_missed : (t₀ t : List Hit) (count found x' : ℕ) → matched (redrawn x p.drawing) n s ≡ none →
+      matches_below n s k p x' ≡ matches_below n s k p x ++ matches_at n s k p x →
+      found ≡ count + length (matches_below n s k p x) → t ≡ sets t₀ count (map hit_of (matches_below n s k p x)) →
+      (found ≡ count + length (matches_below n s k p x')) × (t ≡ sets t₀ count (map hit_of (matches_below n s k p x')))
+  unfolding put_first
+  turn_missed t₀ t count found x' e more ec et =
+      let r = turn t₀ t count found x' [] (rw e at more) ec et in (omega (arith, r.0), r.1)
 
 -- Those below the last are all.
 pub all_below : (n : ℕ) (s : Shape) (k : ℕ) (p : Pattern) {x : ℕ} → x ≡ crossing_limit → matches_below n s k p x ≡ fitting_under n s k p (crossings p.drawing)
@@ -133,25 +99,21 @@ module _ {row ss zs : List ℕ} {n k room count : ℕ} {p : Pattern} {s : Shape}
   unfolding extent
   nands_told m = omega (arith, m.each (record { number = 0; shape = p.drawing }) (root_in 0 p.drawing), t.sound.size)
 
-  module _ (x : ℕ) (crossing : is_crossing p.drawing x ≡ true) {walked : Walked} (walk_is : WalkIs p.drawing s n x walked)
-      (told decides : ℕ) (told_is : told ≡ nands p.drawing) (decides-is : decides ≡ cond walked.matched told walked.used) where
-    same : decides ≡ bits t.sound few_nands walk_is crossing
-    same = decides-is ∙ rw told_is
-
+  module _ (x : ℕ) (crossing : is_crossing p.drawing x ≡ true) (r : Result Inputs ℕ) (walk_is : WalkIs p.drawing s n x r) (decides : ℕ) (decides_is : decides ≡ bits p.drawing r) where
     pub decides_few : decides ≤ 5
-    decides_few = omega (arith, same, bits_few t.sound few_nands walk_is crossing, few_nands)
+    decides_few = omega (arith, decides_is, bits_few s n x t.sound few_nands crossing r walk_is, few_nands)
 
     module _ (x' : ℕ) (next_is : x' ≡ next x (5 - decides)) where
-      same_next : x' ≡ next x (5 - bits t.sound few_nands walk_is crossing)
-      same_next = next_is ∙ ap (λ i. next x (5 - i)) same
+      same_next : x' ≡ next x (5 - bits p.drawing r)
+      same_next = next_is ∙ ap (λ i. next x (5 - i)) decides_is
 
       pub more_below : matches_below n s k p x' ≡ matches_below n s k p x ++ matches_at n s k p x
       more_below =
-          below_more n s k p x x' (rw same_next (next_above x (5 - bits t.sound few_nands walk_is crossing))) crossing
-          (λ y a b. passed_over t.sound few_nands walk_is crossing y a (rw same_next at b))
+          below_more n s k p x x' (rw same_next (next_above x (5 - bits p.drawing r))) crossing
+          (λ y a b. passed_over s n x t.sound few_nands crossing r walk_is y a (rw same_next at b))
 
       pub next_crosses : x' < crossing_limit → is_crossing p.drawing x' ≡ true
-      next_crosses h = rw same_next (crossing_after t.sound few_nands walk_is crossing (rw same_next at h))
+      next_crosses h = rw same_next (crossing_after s n x t.sound few_nands crossing r walk_is (rw same_next at h))
 
 -- ---- one turn of the loop over the patterns
 
@@ -175,16 +137,16 @@ before_more l n s j h =
     rw (add-one j, take-suc (patterns l) j no_pattern h)
     (fitting_more n s 0 (take j (patterns l)) (pattern_at l j) ∙ rw (zero-add, length-take-le j (patterns l) (omega arith)))
 
-pub pattern_turn : (l : Library) (n : ℕ) (s : Shape) (j : ℕ) → j < length (patterns l) → (t₀ t t' : List ℕ) (count r : ℕ) →
-    count ≡ length (matches_before l n s j) → t ≡ table_from match_bytes t₀ 0 (map hit_of (matches_before l n s j)) →
-    (r ≡ count + length (matches_of l n s j)) × (t' ≡ table_from match_bytes t count (map hit_of (matches_of l n s j))) →
-    (r ≡ length (matches_before l n s (j + 1))) × (t' ≡ table_from match_bytes t₀ 0 (map hit_of (matches_before l n s (j + 1))))
+pub pattern_turn : (l : Library) (n : ℕ) (s : Shape) (j : ℕ) → j < length (patterns l) → (t₀ t t' : List Hit) (count r : ℕ) →
+    count ≡ length (matches_before l n s j) → t ≡ sets t₀ 0 (map hit_of (matches_before l n s j)) →
+    (r ≡ count + length (matches_of l n s j)) × (t' ≡ sets t count (map hit_of (matches_of l n s j))) →
+    (r ≡ length (matches_before l n s (j + 1))) × (t' ≡ sets t₀ 0 (map hit_of (matches_before l n s (j + 1))))
 pattern_turn l n s j h t₀ t t' count r ec et w =
     let fs = matches_before l n s j in
     let ms = matches_of l n s j in
     let more = before_more l n s j h in (
       omega (arith, ap length more, length-append fs ms, w.0),
-      rw (more, map-append hit_of fs ms, table_append match_bytes t₀ 0 (map hit_of fs), length-map fs hit_of, zero-add, ← ec, ← et) w.1,
+      rw (more, map-append hit_of fs ms, sets_append, length-map fs hit_of, zero-add, ← ec, ← et) w.1,
     )
 
 -- How many matches there may be.
@@ -235,6 +197,11 @@ trying {l} ready j h m e {count} few =
 
 -- ---- the matches found
 
+-- The inputs in a hit.
+pub hit_inputs : (m : Match) → (hit_of m).inputs ≡ inputs_of m.inputs
+unfolding hit_of
+hit_inputs m = refl
+
 module _ (l : Library) (n : ℕ) (s : Shape) where
   -- A match of a sound library has at most six inputs, each at a pin of its cell.
   pub record SoundMatch (m : Match) : Type 0 where
@@ -242,22 +209,18 @@ module _ (l : Library) (n : ℕ) (s : Shape) where
     pub pinned : (i : Input) → Memᴰ i m.inputs → i.pin < length m.pattern.cell.pins
     pub cell : SoundCell (length l.bins) m.pattern.cell
     pub fitting_is : IsFitting l n s m
-    pub hit_few : length (hit_of m) ≤ match_bytes
 
   pub fitting_sound : SoundLibrary l → {m : Match} → Memᴰ m (fitting l n s) → SoundMatch m
   fitting_sound h {m} i =
       let f = fitting_are l n s i in
       let p = sound_pattern l h (at_in (patterns l) m.number f.numbered) in
       let g = inputs_sound p.drawing p.cell.few_pins n s m.crossing f.fits in
-      record { few = g.few; pinned = g.pinned; cell = p.cell; fitting_is = f; hit_few = omega (arith, length_hit m, g.few) }
+      record { few = g.few; pinned = g.pinned; cell = p.cell; fitting_is = f }
 
   -- The hits of all matches fit, and each is read back.
-  pub hit_read : SoundLibrary l → (t : List ℕ) → length t ≡ match_table → (d : Match) (j c : ℕ) → j < length (fitting l n s) → c < length (hit_of (get_or (fitting l n s) j d)) →
-      get_or (table_from match_bytes t 0 (map hit_of (fitting l n s))) (match_bytes * j + c) 0 ≡ get_or (hit_of (get_or (fitting l n s) j d)) c 0
-  hit_read h t e d j c g k =
+  pub hit_read : SoundLibrary l → (t : List Hit) → length t ≡ match_most → (d : Match) (e : Hit) (j : ℕ) → j < length (fitting l n s) →
+      get_or (sets t 0 (map hit_of (fitting l n s))) j e ≡ hit_of (get_or (fitting l n s) j d)
+  hit_read h t f d e j g =
       let ms = fitting l n s in
-      let here : get_or (map hit_of ms) j [] ≡ hit_of (get_or ms j d) = at_map hit_of ms j d [] g in
-      row_at match_bytes t (map hit_of ms) j c
-      (λ r i. let m = Memᴰ.of_map hit_of ms i in omega (arith, (fitting_sound h m.1).hit_few, ap length m.2))
-      (omega (arith, length-map ms hit_of, fitting_few l n s, h.few_patterns)) (omega (arith, length-map ms hit_of)) (omega (arith, ap length here))
-      ∙ ap (λ r. get_or r c 0) here
+      front_sets t (map hit_of ms) j e (omega (arith, length-map ms hit_of, fitting_few l n s, h.few_patterns)) (omega (arith, length-map ms hit_of))
+      ∙ at_map hit_of ms j d e g

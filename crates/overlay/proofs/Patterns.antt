@@ -2,15 +2,16 @@
 use Prim.Native.Nat.{ℕ, suc, ◌+◌, ◌*◌, ◌≤◌, ◌<◌}
 use mathlib.Core.Path.{◌≡◌, refl, sym, ap, subst, ◌∙◌}
 use mathlib.Core.Logic.{◌⊎◌, inl, inr, ⊎_elim}
-use mathlib.Core.Bool.{Bool, true, false, false≢true}
+use mathlib.Core.Bool.{Bool, true, false}
 use mathlib.Core.List.Memᴰ
 use mathlib.Core.List.{List, [], ◌∷◌, ◌++◌, map, Memᴰ}
 use mathlib.Core.Option.{Option, none, some}
 use native.Mathlib.Omega.{arith}
-use lib.ListN.{length, get_or, take, drop, length-append, length-map}
+use lib.Seq.{sets-eq, take-append_seam}
+use lib.ListN.{replicate, length, get_or, take, drop, length-append, length-map}
 use Rattle.fields.proofs.Lists.{at_mem, at_map}
 use Rattle.sheets_rules.specs.Model.{Leaf, pin_of, plain_leaf, Shape, leaf, inv, nand, size, leaves, nands, Library, Pattern, Tree, patterns, pins_most}
-use Rattle.sheets_rules.specs.Inside.Layout.{padded, pin_words, figures_at, row_words}
+use Rattle.sheets_rules.specs.Inside.Layout.{pin_words, figures_at, row_words}
 use Rattle.sheets_rules.specs.Inside.Sound.{IsGate, SoundDrawing}
 use Rattle.sheets_rules.proofs.Laid.{in_padded}
 use Rattle.sheets_rules.proofs.Patterns.{SoundPattern, sound_pattern, Told, row_told, table_long, pin_laid}
@@ -20,8 +21,9 @@ use Rattle.covers.specs.Match.{Input, joined, laid, matched, pin_at, pin_load}
 use Rattle.covers.specs.Tradeoff.{nodes}
 use Rattle.covers.proofs.Matching.{Whenever, never, holds, whenever}
 use Rattle.cells.specs.Inside.Cell.{row_figures, figures_of}
-use Rattle.overlay.specs.Inside.Promises.{PatternStored, Walkable, Walks, WalkedIs, Decoded}
-use Rattle.overlay.specs.declared.Walked.{Walked}
+use Rattle.overlay.specs.Inside.Promises.{input_of, blank_input, inputs_of, PatternStored, Walkable, Decoded, WalkFound, WalkMissed}
+use Rattle.overlay.specs.declared.Input.{Input as InputRecord}
+use Rattle.overlay.specs.declared.Inputs.{Inputs}
 use Rattle.overlay.specs.Inside.Standing.{Measured}
 use Rattle.overlay.proofs.Standing.{subject_everywhere}
 use Rattle.overlay.proofs.Measuring.{drawn}
@@ -129,39 +131,49 @@ module _ (x : ℕ) where
   }
 
 -- What a walk over a sound drawing says of the match.
-module _ {pins : ℕ} {d : Shape} (n : ℕ) (s : Shape) (walked : Walked) (sound : SoundDrawing pins d) (walk_is : WalkedIs (laid d n s) walked) where
-  pub missed : walked.matched ≡ false → matched d n s ≡ none
-  missed e = matched_laid d n s sound.gate ∙ go (laid d n s) walk_is
-    where
-      go : (o : Option (List Input)) → WalkedIs o walked → o ≡ none
-      go none w = refl
-      go (some is) w = absurd (false≢true (sym e ∙ w.matches))
+module _ {pins : ℕ} {d : Shape} (n : ℕ) (s : Shape) (crossing : ℕ) (sound : SoundDrawing pins d) where
+  pub missed : {used : ℕ} → WalkMissed d s n crossing used → matched (redrawn crossing d) n s ≡ none
+  missed w = matched_laid (redrawn crossing d) n s (redrawn_sound crossing sound).gate ∙ w.ruled_out crossing refl
 
-  pub record Hit : Type 0 where
+  pub record Hit (found : Inputs) : Type 0 where
     pub inputs : List Input
-    pub fits : matched d n s ≡ some inputs
-    pub walks : Walks inputs walked
+    pub fits : matched (redrawn crossing d) n s ≡ some inputs
+    pub inputs_are : found ≡ inputs_of inputs
     pub few : length inputs ≤ pins
     pub pinned : (i : Input) → Memᴰ i inputs → i.pin < pins
 
-  pub hit : walked.matched ≡ true → Hit
-  hit e = go (laid d n s) refl walk_is
-    where
-      go : (o : Option (List Input)) → laid d n s ≡ o → WalkedIs o walked → Hit
-      go none q w = absurd (false≢true (sym w ∙ e))
-      go (some is) q w =
-          let f : FromDrawing d is = whenever (laid_from d n s) q in
-          record { inputs = is; fits = matched_laid d n s sound.gate ∙ q; walks = w; few = omega (arith, f.few, sound.nands); pinned = λ i m. pinned sound f i m }
+  pub hit : {found : Inputs} → WalkFound d s n crossing found → Hit found
+  hit w =
+      let again = redrawn_sound crossing sound in
+      let f : FromDrawing (redrawn crossing d) w.inputs = whenever (laid_from (redrawn crossing d) n s) w.laid_is in
+      record {
+        inputs = w.inputs;
+        fits = matched_laid (redrawn crossing d) n s again.gate ∙ w.laid_is;
+        inputs_are = w.inputs_are;
+        few = omega (arith, f.few, again.nands);
+        pinned = λ i m. pinned again f i m;
+      }
 
 abbrev pub no_input : Input
 no_input = record { pin = 0; node = 0; shape = plain_leaf 0 }
 
--- What a walk noted of the input k.
-pub noted : (f : Input → ℕ) (ws : List ℕ) (is : List Input) (k : ℕ) → ws ≡ padded 6 0 (map f is) → length is ≤ 6 → k < length is → get_or ws k 0 ≡ f (get_or is k no_input)
-noted f ws is k e h g =
-    ap (λ (l : List ℕ). get_or l k 0) e
-    ∙ in_padded 6 0 0 (map f is) k (omega (arith, length-map is f)) (omega (arith, length-map is f))
-    ∙ at_map f is k no_input 0 g
+-- How the input k is kept.
+pub input_kept : {r : Inputs} (is : List Input) (k : ℕ) → r ≡ inputs_of is → length is ≤ 6 → k < length is → get_or r.list k blank_input ≡ input_of (get_or is k no_input)
+unfolding inputs_of
+input_kept is k e h g =
+    ap (λ (r : Inputs). get_or r.list k blank_input) e
+    ∙ in_padded 6 blank_input blank_input (map input_of is) k (omega (arith, length-map is input_of)) (omega (arith, length-map is input_of))
+    ∙ at_map input_of is k no_input blank_input g
+
+-- The slice of those that are there.
+pub slice_kept : {r : Inputs} (is : List Input) → r ≡ inputs_of is → length is ≤ 6 → take r.count r.list ≡ map input_of is
+unfolding inputs_of
+slice_kept is e h =
+    let blanks : List InputRecord = replicate 6 blank_input in
+    let laid = map input_of is in
+    ap (λ (r : Inputs). take r.count r.list) e
+    ∙ ap (λ (l : List InputRecord). take (length is) l) (sets-eq laid blanks 0 (omega (arith, length-map is input_of)))
+    ∙ rw (← length-map is input_of) (take-append_seam laid (drop (0 + length laid) blanks))
 
 -- ---- the patterns of a decoded library
 

@@ -2,14 +2,14 @@
 use Prim.Native.Nat.{ℕ, suc, ◌+◌, ◌-◌, ◌*◌, ◌/◌, ◌%◌, ◌^◌, ◌≤◌, ◌<◌, max}
 use mathlib.Core.Path.{◌≡◌, refl, sym, ap, ap₂, subst, ◌∙◌}
 use mathlib.Core.Logic.{◌≢◌}
-use mathlib.Core.Bool.{Bool, true, false, cond, true≢false}
+use mathlib.Core.Bool.{Bool, true, false, cond}
 use mathlib.Core.List.Memᴰ
 use mathlib.Core.List.{List, [], ◌∷◌, ◌++◌, map, map-append, append_assoc, append-nil, Memᴰ}
 use mathlib.Core.Option.{Option, none, some}
 use native.Mathlib.Omega.{arith}
 use borrow.Author.Tests.{ne_eqb}
 use lib.Dec.{eqb}
-use lib.ListN.{get_or, length, set, replicate, length-append, length-map, length-set, length-replicate}
+use lib.ListN.{replicate, get_or, length, set, length-append, length-map, length-set, length-replicate}
 use lib.Pow.{shr-shr}
 use lib.Seq.{get_or-set_same, get_or-set_other}
 use Rattle.sheets_rules.specs.Inside.Layout.{padded, symbols_at}
@@ -20,9 +20,23 @@ use Rattle.covers.specs.Match.{Input, joined, laid}
 use Rattle.covers.proofs.Basics.{each}
 use Rattle.covers.proofs.Matching.{size_pos}
 use Rattle.overlay.specs.declared.Left.{Left}
-use Rattle.overlay.specs.declared.Walked.{Walked}
+use Rattle.overlay.specs.declared.Input.{Input as InputRecord}
+use Rattle.overlay.specs.declared.Inputs.{Inputs}
 use Rattle.overlay.specs.Inside.Standing.{Stands, extent, Drawn}
-use Rattle.overlay.specs.Inside.Promises.{at_root, Passable, branched, passed, resumed, WalkedIs, SameBits, WalkIs, Walkable}
+use Rattle.overlay.specs.Inside.Promises.{input_of, blank_input, inputs_of, pushed, Passable, branched, passed, resumed, SameBits, WalkFound, WalkMissed, Walkable}
+
+-- ---- the inputs of a match
+
+pub inputs_count : {r : Inputs} (is : List Input) → r ≡ inputs_of is → r.count ≡ length is
+unfolding inputs_of
+inputs_count is e = ap (λ (r : Inputs). r.count) e
+
+-- One input more.
+inputs_more : (is : List Input) (i : Input) → pushed (inputs_of is) (input_of i) ≡ inputs_of (is ++ (i ∷ []))
+unfolding inputs_of
+inputs_more is i =
+    ap₂ (λ (n : ℕ) (l : List InputRecord). record { count = n; list = l }) (sym (length-append is (i ∷ [])))
+    (padded_more 6 blank_input (input_of i) (map input_of is) (length is) (sym (length-map is input_of)) ∙ ap (padded 6 blank_input) (sym (map-append input_of is (i ∷ []))))
 
 -- ---- drawings laid in a row
 
@@ -256,8 +270,8 @@ module _ (row words ss zs : List ℕ) (d s : Shape) (n crossing : ℕ) where
 
   -- ---- the walk's own records
 
-  -- What the walk noted stands in two arrays, and where it stands in `left`.
-  pub record Going (pins nodes : List ℕ) (count : ℕ) (left : Left) (at : ℕ) : Type 0 where
+  -- What the walk noted stands in `inputs`, and where it stands in `left`.
+  pub record Going (inputs : Inputs) (left : Left) (at : ℕ) : Type 0 where
     noted : List Input
     spot : ℕ
     before : ℕ
@@ -270,18 +284,16 @@ module _ (row words ss zs : List ℕ) (d s : Shape) (n crossing : ℕ) where
     depth_is : left.depth ≡ length ps
     stacked : Stacked left.waiting ps
     waiting_long : length left.waiting ≡ 6
-    count_is : count ≡ length noted
-    pins_are : pins ≡ padded 6 0 (map (λ (i : Input). i.pin) noted)
-    nodes_are : nodes ≡ padded 6 0 (map (λ (i : Input). i.node) noted)
+    inputs_are : inputs ≡ inputs_of noted
 
   -- The word at the spot where it stands.
   abbrev symbol_at : Left → ℕ
   symbol_at left = get_or row (symbols_at + left.spot % 32) 0
 
   module _ (w : Walkable row words ss zs n d s) where
-    pub going_start : {left : Left} → left ≡ at_root → Going (replicate 6 0) (replicate 6 0) 0 left n
-    unfolding laid_in_row row_size parts_leaves joined redrawn
-    going_start e = rw e record {
+    pub going_start : Going (record { count = 0; list = replicate 6 blank_input }) (record { spot = 0; depth = 0; waiting = replicate 6 0; used = 0 }) n
+    unfolding laid_in_row row_size parts_leaves joined redrawn inputs_of
+    going_start = record {
       noted = [];
       spot = 0;
       before = 0;
@@ -304,23 +316,21 @@ module _ (row words ss zs : List ℕ) (d s : Shape) (n crossing : ℕ) where
       depth_is = refl;
       stacked = tt;
       waiting_long = length-replicate {A = ℕ} 6 0;
-      count_is = refl;
-      pins_are = refl;
-      nodes_are = refl;
+      inputs_are = refl;
     }
       where
         go : (a : Option (List Input)) → a ≡ joined (some []) (joined a (some []))
         go none = refl
         go (some is) = ap {B = Option (List Input)} some (sym (append-nil is))
 
-    module _ {pins nodes : List ℕ} {count : ℕ} {left : Left} {at : ℕ} (g : Going pins nodes count left at) where
+    module _ {inputs : Inputs} {left : Left} {at : ℕ} (g : Going inputs left at) where
       -- The spot in the row, the NANDs before it, and how much is noted and waits.
       pub record Within : Type 0 where
         placed : left.spot % 32 ≡ g.spot
         numbered : left.spot / 32 ≡ g.before
         inside : g.spot + size g.shape ≤ 16
         pub spot_small : left.spot % 32 < 16
-        pub noted_few : count + left.depth < 6
+        pub noted_few : inputs.count + left.depth < 6
         pub at_some : 0 < get_or zs at 0
         pub at_ends : at + get_or zs at 0 ≤ 64
 
@@ -335,7 +345,7 @@ module _ (row words ss zs : List ℕ) (d s : Shape) (n crossing : ℕ) where
             numbered = omega (arith, g.spot_is);
             inside = inside;
             spot_small = omega (arith, g.spot_is);
-            noted_few = omega (arith, a.counted, w.few, parts_few g.ps, g.count_is, g.depth_is);
+            noted_few = omega (arith, a.counted, w.few, parts_few g.ps, inputs_count g.noted g.inputs_are, g.depth_is);
             at_some = omega (arith, ended, size_pos g.t);
             at_ends = omega (arith, ended, a.ends, w.subject.ends);
           }
@@ -422,7 +432,7 @@ module _ (row words ss zs : List ℕ) (d s : Shape) (n crossing : ℕ) where
         -- With the branch that is next, and the one that waits.
         branch_going : (x y : Part) → Abreast (max left.used (g.before + 1)) g.noted x.spot x.before x.shape (y ∷ g.ps) (at + 1) t (u ∷ g.ts) →
             {next waits : ℕ} → next ≡ part_word x → waits ≡ part_word y →
-            Going pins nodes count (record { spot = next; depth = left.depth + 1; waiting = set left.waiting left.depth waits; used = max left.used (g.before + 1) }) (at + 1)
+            Going inputs (record { spot = next; depth = left.depth + 1; waiting = set left.waiting left.depth waits; used = max left.used (g.before + 1) }) (at + 1)
         branch_going x y b {next} {waits} e f = record {
           noted = g.noted;
           spot = x.spot;
@@ -439,12 +449,10 @@ module _ (row words ss zs : List ℕ) (d s : Shape) (n crossing : ℕ) where
             stacked_set left.waiting left.depth waits g.ps (omega (arith, g.depth_is)) g.stacked,
           );
           waiting_long = length-set left.waiting left.depth waits ∙ g.waiting_long;
-          count_is = g.count_is;
-          pins_are = g.pins_are;
-          nodes_are = g.nodes_are;
+          inputs_are = g.inputs_are;
         }
 
-        branches : (b : Bool) → exchanged crossing g.before ≡ b → Going pins nodes count (passed left (symbol_at left) words crossing) (at + 1)
+        branches : (b : Bool) → exchanged crossing g.before ≡ b → Going inputs (passed left (symbol_at left) words crossing) (at + 1)
         branches false e =
             rw (← passed_nand left words crossing nand_symbol_lem (ap (exchanged crossing) within.numbered ∙ e) used_is, extent_is)
             (branch_going (first_of g.spot g.before p) (second_of g.spot g.before p q)
@@ -455,10 +463,10 @@ module _ (row words ss zs : List ℕ) (d s : Shape) (n crossing : ℕ) where
             (abreast_nand w.few a _ _ (second_in w.few a) (first_in w.few a) (omega arith) (λ y f. unfold ordered in redrawn_nand y g.before p q (f ∙ e))) (omega (arith, g.spot_is)) (omega (arith, g.spot_is)))
 
       -- Past two equal symbols.
-      pub going_pass : symbol_at left < 2 → get_or ss at 0 ≡ symbol_at left → Going pins nodes count (passed left (symbol_at left) words crossing) (at + 1)
+      pub going_pass : symbol_at left < 2 → get_or ss at 0 ≡ symbol_at left → Going inputs (passed left (symbol_at left) words crossing) (at + 1)
       going_pass h c = go g.shape g.t g.abreast
         where
-          go : (x t : Shape) → Here x t → Going pins nodes count (passed left (symbol_at left) words crossing) (at + 1)
+          go : (x t : Shape) → Here x t → Going inputs (passed left (symbol_at left) words crossing) (at + 1)
           go (leaf x) t a = absurd (omega (arith, symbol_is a.first.drawn))
           go (inv p) (leaf z) a = absurd (omega (arith, c, symbol_is a.first.drawn.0, a.stands.0))
           go (inv p) (inv t) a =
@@ -476,9 +484,7 @@ module _ (row words ss zs : List ℕ) (d s : Shape) (n crossing : ℕ) where
                 depth_is = g.depth_is;
                 stacked = g.stacked;
                 waiting_long = g.waiting_long;
-                count_is = g.count_is;
-                pins_are = g.pins_are;
-                nodes_are = g.nodes_are;
+                inputs_are = g.inputs_are;
               }
           go (inv p) (nand t u) a = absurd (omega (arith, c, symbol_is a.first.drawn.0, a.stands.0))
           go (nand p q) (leaf z) a = absurd (omega (arith, c, symbol_is a.first.drawn.0, a.stands.0))
@@ -490,22 +496,18 @@ module _ (row words ss zs : List ℕ) (d s : Shape) (n crossing : ℕ) where
         abbrev noted' : List Input
         noted' = g.noted ++ (input_at at x g.t ∷ [])
 
-        count_noted : count + 1 ≡ length noted'
-        count_noted = omega (arith, length-append g.noted (input_at at x g.t ∷ []), g.count_is)
-
-        array_noted : {l : List ℕ} (f : Input → ℕ) (v : ℕ) → l ≡ padded 6 0 (map f g.noted) → v ≡ f (input_at at x g.t) → set l count v ≡ padded 6 0 (map f noted')
-        array_noted f v e h =
-            ap₂ (λ k i. set k count i) e h
-            ∙ padded_more 6 0 (f (input_at at x g.t)) (map f g.noted) count (g.count_is ∙ sym (length-map g.noted f))
-            ∙ ap (padded 6 0) (sym (map-append f g.noted (input_at at x g.t ∷ [])))
+        inputs_noted : PartIn (record { spot = g.spot; before = g.before; shape = leaf x }) → pushed inputs (record { pin = symbol_at left - 2; node = at }) ≡ inputs_of noted'
+        inputs_noted p =
+            let e : symbol_at left - 2 ≡ pin_of x = omega (arith, symbol_is p.drawn, p.pinned x (unfold leaves in Memᴰ.head refl)) in
+            ap₂ (λ (r : Inputs) (q : ℕ). pushed r (record { pin = q; node = at })) g.inputs_are e ∙ inputs_more g.noted (input_at at x g.t)
 
       -- The part that waited last is next.
-      pub going_skip : 2 ≤ symbol_at left → 0 < left.depth → Going (set pins count (symbol_at left - 2)) (set nodes count at) (count + 1) (resumed left) (at + get_or zs at 0)
+      pub going_skip : 2 ≤ symbol_at left → 0 < left.depth → Going (pushed inputs (record { pin = symbol_at left - 2; node = at })) (resumed left) (at + get_or zs at 0)
       unfolding resumed
       going_skip h z = go g.shape g.ps g.ts g.abreast g.depth_is g.stacked
         where
           go : (x : Shape) (ps : List Part) (ts : List Shape) → Abreast left.used g.noted g.spot g.before x ps at g.t ts → left.depth ≡ length ps → Stacked left.waiting ps →
-              Going (set pins count (symbol_at left - 2)) (set nodes count at) (count + 1) (resumed left) (at + get_or zs at 0)
+              Going (pushed inputs (record { pin = symbol_at left - 2; node = at })) (resumed left) (at + get_or zs at 0)
           go (inv p) ps ts a k m = absurd (omega (arith, symbol_is a.first.drawn.0))
           go (nand p q) ps ts a k m = absurd (omega (arith, symbol_is a.first.drawn.0))
           go (leaf x) [] ts a k m = absurd (omega arith)
@@ -525,35 +527,19 @@ module _ (row words ss zs : List ℕ) (d s : Shape) (n crossing : ℕ) where
                 depth_is = e;
                 stacked = m.1;
                 waiting_long = g.waiting_long;
-                count_is = count_noted x;
-                pins_are = array_noted x (λ i. i.pin) _ g.pins_are (omega (arith, symbol_is a.first.drawn, a.first.pinned x (unfold leaves in Memᴰ.head refl)));
-                nodes_are = array_noted x (λ i. i.node) _ g.nodes_are refl;
+                inputs_are = inputs_noted x a.first;
               }
 
       -- After the last leaf the walk has found the match.
-      pub going_end : 2 ≤ symbol_at left → left.depth ≡ 0 → WalkIs d s n crossing (record { matched = true; used = left.used; count = count + 1; pins = set pins count (symbol_at left - 2); nodes = set nodes count at })
+      pub going_end : 2 ≤ symbol_at left → left.depth ≡ 0 → WalkFound d s n crossing (pushed inputs (record { pin = symbol_at left - 2; node = at }))
       going_end h z = go g.shape g.ps g.abreast g.depth_is
         where
-          go : (x : Shape) (ps : List Part) → Abreast left.used g.noted g.spot g.before x ps at g.t g.ts → left.depth ≡ length ps →
-              WalkIs d s n crossing (record { matched = true; used = left.used; count = count + 1; pins = set pins count (symbol_at left - 2); nodes = set nodes count at })
+          go : (x : Shape) (ps : List Part) → Abreast left.used g.noted g.spot g.before x ps at g.t g.ts → left.depth ≡ length ps → WalkFound d s n crossing (pushed inputs (record { pin = symbol_at left - 2; node = at }))
           go (inv p) ps a k = absurd (omega (arith, symbol_is a.first.drawn.0))
           go (nand p q) ps a k = absurd (omega (arith, symbol_is a.first.drawn.0))
           go (leaf x) (p ∷ ps) a k = absurd (omega arith)
-          go (leaf x) [] a k = record {
-            found_is = rw (abreast_end a crossing refl) record {
-              matches = refl;
-              count_is = count_noted x;
-              pins_are = array_noted x (λ i. i.pin) _ g.pins_are (omega (arith, symbol_is a.first.drawn, a.first.pinned x (unfold leaves in Memᴰ.head refl)));
-              nodes_are = array_noted x (λ i. i.node) _ g.nodes_are refl;
-            };
-            used_few = a.used_few;
-            ruled_out = λ e. absurd (true≢false e);
-          }
+          go (leaf x) [] a k = record { inputs = noted' x; laid_is = abreast_end a crossing refl; inputs_are = inputs_noted x a.first }
 
       -- Where two symbols differ it has found none.
-      pub going_missed : symbol_at left < 2 → get_or ss at 0 ≢ symbol_at left → (r : Walked) → r.matched ≡ false → r.used ≡ left.used → WalkIs d s n crossing r
-      going_missed h c r e f = record {
-        found_is = subst (λ o. WalkedIs o r) (sym (going_differs h c crossing refl)) e;
-        used_few = omega (arith, f, g.abreast.used_few);
-        ruled_out = λ z y b. going_differs h c y (subst (λ u. SameBits u crossing y) f b);
-      }
+      pub going_missed : symbol_at left < 2 → get_or ss at 0 ≢ symbol_at left → WalkMissed d s n crossing left.used
+      going_missed h c = record { used_few = g.abreast.used_few; ruled_out = going_differs h c }

@@ -1,14 +1,14 @@
 // A pattern laid over a node of the subject tree under a crossing: the inputs that it finds there.
 #![tactic(auto)]
 
-ghost use Rattle.std.specs.Prelude.{◌≡◌, ◌<◌, ◌≤◌, max};
-ghost use Rattle.sheets_rules.specs.Model.{Shape, size};
+ghost use Rattle.std.specs.Prelude.{◌≡◌, ◌<◌, ◌≤◌, take, MatchOption};
+ghost use Rattle.sheets_rules.specs.Model.{Shape, size, pins_most};
 ghost use Rattle.covers.specs.Crossing.{exchanged, crossing_limit};
 ghost use Rattle.overlay.specs.Inside.Standing.{Extending, ExtentFound, DrawingStored, DrawingMeasured};
-ghost use Rattle.overlay.specs.Inside.Promises.{at_root, Passable, passed, resumed, Walkable, DrawingWalked};
+ghost use Rattle.overlay.specs.Inside.Promises.{pushed, waits, Popped, Passable, passed, Walkable, DrawingWalked};
 
 use shapes_rules::Packed;
-use sheets_rules::{Limits, PatternRow, Slots};
+use sheets_rules::{Limits, PatternRow, Slots, TreeRecord};
 
 // How many crossing numbers there are: five bits, the first the highest.
 #[derive(Clone, Copy)]
@@ -31,8 +31,48 @@ impl Extents {
     pub const FIRST: usize = Extents::NAND + 1;
 }
 
+// An input of a match as it is kept: the pin that it feeds, and the tree's node that it stands at.
+#[derive(Clone, Copy)]
+pub struct Input {
+    pub pin: u8,
+    pub node: u8,
+}
+
+// The inputs of a match in the order of the tree: the first `count` of an array, the rest of which is blank.
+#[derive(Clone, Copy)]
+pub struct Inputs {
+    pub count: u8,
+    pub list: [Input; Slots::PINS],
+}
+
+impl Inputs {
+    // No input yet.
+    pub const NONE: Inputs = Inputs {
+        count: 0,
+        list: [Input { pin: 0, node: 0 }; Slots::PINS],
+    };
+
+    // One input more.
+    pub fn push(&mut self, input: Input)
+        requires { self.old.count < pins_most }
+        ensures { self.new ≡ pushed self.old input }
+    {
+        self.list[usize::from(self.count)] = input;
+        self.count += 1;
+    }
+
+    // The inputs that are there.
+    pub fn as_slice(&self) -> &[Input]
+        requires { self.now.count ≤ pins_most }
+        ensures { result.now ≡ take self.now.count self.now.list }
+    {
+        &self.list[..usize::from(self.count)]
+    }
+}
+
 // Where a walk stands in a drawing: at a spot, with the branches that wait to be laid, the first `depth` of an array, the next one last;
-// and how many bits of the crossing it has used. A spot is a node's number in the drawing and 32 times how many NANDs come before it.
+// and how many bits of the crossing it has used. A spot is a node's number in the drawing and 32 times how many NANDs come before it:
+// one word, as the extents are, so that one addition passes a branch in both counts.
 #[derive(Clone, Copy)]
 pub struct Left {
     pub spot: usize,
@@ -43,33 +83,57 @@ pub struct Left {
 
 impl Left {
     // At the drawing's root, where no branch waits.
-    fn at_root() -> Left
-        ensures { result ≡ at_root }
+    const ROOT: Left = Left {
+        spot: 0,
+        depth: 0,
+        waiting: [0u8; Slots::PINS],
+        used: 0,
+    };
+
+    // One branch more waits.
+    fn push(&mut self, spot: usize)
+        requires { (self.old.depth < pins_most) × (spot ≤ 255) }
+        ensures { self.new ≡ waits self.old spot }
     {
-        Left {
-            spot: 0,
-            depth: 0,
-            waiting: [0u8; Slots::PINS],
-            used: 0,
+        self.waiting[self.depth] = spot as u8;
+        self.depth += 1;
+    }
+
+    // The branch that waits last, if one does.
+    #[tactic(auto, unfolding(crate::specs::Inside::Promises::resumed))]
+    fn pop(&mut self) -> Option<usize>
+        requires { self.old.depth ≤ pins_most }
+        ensures { MatchOption result (self.old.depth ≡ 0) (λ spot. Popped self.old self.new spot) }
+    {
+        if self.depth == 0 {
+            return None;
+        }
+        self.depth -= 1;
+        Some(usize::from(self.waiting[self.depth]))
+    }
+
+    // Past a gate: an inverter's branch is next; of a NAND's two the one that stands first under the crossing, and the other waits.
+    fn pass_gate(&mut self, symbol: u32, extents: Extents, crossing: u32)
+        requires { Passable self.old symbol extents.words × (crossing < crossing_limit) }
+        ensures { self.new ≡ passed self.old symbol extents.words crossing }
+    {
+        if symbol == Packed::INVERTER {
+            self.spot += 1;
+            return;
+        }
+        let words = extents.words;
+        let number = self.spot / Extents::NAND;
+        let first = self.spot + Extents::FIRST;
+        let second = first + usize::from(words[first % Extents::NAND]);
+        self.used = self.used.max(number + 1);
+        if is_exchanged(crossing, number) {
+            self.spot = second;
+            self.push(first);
+        } else {
+            self.spot = first;
+            self.push(second);
         }
     }
-}
-
-// What a walk over a pattern finds: whether it matches and, if so, how many inputs it has, with the pin and the node of each in the
-// order of the tree; if not, how many bits of the crossing tell so.
-#[derive(Clone, Copy)]
-pub struct Walked {
-    pub matched: bool,
-    pub used: usize,
-    pub count: usize,
-    pub pins: [u8; Slots::PINS],
-    pub nodes: [u8; Slots::PINS],
-}
-
-fn wide(x: u8) -> usize
-    ensures { (result ≡ x) × (result ≤ 255) }
-{
-    x as usize
 }
 
 // The extent of the node numbered k, from its symbol and the extents of the nodes after it.
@@ -80,11 +144,11 @@ fn extent_from(symbol: u32, words: &[u8; Limits::PATTERN_NODES], k: usize) -> us
     if Packed::LEAF <= symbol {
         return 1;
     }
-    let first = wide(words[k + 1]);
+    let first = usize::from(words[k + 1]);
     if symbol == Packed::INVERTER {
         return 1 + first;
     }
-    Extents::FIRST + first + wide(words[k + 1 + first % Extents::NAND])
+    Extents::FIRST + first + usize::from(words[k + 1 + first % Extents::NAND])
 }
 
 // The extents of the drawing in a pattern's row, from the last node to the first.
@@ -93,9 +157,7 @@ pub fn measure(row: &[u32]) -> Extents
     ensures { DrawingMeasured row.now result }
 {
     let mut words = [0u8; Limits::PATTERN_NODES];
-    let mut k = row[PatternRow::SIZE] as usize;
-    while 0 < k {
-        k -= 1;
+    for k in (0..row[PatternRow::SIZE] as usize).rev() {
         words[k] = extent_from(row[PatternRow::SYMBOLS + k], &words, k) as u8;
     }
     Extents { words }
@@ -109,104 +171,41 @@ fn is_exchanged(crossing: u32, number: usize) -> bool
     (crossing >> (4 - number)) % 2 == 1
 }
 
-// The greater of two counts.
-fn greater(a: usize, b: usize) -> usize
-    ensures { result ≡ max a b }
-{
-    if a < b {
-        return b;
-    }
-    a
-}
-
-// Past a gate: an inverter's branch is next; of a NAND's two the one that stands first under the crossing, and the other waits.
-fn pass_gate(left: Left, symbol: u32, extents: Extents, crossing: u32) -> Left
-    requires { Passable left symbol extents.words × (crossing < crossing_limit) }
-    ensures { result ≡ passed left symbol extents.words crossing }
-{
-    let spot = left.spot;
-    let depth = left.depth;
-    let words = extents.words;
-    let mut next = left;
-    if symbol == Packed::INVERTER {
-        next.spot = spot + 1;
-        return next;
-    }
-    let number = spot / Extents::NAND;
-    let first = spot + Extents::FIRST;
-    let second = first + words[first % Extents::NAND] as usize;
-    next.used = greater(left.used, number + 1);
-    next.depth = depth + 1;
-    if is_exchanged(crossing, number) {
-        next.spot = second;
-        next.waiting[depth] = first as u8;
-    } else {
-        next.spot = first;
-        next.waiting[depth] = second as u8;
-    }
-    next
-}
-
-// The branch that waits last is next.
-fn resume(left: Left) -> Left
-    requires { (0 < left.depth) × (left.depth ≤ 6) }
-    ensures { result ≡ resumed left }
-{
-    let last = left.depth - 1;
-    let waiting = left.waiting;
-    let mut next = left;
-    next.spot = waiting[last] as usize;
-    next.depth = last;
-    next
-}
-
 // Walks a pattern, redrawn by a crossing, and the tree's nodes from n on together. A pattern's leaf notes its pin and the tree's node, and
-// skips all that stands under the node; elsewhere the two symbols must be equal.
-pub fn walk<'a>(
-    row: &'a [u32],
+// skips all that stands under the node; elsewhere the two symbols must be equal. Answers the inputs of the match or, if there is none, how
+// many bits of the crossing tell so.
+pub fn walk(
+    row: &[u32],
     extents: Extents,
     crossing: u32,
-    symbols: &'a [u32],
-    sizes: &'a [u8],
+    tree: &TreeRecord,
     n: usize,
-) -> Walked
-    requires { (crossing < crossing_limit) × ((d : Shape) × ((s : Shape) × Walkable row.now extents.words symbols.now sizes.now n d s)) }
-    ensures { DrawingWalked row.now extents.words crossing symbols.now sizes.now n result }
+) -> Result<Inputs, usize>
+    requires { (crossing < crossing_limit) × ((d : Shape) × ((s : Shape) × Walkable row.now extents.words tree.now.symbols tree.now.sizes n d s)) }
+    ensures { DrawingWalked row.now extents.words crossing tree.now.symbols tree.now.sizes n result }
 {
-    let mut pins = [0u8; Slots::PINS];
-    let mut nodes = [0u8; Slots::PINS];
-    let mut count: usize = 0;
-    let mut left = Left::at_root();
+    let mut inputs = Inputs::NONE;
+    let mut left = Left::ROOT;
     let mut at = n;
+    // The pattern says where to go next and when to stop: there is nothing to count or to iterate over.
     loop {
         let symbol = row[PatternRow::SYMBOLS + left.spot % Extents::NAND];
         if symbol < Packed::LEAF {
-            if symbols[at] != symbol {
-                return Walked {
-                    matched: false,
-                    used: left.used,
-                    count,
-                    pins,
-                    nodes,
-                };
+            if tree.symbols[at] != symbol {
+                return Err(left.used);
             }
             at += 1;
-            left = pass_gate(left, symbol, extents, crossing);
+            left.pass_gate(symbol, extents, crossing);
         } else {
-            pins[count] = (symbol - Packed::LEAF) as u8;
-            nodes[count] = at as u8;
-            count += 1;
-            at += sizes[at] as usize;
-            if left.depth == 0 {
-                return Walked {
-                    matched: true,
-                    used: left.used,
-                    count,
-                    pins,
-                    nodes,
-                };
-            }
-            left = resume(left);
+            inputs.push(Input {
+                pin: (symbol - Packed::LEAF) as u8,
+                node: at as u8,
+            });
+            at += usize::from(tree.sizes[at]);
+            let Some(spot) = left.pop() else {
+                return Ok(inputs);
+            };
+            left.spot = spot;
         }
     }
 }

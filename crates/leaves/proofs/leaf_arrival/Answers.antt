@@ -9,14 +9,11 @@ use Rattle.leaves.proofs.leaf_arrival.Goals as goal
 added : (symbol load : ℕ) → symbol ≤ symbol_limit → load ≤ 255 → (symbol - 2) / 1048576 * load ≤ 255 * 255
 added symbol load h g = let drive : (symbol - 2) / 1048576 ≤ 255 = omega arith in mul-le-mul drive g
 
-pub overflow_mul-result : goal.overflow_mul-result
-overflow_mul-result c = let a = c.args in omega (arith, added a.symbol a.load c.requires.1 c.requires.2)
+pub overflow_mul-packed : goal.overflow_mul-packed
+overflow_mul-packed c = let a = c.args in omega (arith, added a.symbol a.load c.requires.1 c.requires.2)
 
-pub overflow_add-result : goal.overflow_add-result
-overflow_add-result c = let a = c.args in omega (arith, added a.symbol a.load c.requires.1 c.requires.2)
-
-pub overflow_cast-result : goal.overflow_cast-result
-overflow_cast-result c = let a = c.args in omega (arith, added a.symbol a.load c.requires.1 c.requires.2)
+pub overflow_add-packed : goal.overflow_add-packed
+overflow_add-packed c = let a = c.args in omega (arith, added a.symbol a.load c.requires.1 c.requires.2)
 
 pub returns : goal.returns
 unfolding leaf_arrival leaf_of

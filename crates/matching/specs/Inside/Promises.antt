@@ -1,39 +1,18 @@
 -- What the functions of this crate are lent and what they promise, by the definitions of matches and of hits.
 use Rattle.std.specs.Prelude.{ℕ, ◌+◌, ◌*◌, ◌≤◌, ◌<◌, ◌≡◌, length}
-use mathlib.Core.List.{List, [], map, Memᴰ}
-use Rattle.std.proofs.Math.Option.{Option, none, some}
+use mathlib.Core.List.{List, map, Memᴰ}
 use Rattle.std.proofs.lemmas.List.Edits.{sets}
 use Rattle.sheets_rules.specs.Model.{Shape, Library, Pattern, Tree}
-use Rattle.sheets_rules.specs.Inside.Layout.{table_from}
 use Rattle.sheets_rules.specs.Inside.Sound.{SoundDrawing}
 use Rattle.covers.specs.Crossing.{crossings}
-use Rattle.covers.specs.Match.{Input, put_first, fitting_under, fitting}
+use Rattle.covers.specs.Match.{fitting_under, fitting}
 use Rattle.covers.specs.Tradeoff.{nodes}
-use Rattle.overlay.specs.declared.Walked.{Walked}
 use Rattle.overlay.specs.Inside.Standing.{DrawingStored, Measured}
-use Rattle.overlay.specs.Inside.Promises.{Walks, WalkedIs, Walkable, Decoded}
-use Rattle.matching.specs.Inside.Found.{match_bytes, match_table, inputs_at, inputs_bytes, hit_of}
+use Rattle.overlay.specs.Inside.Promises.{Walkable, Decoded}
+use Rattle.matching.specs.declared.Hit.{Hit}
+use Rattle.matching.specs.Inside.Found.{match_most, hit_of}
 
 -- ---- one pattern
-
--- The inputs that a walk found stand in their place in the hit, and nothing else is changed.
-abbrev pub InputsWritten : Walked → (entry exit : List ℕ) → Type 0
-InputsWritten walked entry exit = (is : List Input) → Walks is walked → length is ≤ 6 → exit ≡ sets entry inputs_at (inputs_bytes is)
-
--- A walk found these inputs, at most six, or none.
-abbrev pub Few : Option (List Input) → Type 0
-Few none = Unit {0}
-Few (some is) = length is ≤ 6
-
-pub record Writable (o : Option (List Input)) (walked : Walked) : Type 0 where
-  pub walked_is : WalkedIs o walked
-  pub few : Few o
-
--- The hit of a walk that matched is written, or none; r says how many.
-abbrev pub MatchWritten : Walked → (number crossing : ℕ) → (entry exit : List ℕ) → ℕ → Type 0
-MatchWritten walked number crossing entry exit r =
-    (o : Option (List Input)) → Writable o walked → (p : Pattern) →
-    (r ≡ length (put_first number p crossing o [])) × (exit ≡ table_from match_bytes entry 0 (map hit_of (put_first number p crossing o [])))
 
 -- The row of a sound pattern with a number, over the subtree s at node n, and room for its matches after `count` hits.
 pub record Trying (row ss zs : List ℕ) (n number room count : ℕ) (p : Pattern) (s : Shape) : Type 0 where
@@ -43,15 +22,15 @@ pub record Trying (row ss zs : List ℕ) (n number room count : ℕ) (p : Patter
   pub sound : SoundDrawing pins p.drawing
   pub walkable : (words : List ℕ) → Measured p.drawing words → Walkable row words ss zs n p.drawing s
   pub number_small : number < 128
-  pub room_is : room ≡ match_table
+  pub room_is : room ≡ match_most
   pub count_small : count ≤ 32 * number
 
 -- The hits of a pattern under all its crossings stand after the first `count`; r says how many there are then.
-abbrev pub CrossingsFound : (row ss zs : List ℕ) → (n number count : ℕ) → (entry exit : List ℕ) → ℕ → Type 0
+abbrev pub CrossingsFound : (row ss zs : List ℕ) → (n number count : ℕ) → (entry exit : List Hit) → ℕ → Type 0
 CrossingsFound row ss zs n number count entry exit r =
     (p : Pattern) (s : Shape) → Trying row ss zs n number (length entry) count p s →
     (r ≡ count + length (fitting_under n s number p (crossings p.drawing)))
-    × (exit ≡ table_from match_bytes entry count (map hit_of (fitting_under n s number p (crossings p.drawing))))
+    × (exit ≡ sets entry count (map hit_of (fitting_under n s number p (crossings p.drawing))))
 
 -- ---- all matches of a node
 
@@ -59,10 +38,10 @@ CrossingsFound row ss zs n number count entry exit r =
 pub record Ready (l : Library) (t : Tree) (rows ss zs : List ℕ) (n room : ℕ) (s : Shape) : Type 0 where
   pub decoded : Decoded l t rows ss zs
   pub here : Memᴰ (record { number = n; shape = s }) (nodes 0 t.shape)
-  pub room_is : room ≡ match_table
+  pub room_is : room ≡ match_most
 
 -- The hits of all matches at node n stand in the table, whichever library and tree are stored; r says how many.
-abbrev pub MatchesFound : (rows ss zs : List ℕ) → ℕ → (entry exit : List ℕ) → ℕ → Type 0
+abbrev pub MatchesFound : (rows ss zs : List ℕ) → ℕ → (entry exit : List Hit) → ℕ → Type 0
 MatchesFound rows ss zs n entry exit r =
     (l : Library) (t : Tree) (s : Shape) → Ready l t rows ss zs n (length entry) s →
-    (r ≡ length (fitting l n s)) × (exit ≡ table_from match_bytes entry 0 (map hit_of (fitting l n s)))
+    (r ≡ length (fitting l n s)) × (exit ≡ sets entry 0 (map hit_of (fitting l n s)))

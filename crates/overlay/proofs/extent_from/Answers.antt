@@ -16,20 +16,20 @@ gate : (c : lts.Else1 tie.the-claims reads.Pre reads.Post) → c.args.k + 1 ≤ 
 gate c = let a = c.args in omega (arith, (gate_room a.symbol a.words.now a.k c.requires.0 c.requires.1 (omega arith)).0)
 
 pub returns-then-symbol-eq-INVERTER : goal.returns-then-symbol-eq-INVERTER
-returns-then-symbol-eq-INVERTER c = let a = c.args in λ s e. omega (arith, c.wide-first.ensures.0, extent_inv a.symbol a.words.now a.k s e c.if-symbol-eq-INVERTER.true)
+returns-then-symbol-eq-INVERTER c = let a = c.args in λ s e. omega (arith, c.from-first.ensures, extent_inv a.symbol a.words.now a.k s e c.if-symbol-eq-INVERTER.true)
 
-nand : (c : lts.Else2 tie.the-claims reads.Pre reads.Post) → c.args.k + 1 + c.wide-first.result % 32 < 16
+nand : (c : lts.Else2 tie.the-claims reads.Pre reads.Post) → c.args.k + 1 + c.from-first.result % 32 < 16
 nand c =
     let start = c.before.before.before.before in
     let a = start.args in
-    omega (arith, c.wide-first.ensures.0, nand_room a.symbol a.words.now a.k start.requires.0 start.requires.1 (omega arith) c.if-symbol-eq-INVERTER.false)
+    omega (arith, c.from-first.ensures, nand_room a.symbol a.words.now a.k start.requires.0 start.requires.1 (omega arith) c.if-symbol-eq-INVERTER.false)
 
 pub returns : goal.returns
 returns c =
     let a = c.args in
     let words = a.words.now in
-    let read = ap (λ i. get_or words (a.k + 1 + i % 32) 0) c.wide-first.ensures.0 in
-    λ s e. omega (arith, c.wide-first.ensures.0, c.wide.ensures.0 ∙ read, extent_nand a.symbol words a.k s e (omega arith) c.if-symbol-eq-INVERTER.false)
+    let read = ap (λ i. get_or words (a.k + 1 + i % 32) 0) c.from-first.ensures in
+    λ s e. omega (arith, c.from-first.ensures, c.from.ensures ∙ read, extent_nand a.symbol words a.k s e (omega arith) c.if-symbol-eq-INVERTER.false)
 
 pub overflow_add-k : goal.overflow_add-k
 overflow_add-k c = omega (arith, gate c)

@@ -24,9 +24,6 @@ next c d h g =
 pub bounds-row-29 : goal.bounds-row-29
 bounds-row-29 c = omega (arith, c.requires.1.0.long)
 
-pub overflow_cast-k : goal.overflow_cast-k
-overflow_cast-k c = let p = c.requires.1 in omega (arith, p.0.size_is, p.1)
-
 pub loop-k-init : goal.loop-k-init
 loop-k-init c =
     let p = c.requires.1 in

@@ -9,6 +9,3 @@ use Rattle.overlay.proofs.measure.Given as goal
 
 abbrev pub invariant-loop-k : goal.invariant-loop-k
 invariant-loop-k l = (l.k ≤ 16) × (length l.words ≡ 16) × ((d : Shape) → DrawingStored l.row d → size d ≤ 16 → (l.k ≤ size d) × MeasuredFrom d l.words l.k)
-
-abbrev pub decreases-loop-k : goal.decreases-loop-k
-decreases-loop-k l = l.k

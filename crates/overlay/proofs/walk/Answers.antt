@@ -1,15 +1,15 @@
 use Prim.Native.Nat.{ℕ, ◌+◌, ◌%◌, ◌≤◌, ◌<◌}
-use mathlib.Core.Path.{◌≡◌, refl}
+use mathlib.Core.Path.{◌≡◌}
 use mathlib.Core.List.{List}
 use native.Mathlib.Omega.{arith}
 use lib.ListN.{get_or, length}
 use Rattle.sheets_rules.specs.Inside.Layout.{symbols_at, row_words}
 use Rattle.overlay.specs.declared.Left.{Left}
-use Rattle.overlay.specs.Inside.Promises.{Passable}
-use Rattle.overlay.proofs.Walking.{going_start, within, symbol_small, passable, going_pass, going_skip, going_end, going_missed}
-use Rattle.overlay.proofs.walk.Lts as lts
-use Rattle.overlay.proofs.walk.Tie as tie
-use Rattle.overlay.proofs.walk.Reads as reads
+use Rattle.sheets_rules.specs.Model.{Shape}
+use Rattle.covers.specs.Crossing.{crossing_limit}
+use Rattle.overlay.specs.declared.Inputs.{Inputs}
+use Rattle.overlay.specs.Inside.Promises.{Passable, Walkable}
+use Rattle.overlay.proofs.Walking.{going_start, within, symbol_small, passable, going_pass, going_skip, going_end, going_missed, Going}
 use Rattle.overlay.proofs.walk.Goals as goal
 
 -- What the walk may read and write next.
@@ -24,12 +24,14 @@ record Near (row words symbols sizes : List ℕ) (count : ℕ) (left : Left) (at
   symbol : get_or row (symbols_at + left.spot % 32) 0 < 8
   passes : get_or row (symbols_at + left.spot % 32) 0 < 2 → Passable left (get_or row (symbols_at + left.spot % 32) 0) words
 
-near : (c : lts.At-loop tie.the-claims reads.Pre reads.Post goal.the-invariant-loop-extents goal.the-decreases-loop-extents) →
-    let a = c.args in let i = c.loop-extents in Near a.row.now a.extents.words a.symbols.now a.sizes.now i.count i.left i.at
-near c =
-    let p = c.requires.1 in
+near : {row words ss zs : List ℕ} {n crossing : ℕ} {inputs : Inputs} {left : Left} {at : ℕ} →
+    (crossing < crossing_limit) × ((d : Shape) × ((s : Shape) × Walkable row words ss zs n d s)) →
+    ((d s : Shape) → Walkable row words ss zs n d s → Going row words ss zs d s n crossing inputs left at) →
+    Near row words ss zs inputs.count left at
+near r invariant =
+    let p = r.1 in
     let w = p.1.1 in
-    let g = c.loop-extents.invariant p.0 p.1.0 w in
+    let g = invariant p.0 p.1.0 w in
     let b = within _ _ _ _ _ _ _ _ w g in
     record {
       row_long = w.long;
@@ -44,81 +46,64 @@ near c =
     }
 
 pub loop-extents-init : goal.loop-extents-init
-loop-extents-init c = λ d s w. going_start _ _ _ _ _ _ _ _ w c.at_root-left.ensures
+loop-extents-init c = λ d s w. going_start _ _ _ _ _ _ _ _ w
 
 pub overflow_add-symbol : goal.overflow_add-symbol
-overflow_add-symbol c = let b = near c.before.before in omega arith
+overflow_add-symbol c = let b = near c.requires c.loop-extents.invariant in omega arith
 
 pub offset_bounds-row-left : goal.offset_bounds-row-left
-offset_bounds-row-left c = let b = near c.before.before in omega arith
+offset_bounds-row-left c = let b = near c.requires c.loop-extents.invariant in omega arith
 
 pub bounds-row-left : goal.bounds-row-left
-bounds-row-left c = let b = near c.before.before.before in omega arith
+bounds-row-left c = let b = near c.requires c.loop-extents.invariant in omega arith
 
-pub offset_bounds-symbols-at : goal.offset_bounds-symbols-at
-offset_bounds-symbols-at c = let b = near c.before.before.before.before in omega arith
+pub offset_bounds-tree-at : goal.offset_bounds-tree-at
+offset_bounds-tree-at c = let b = near c.requires c.loop-extents.invariant in omega arith
 
-pub bounds-symbols-at : goal.bounds-symbols-at
-bounds-symbols-at c = let b = near c.before.before.before.before.before in omega arith
-
-pub returns-then-symbols-at : goal.returns-then-symbols-at
-returns-then-symbols-at c = λ d s w.
-    let i = c.loop-extents in
-    going_missed _ _ _ _ _ _ _ _ w (i.invariant d s w) c.if-symbol-lt-LEAF.true c.if-symbols-at.true _ refl refl
+pub bounds-tree-at : goal.bounds-tree-at
+bounds-tree-at c = let b = near c.requires c.loop-extents.invariant in omega arith
 
 pub overflow_add-at : goal.overflow_add-at
-overflow_add-at c = let b = near c.before.before.before.before.before.before in omega arith
-
-pub pass_gate-left-requires : goal.pass_gate-left-requires
-pass_gate-left-requires c =
-    let b = near c.before.before.before.before.before.before in
-    (b.passes c.if-symbol-lt-LEAF.true, c.requires.0)
+overflow_add-at c = let b = near c.requires c.loop-extents.invariant in omega arith
 
 pub loop-extents-smaller-then-symbol-lt-LEAF : goal.loop-extents-smaller-then-symbol-lt-LEAF
-loop-extents-smaller-then-symbol-lt-LEAF c = let b = near c.before.before.before.before.before.before.before in omega arith
+loop-extents-smaller-then-symbol-lt-LEAF c = let b = near c.requires c.loop-extents.invariant in omega arith
+
+pub overflow_cast-symbol : goal.overflow_cast-symbol
+overflow_cast-symbol c = let b = near c.requires c.loop-extents.invariant in omega arith
+
+pub overflow_cast-at : goal.overflow_cast-at
+overflow_cast-at c = let b = near c.requires c.loop-extents.invariant in omega arith
+
+pub bounds-tree-at-else-symbol-lt-LEAF : goal.bounds-tree-at-else-symbol-lt-LEAF
+bounds-tree-at-else-symbol-lt-LEAF c = let b = near c.requires c.loop-extents.invariant in omega arith
+
+pub overflow_add-at-else-symbol-lt-LEAF : goal.overflow_add-at-else-symbol-lt-LEAF
+overflow_add-at-else-symbol-lt-LEAF c = let b = near c.requires c.loop-extents.invariant in omega arith
+
+pub push-requires : goal.push-requires
+push-requires c = let b = near c.requires c.loop-extents.invariant in omega arith
+
+pub pop-requires : goal.pop-requires
+pop-requires c = let b = near c.requires c.loop-extents.invariant in omega arith
+
+pub loop-extents-smaller : goal.loop-extents-smaller
+loop-extents-smaller c = let b = near c.requires c.loop-extents.invariant in omega arith
+
+pub returns-then-tree-at : goal.returns-then-tree-at
+returns-then-tree-at c = λ d s w. going_missed _ _ _ _ _ _ _ _ w (c.loop-extents.invariant d s w) c.if-symbol-lt-LEAF.true c.if-tree-at.true
+
+pub pass_gate-requires : goal.pass_gate-requires
+pass_gate-requires c = let b = near c.requires c.loop-extents.invariant in (b.passes c.if-symbol-lt-LEAF.true, c.requires.0)
 
 pub loop-extents-preserved-then-symbol-lt-LEAF : goal.loop-extents-preserved-then-symbol-lt-LEAF
 loop-extents-preserved-then-symbol-lt-LEAF c = λ d s w.
-    let i = c.loop-extents in
-    rw c.pass_gate-left.ensures (going_pass _ _ _ _ _ _ _ _ w (i.invariant d s w) c.if-symbol-lt-LEAF.true c.if-symbols-at.false)
+    rw c.pass_gate.ensures (going_pass _ _ _ _ _ _ _ _ w (c.loop-extents.invariant d s w) c.if-symbol-lt-LEAF.true c.if-tree-at.false)
 
-pub overflow_cast-pins : goal.overflow_cast-pins
-overflow_cast-pins c = let b = near c.before.before.before.before in omega arith
-
-pub bounds-pins-count : goal.bounds-pins-count
-bounds-pins-count c = let b = near c.before.before.before.before in omega arith
-
-pub overflow_cast-nodes : goal.overflow_cast-nodes
-overflow_cast-nodes c = let b = near c.before.before.before.before in omega arith
-
-pub bounds-nodes-count : goal.bounds-nodes-count
-bounds-nodes-count c = let b = near c.before.before.before.before in omega arith
-
-pub overflow_add-count : goal.overflow_add-count
-overflow_add-count c = let b = near c.before.before.before.before in omega arith
-
-pub bounds-sizes-at : goal.bounds-sizes-at
-bounds-sizes-at c = let b = near c.before.before.before.before.before in omega arith
-
-pub overflow_cast-at : goal.overflow_cast-at
-overflow_cast-at c = let b = near c.before.before.before.before.before in omega arith
-
-pub overflow_add-at-else-symbol-lt-LEAF : goal.overflow_add-at-else-symbol-lt-LEAF
-overflow_add-at-else-symbol-lt-LEAF c = let b = near c.before.before.before.before.before in omega arith
-
-pub returns-then-left-eq0 : goal.returns-then-left-eq0
-returns-then-left-eq0 c = λ d s w.
-    let i = c.loop-extents in
-    going_end _ _ _ _ _ _ _ _ w (i.invariant d s w) c.if-symbol-lt-LEAF.false c.if-left-eq0.true
-
-pub resume-left-requires : goal.resume-left-requires
-resume-left-requires c = let b = near c.before.before.before.before.before.before.before in let z = c.if-left-eq0.false in (omega arith, omega arith)
-
-pub loop-extents-smaller : goal.loop-extents-smaller
-loop-extents-smaller c = let b = near c.before.before.before.before.before.before.before.before in omega arith
+pub returns-in_default : goal.returns-in_default
+returns-in_default c = λ d s w. rw c.push.ensures (going_end _ _ _ _ _ _ _ _ w (c.loop-extents.invariant d s w) c.if-symbol-lt-LEAF.false (omega (arith, c.in_default.ensures)))
 
 pub loop-extents-preserved : goal.loop-extents-preserved
 loop-extents-preserved c = λ d s w.
-    let i = c.loop-extents in
-    let z = c.if-left-eq0.false in
-    rw c.resume-left.ensures (going_skip _ _ _ _ _ _ _ _ w (i.invariant d s w) c.if-symbol-lt-LEAF.false (omega arith))
+    let p = c.in-Some.ensures in
+    rw (c.push.ensures, p.resumed_is, c.from-at.ensures) (going_skip _ _ _ _ _ _ _ _ w (c.loop-extents.invariant d s w) c.if-symbol-lt-LEAF.false p.some_waits)

@@ -7,7 +7,7 @@ use Rattle.overlay.proofs.walk.Given as goal
 
 abbrev pub invariant-loop-extents : goal.invariant-loop-extents
 invariant-loop-extents l =
-    (d s : Shape) → Walkable l.row l.extents.words l.symbols l.sizes l.n d s → Going l.row l.extents.words l.symbols l.sizes d s l.n l.crossing l.pins l.nodes l.count l.left l.at
+    (d s : Shape) → Walkable l.row l.extents.words l.tree.symbols l.tree.sizes l.n d s → Going l.row l.extents.words l.tree.symbols l.tree.sizes d s l.n l.crossing l.inputs l.left l.at
 
 abbrev pub decreases-loop-extents : goal.decreases-loop-extents
 decreases-loop-extents l = 64 - l.at

@@ -1,19 +1,20 @@
 -- What the functions of this crate are lent and what they promise, and when tables and records hold a sound library and a sound tree.
-use Rattle.std.specs.Prelude.{ℕ, ◌+◌, ◌-◌, ◌/◌, ◌%◌, ◌^◌, ◌≤◌, ◌<◌, max, ◌≡◌, ◌≢◌, Bool, true, false, cond, get_or, length, set, replicate, eqb}
+use Rattle.std.specs.Prelude.{ℕ, ◌+◌, ◌-◌, ◌/◌, ◌%◌, ◌^◌, ◌≤◌, ◌<◌, max, ◌≡◌, ◌≢◌, Bool, cond, get_or, length, set, eqb, Result, Ok, Err}
 use mathlib.Core.List.{List, map, Memᴰ}
-use Rattle.std.proofs.Math.Option.{Option, none, some}
+use Rattle.std.proofs.Math.Option.{none, some}
 use Rattle.shapes_rules.specs.Shape.{symbols, sizes}
 use Rattle.sheets_rules.specs.declared.LibraryRecord.{LibraryRecord}
 use Rattle.sheets_rules.specs.declared.TreeRecord.{TreeRecord}
-use Rattle.sheets_rules.specs.Model.{Leaf, pin_of, Shape, size, leaves, nands, Library, Pattern, Tree}
+use Rattle.sheets_rules.specs.Model.{Leaf, pin_of, Shape, size, leaves, nands, Library, Pattern, Tree, pins_most}
 use Rattle.sheets_rules.specs.Inside.Sound.{SoundCell, SoundLibrary, SoundTree}
 pub use Rattle.sheets_rules.specs.Inside.Sound.{LibraryStored}
 use Rattle.sheets_rules.specs.Inside.Layout.{padded, row_words, pattern_table, tree_laid}
 use Rattle.covers.specs.Crossing.{exchanged, redrawn}
 use Rattle.covers.specs.Match.{Input, Match, laid}
 use Rattle.cells.specs.Inside.Cell.{CellStored}
+use Rattle.overlay.specs.declared.Input.{Input as InputRecord}
+use Rattle.overlay.specs.declared.Inputs.{Inputs}
 use Rattle.overlay.specs.declared.Left.{Left}
-use Rattle.overlay.specs.declared.Walked.{Walked}
 use Rattle.overlay.specs.Inside.Standing.{Subject, DrawingStored, Drawn}
 
 -- ---- a pattern's row
@@ -23,11 +24,28 @@ pub record PatternStored (l : Library) (row : List ℕ) (p : Pattern) : Type 0 w
   pub drawing : DrawingStored row p.drawing
   pub cell : CellStored l row p.cell
 
+-- ---- the inputs of a match
+
+-- An input as it is kept, and what stands where there is none.
+abbrev pub input_of : Input → InputRecord
+input_of i = record { pin = i.pin; node = i.node }
+
+abbrev pub blank_input : InputRecord
+blank_input = record { pin = 0; node = 0 }
+
+-- Inputs as they are kept.
+unfoldable pub inputs_of : List Input → Inputs
+inputs_of is = record { count = length is; list = padded pins_most blank_input (map input_of is) }
+
+-- One input more.
+abbrev pub pushed : Inputs → InputRecord → Inputs
+pushed r i = record { count = r.count + 1; list = set r.list r.count i }
+
 -- ---- a walk
 
--- Where it begins.
-abbrev pub at_root : Left
-at_root = record { spot = 0; depth = 0; waiting = replicate 6 0; used = 0 }
+-- One branch more waits.
+abbrev pub waits : Left → ℕ → Left
+waits left spot = record { spot = left.spot; depth = left.depth + 1; waiting = set left.waiting left.depth spot; used = left.used }
 
 -- A walk may pass the gate that it stands at: there is room for what waits, and the numbers are small.
 pub record Passable (left : Left) (symbol : ℕ) (words : List ℕ) : Type 0 where
@@ -61,6 +79,11 @@ passed left symbol words crossing =
 unfoldable pub resumed : Left → Left
 resumed left = record { spot = get_or left.waiting (left.depth - 1) 0; depth = left.depth - 1; waiting = left.waiting; used = left.used }
 
+-- That branch was taken from those that wait: a walk that goes to its spot is there.
+pub record Popped (left after : Left) (spot : ℕ) : Type 0 where
+  pub some_waits : 0 < left.depth
+  pub resumed_is : record { spot = spot; depth = after.depth; waiting = after.waiting; used = after.used } ≡ resumed left
+
 -- The row and the extents hold the drawing d, and the arrays hold the subtree s at node n.
 pub record Walkable (row words ss zs : List ℕ) (n : ℕ) (d s : Shape) : Type 0 where
   pub long : length row ≡ row_words
@@ -71,35 +94,33 @@ pub record Walkable (row words ss zs : List ℕ) (n : ℕ) (d s : Shape) : Type 
   pub pinned : (x : Leaf) → Memᴰ x (leaves d) → (pin_of x < 6) × (x.drive ≡ 0)
   pub subject : Subject ss zs n s
 
--- A walk found these inputs.
-pub record Walks (is : List Input) (r : Walked) : Type 0 where
-  pub matches : r.matched ≡ true
-  pub count_is : r.count ≡ length is
-  pub pins_are : r.pins ≡ padded 6 0 (map (λ (i : Input). i.pin) is)
-  pub nodes_are : r.nodes ≡ padded 6 0 (map (λ (i : Input). i.node) is)
-
--- A walk found what there is.
-abbrev pub WalkedIs : Option (List Input) → Walked → Type 0
-WalkedIs none r = r.matched ≡ false
-WalkedIs (some is) r = Walks is r
-
 -- Two crossings have the same first `used` bits.
 abbrev pub SameBits : ℕ → ℕ → ℕ → Type 0
 SameBits used x y = x / 2 ^ (5 - used) ≡ y / 2 ^ (5 - used)
 
--- What a walk of a drawing under a crossing found. Where it found no match, none of the crossings that have the same first bits, as many as it used, has one.
-pub record WalkIs (d s : Shape) (n crossing : ℕ) (r : Walked) : Type 0 where
-  pub found_is : WalkedIs (laid (redrawn crossing d) n s) r
-  pub used_few : r.used ≤ nands d
-  pub ruled_out : r.matched ≡ false → (y : ℕ) → SameBits r.used crossing y → laid (redrawn y d) n s ≡ none
+-- A walk of a drawing under a crossing found a match, with these inputs.
+pub record WalkFound (d s : Shape) (n crossing : ℕ) (r : Inputs) : Type 0 where
+  pub inputs : List Input
+  pub laid_is : laid (redrawn crossing d) n s ≡ some inputs
+  pub inputs_are : r ≡ inputs_of inputs
+
+-- It found none: none of the crossings that have the same first bits, as many as it used, has one.
+pub record WalkMissed (d s : Shape) (n crossing used : ℕ) : Type 0 where
+  pub used_few : used ≤ nands d
+  pub ruled_out : (y : ℕ) → SameBits used crossing y → laid (redrawn y d) n s ≡ none
+
+-- What a walk answers is what there is.
+abbrev pub WalkIs : (d s : Shape) (n crossing : ℕ) → Result Inputs ℕ → Type 0
+WalkIs d s n crossing (Ok r) = WalkFound d s n crossing r
+WalkIs d s n crossing (Err used) = WalkMissed d s n crossing used
 
 -- The drawing in a row walked over the subtree at node n, whichever these are.
-abbrev pub DrawingWalked : (row words : List ℕ) → (crossing : ℕ) → (ss zs : List ℕ) → (n : ℕ) → Walked → Type 0
+abbrev pub DrawingWalked : (row words : List ℕ) → (crossing : ℕ) → (ss zs : List ℕ) → (n : ℕ) → Result Inputs ℕ → Type 0
 DrawingWalked row words crossing ss zs n r = (d s : Shape) → Walkable row words ss zs n d s → WalkIs d s n crossing r
 
 -- A match as the walk found it, with its pattern's row.
-pub record MatchStored (l : Library) (walked : Walked) (row : List ℕ) (m : Match) : Type 0 where
-  pub walks : Walks m.inputs walked
+pub record MatchStored (l : Library) (inputs : Inputs) (row : List ℕ) (m : Match) : Type 0 where
+  pub inputs_are : inputs ≡ inputs_of m.inputs
   pub cell : CellStored l row m.pattern.cell
   pub sound : SoundCell (length l.bins) m.pattern.cell
   pub few : length m.inputs ≤ 6
