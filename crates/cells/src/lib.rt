@@ -42,6 +42,7 @@ pub fn pin_figures(row: &[u32], pin: usize) -> PinFigures
 }
 
 // What a pin adds to its input's arrival when the match drives a load.
+#[tactic(auto, unfolding(crate::specs::Inside::Cell::delay_of))]
 pub fn delay(pin: PinFigures, load: u32) -> u32
     requires { PinSafe pin × (load ≤ 255) }
     ensures { (result ≡ delay_of pin load) × (result ≤ slowest) }

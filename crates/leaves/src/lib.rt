@@ -10,6 +10,7 @@ ghost use Rattle.leaves.specs.Inside.Leaf.{leaf_of, symbol_limit};
 use shapes_rules::Packed;
 
 // When a leaf arrives under the load that it drives.
+#[tactic(auto, unfolding(covers::specs::Cover::leaf_arrival, crate::specs::Inside::Leaf::leaf_of))]
 pub fn leaf_arrival(symbol: u32, load: u32) -> u64
     requires { (2 ≤ symbol) × (symbol ≤ symbol_limit) × (load ≤ 255) }
     ensures { (result ≡ leaf_arrival (leaf_of symbol) load) × (result < base) }

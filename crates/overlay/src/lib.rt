@@ -164,6 +164,7 @@ pub fn measure(row: &[u32]) -> Extents
 }
 
 // Whether a crossing exchanges the inputs of the NAND with a number.
+#[tactic(auto, unfolding(covers::specs::Crossing::exchanged))]
 fn is_exchanged(crossing: u32, number: usize) -> bool
     requires { (crossing < crossing_limit) × (number ≤ 4) }
     ensures { result ≡ exchanged crossing number }

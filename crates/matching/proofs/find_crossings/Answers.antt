@@ -20,12 +20,6 @@ next_crossing-crossing-requires c =
     let t = c.requires.1.1 in
     (c.loop-crossing-test.true, omega (arith, c.from-nands.ensures, nands_told t (c.measure-extents.ensures _ t.drawing t.sound.size), few_nands t))
 
-pub next_crossing-crossing-requires-in-Err : goal.next_crossing-crossing-requires-in-Err
-next_crossing-crossing-requires-in-Err c =
-    let t = c.requires.1.1 in
-    let w = c.in-Err.ensures _ _ (t.walkable _ (c.measure-extents.ensures _ t.drawing t.sound.size)) in
-    (c.loop-crossing-test.true, omega (arith, w.used_few, few_nands t))
-
 pub loop-crossing-preserved-in-Ok : goal.loop-crossing-preserved-in-Ok
 loop-crossing-preserved-in-Ok c =
     let a = c.args in

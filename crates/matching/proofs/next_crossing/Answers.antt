@@ -5,9 +5,6 @@ use lib.Pow.{shr_le, shl_exact}
 use Rattle.matching.proofs.Crossings.{next_above, next_limit}
 use Rattle.matching.proofs.next_crossing.Goals as goal
 
-pub overflow_add-result : goal.overflow_add-result
-overflow_add-result c = let a = c.args in omega (arith, shr_le a.crossing (5 - a.bits))
-
 pub returns : goal.returns
 returns c =
     let a = c.args in

@@ -1,28 +1,16 @@
 -- The extent of one node.
 use native.Mathlib.Omega.{arith}
-use Prim.Native.Nat.{◌+◌, ◌%◌, ◌≤◌, ◌<◌}
+use Prim.Native.Nat.{◌+◌, ◌%◌}
 use mathlib.Core.Path.{◌∙◌, ap}
 use lib.ListN.{get_or}
-use Rattle.overlay.proofs.Measuring.{extent_leaf, gate_room, extent_inv, nand_room, extent_nand}
-use Rattle.overlay.proofs.extent_from.Lts as lts
-use Rattle.overlay.proofs.extent_from.Tie as tie
-use Rattle.overlay.proofs.extent_from.Reads as reads
+use Rattle.overlay.proofs.Measuring.{extent_leaf, extent_inv, nand_room, extent_nand}
 use Rattle.overlay.proofs.extent_from.Goals as goal
 
 pub returns-then-symbol-ge-LEAF : goal.returns-then-symbol-ge-LEAF
 returns-then-symbol-ge-LEAF c = let a = c.args in λ s e. extent_leaf a.symbol a.words.now a.k s e (omega arith)
 
-gate : (c : lts.Else1 tie.the-claims reads.Pre reads.Post) → c.args.k + 1 ≤ 15
-gate c = let a = c.args in omega (arith, (gate_room a.symbol a.words.now a.k c.requires.0 c.requires.1 (omega arith)).0)
-
 pub returns-then-symbol-eq-INVERTER : goal.returns-then-symbol-eq-INVERTER
 returns-then-symbol-eq-INVERTER c = let a = c.args in λ s e. omega (arith, c.from-first.ensures, extent_inv a.symbol a.words.now a.k s e c.if-symbol-eq-INVERTER.true)
-
-nand : (c : lts.Else2 tie.the-claims reads.Pre reads.Post) → c.args.k + 1 + c.from-first.result % 32 < 16
-nand c =
-    let start = c.before.before.before.before in
-    let a = start.args in
-    omega (arith, c.from-first.ensures, nand_room a.symbol a.words.now a.k start.requires.0 start.requires.1 (omega arith) c.if-symbol-eq-INVERTER.false)
 
 pub returns : goal.returns
 returns c =
@@ -31,17 +19,7 @@ returns c =
     let read = ap (λ i. get_or words (a.k + 1 + i % 32) 0) c.from-first.ensures in
     λ s e. omega (arith, c.from-first.ensures, c.from.ensures ∙ read, extent_nand a.symbol words a.k s e (omega arith) c.if-symbol-eq-INVERTER.false)
 
-pub overflow_add-k : goal.overflow_add-k
-overflow_add-k c = omega (arith, gate c)
-
-pub bounds-words-k : goal.bounds-words-k
-bounds-words-k c = omega (arith, gate c.before.before)
-
-pub overflow_add-k-2 : goal.overflow_add-k-2
-overflow_add-k-2 c = omega (arith, nand c.before)
-
-pub overflow_add-k-3 : goal.overflow_add-k-3
-overflow_add-k-3 c = omega (arith, nand c.before)
-
 pub bounds-words-k-2 : goal.bounds-words-k-2
-bounds-words-k-2 c = nand c.before
+bounds-words-k-2 c =
+    let a = c.args in
+    omega (arith, c.from-first.ensures, nand_room a.symbol a.words.now a.k c.requires.0 c.requires.1 (omega arith) c.if-symbol-eq-INVERTER.false)

@@ -48,12 +48,6 @@ near r invariant =
 pub loop-extents-init : goal.loop-extents-init
 loop-extents-init c = λ d s w. going_start _ _ _ _ _ _ _ _ w
 
-pub overflow_add-symbol : goal.overflow_add-symbol
-overflow_add-symbol c = let b = near c.requires c.loop-extents.invariant in omega arith
-
-pub offset_bounds-row-left : goal.offset_bounds-row-left
-offset_bounds-row-left c = let b = near c.requires c.loop-extents.invariant in omega arith
-
 pub bounds-row-left : goal.bounds-row-left
 bounds-row-left c = let b = near c.requires c.loop-extents.invariant in omega arith
 
@@ -77,9 +71,6 @@ overflow_cast-at c = let b = near c.requires c.loop-extents.invariant in omega a
 
 pub bounds-tree-at-else-symbol-lt-LEAF : goal.bounds-tree-at-else-symbol-lt-LEAF
 bounds-tree-at-else-symbol-lt-LEAF c = let b = near c.requires c.loop-extents.invariant in omega arith
-
-pub overflow_add-at-else-symbol-lt-LEAF : goal.overflow_add-at-else-symbol-lt-LEAF
-overflow_add-at-else-symbol-lt-LEAF c = let b = near c.requires c.loop-extents.invariant in omega arith
 
 pub push-requires : goal.push-requires
 push-requires c = let b = near c.requires c.loop-extents.invariant in omega arith
