@@ -3,23 +3,23 @@ use mathlib.Core.Path.{◌≡◌, refl, sym, ap, ap₂, subst, ◌∙◌}
 use mathlib.Core.List.{List, [], ◌∷◌, ◌++◌, map, map-append, append_assoc}
 use mathlib.Core.Bool.{Bool, true, false}
 use mathlib.Core.Logic.{inl, inr}
-use Prim.Native.Nat.{ℕ, zero, suc, ◌+◌, ◌-◌, ◌*◌, ◌≤◌, ◌<◌}
+use Prim.Native.Nat.{ℕ, suc, ◌+◌, ◌-◌, ◌*◌, ◌≤◌}
 use native.Mathlib.Nat.{zero-add}
+use native.Mathlib.Numerals.{add-one}
 use native.Mathlib.Omega.{arith}
-use lib.ListN.{length, get_or, take, drop, set, replicate, length-map, length-append, length-take}
-use lib.Seq.{sets, drop-drop, sets-eq, length-sets, length-take-le}
+use lib.ListN.{length, take, drop, set, replicate, length-map, length-append}
+use lib.Seq.{sets, drop-drop, sets-eq, length-sets}
 use borrow.Rule.Slice.PartMut.{put_mid}
 use Rattle.std.specs.Prelude.{Result, Ok, Err}
 use Rattle.bits.specs.Bits.{place_of}
 use Rattle.bits.specs.declared.Cursor.{Cursor}
-use Rattle.fields.specs.declared.Fault.{Fault}
 use Rattle.fields.specs.declared.Fault.TheVariants.{Drawing}
 use Rattle.fields.specs.declared.Flaw.{Flaw}
 use Rattle.fields.specs.declared.Sheet.{Sheet}
-use Rattle.fields.specs.Reading.{Scan, At, Refused, Sound, Verdict, Reader, done, ◌>>=◌, times, field, within, Live}
+use Rattle.fields.specs.Reading.{Scan, At, Refused, Verdict, Reader, done, ◌>>=◌, times, field, within, Live}
 use Rattle.fields.specs.Inside.Promises.{Took, Reads, UpTo}
 use Rattle.fields.proofs.Laws.{live_sound, range_least, length_times}
-use Rattle.fields.proofs.Lists.{sets_append, set_sets, mid_sets}
+use Rattle.fields.proofs.Lists.{set_sets, mid_sets}
 use Rattle.fields.proofs.Readers.{Keeps, keeps_then, keeps_times, first_stops, then_reads}
 use Rattle.shapes_rules.specs.Shape.{Shape, symbols, size}
 use Rattle.shapes_rules.specs.Drawing.{has_all, shape}
@@ -29,16 +29,16 @@ use Rattle.shapes.specs.Inside.Promises.{Drawn, ShapeIs}
 use Rattle.shapes.proofs.Wholes.{drawn_is}
 use Rattle.sheets_rules.specs.declared.Bins.{Bins}
 use Rattle.sheets_rules.specs.declared.PinRecord.{PinRecord}
-use Rattle.sheets_rules.specs.Model.{Pin, Cell, Pattern, drawn, patterns_from, pins_most}
-use Rattle.sheets_rules.specs.LibrarySheet.{Head, last, complete, pattern, pattern_rules, count_verdict, head, pin, drawings, cell}
+use Rattle.sheets_rules.specs.Model.{Pin, Cell, drawn, patterns_from, pins_most}
+use Rattle.sheets_rules.specs.LibrarySheet.{Head, last, bin_load, complete, pattern, pattern_rules, count_verdict, head, pin, drawings, cell}
 use Rattle.sheets_rules.specs.Inside.Layout.{padded, pin_record, no_pin, cell_laid, size_at, symbols_at, row_words, table_words, cell_words, row, table_from, pattern_row, pattern_rows}
-use Rattle.sheets_rules.specs.Reach.{head_bits, pin_bits, pattern_bits, drawings_bits, cell_bits}
+use Rattle.sheets_rules.specs.Reach.{bin_bits, head_bits, pin_bits, pattern_bits, drawings_bits, cell_bits}
 use Rattle.sheets_rules.proofs.Rows.{row_written, length_row}
 use Rattle.sheets_rules.proofs.LibrarySheet.{length_drawn, patterns_more}
 use Rattle.sheets_rules.proofs.Laid.{padded_more, table_append}
 use Rattle.library.specs.declared.NumberedCell.{NumberedCell}
 use Rattle.library.specs.declared.CellHead.{CellHead}
-use Rattle.library.specs.Inside.Promises.{Tabled, HasPins, HeadHolds, PinsHold, row_under, PatternHolds, RowHolds, RowKept, RowsHold, DrawingsHold, CellHolds, PatternsHold}
+use Rattle.library.specs.Inside.Promises.{Tabled, HeadHolds, PinsHold, row_under, PatternHolds, RowHolds, RowKept, RowsHold, DrawingsHold, CellHolds, PatternsHold}
 
 -- ---- readers one after another
 
@@ -86,6 +86,12 @@ ranged_least s w least most c {x = x} h =
     range_least least most x (ap (within least most) h.holds.0 ∙ (live_sound s w (within least most) (At c) (subst Live (sym h.at) tt)).0)
 
 -- ---- arrays that a loop fills
+
+-- A bin load is above the one before.
+pub bin_read : (before : ℕ) (xs : List ℕ) {mid new : Sheet} {r : Result ℕ Flaw} → before ≡ last xs → Reads mid new (λ s. field s 8 (within (before + 1) 255)) (UpTo 255) bin_bits r →
+    Reads mid new (λ s. bin_load s xs) (UpTo 255) bin_bits r
+unfolding bin_load
+bin_read before xs e h = rw (add-one, e) at h
 
 pub last_more : (xs : List ℕ) (x : ℕ) → last (xs ++ (x ∷ [])) ≡ x
 unfolding last

@@ -8,8 +8,8 @@ use Rattle.std.specs.Prelude.{Result, Ok, Err, MatchResult, IsErrAnd}
 use Rattle.std.proofs.lemmas.Result.{err_from_is_err_and}
 use Rattle.fields.specs.declared.Flaw.{Flaw}
 use Rattle.fields.specs.declared.Sheet.{Sheet}
-use Rattle.fields.specs.Answer.{success, on_success, said, Bounded}
-use Rattle.fields.specs.Reading.{Scan, At, Refused, Reader, done, ◌>>=◌, start, times, field, within, ended, Live}
+use Rattle.fields.specs.Answer.{success, on_success, Bounded}
+use Rattle.fields.specs.Reading.{At, Reader, done, ◌>>=◌, start, times, field, within, ended, Live}
 use Rattle.fields.specs.Inside.Promises.{Reads, Opens, Closes, Told, Flawed}
 use Rattle.fields.proofs.Answer.{told_said, flawed_said}
 use Rattle.fields.proofs.Readers.{Keeps, keeps_then, keeps_times, first_stops, then_reads, from_start}
@@ -21,7 +21,7 @@ use Rattle.sheets_rules.specs.Model.{Library, Pin, bin_load_of, Cell, Pattern, p
 use Rattle.sheets_rules.specs.LibrarySheet.{bins, cells, library, cell_after}
 use Rattle.sheets_rules.specs.Reach.{bin_bits, cell_bits, library_bits}
 use Rattle.sheets_rules.specs.Report.{LibraryLimits, LibraryBounded, library_number, counts_of, library_word, library_said, library_report, of_library_judged}
-use Rattle.sheets_rules.specs.Inside.Layout.{padded, pin_record, no_pin, cell_laid, row_words, table_words, row, table_from, pattern_row, pattern_rows, library_laid}
+use Rattle.sheets_rules.specs.Inside.Layout.{padded, no_pin, cell_laid, row_words, table_words, row, table_from, pattern_row, pattern_rows, library_laid}
 use Rattle.sheets_rules.specs.Inside.Readers.{LibraryIs}
 use Rattle.sheets_rules.specs.Inside.Sound.{LibraryStored}
 use Rattle.sheets_rules.proofs.Laid.{padded_at}

@@ -228,11 +228,7 @@ fn keep_row(
         return Ok(());
     }
     let first = PatternRow::WORDS * number;
-    read_row(
-        sheet,
-        numbered,
-        &mut rows[first..first + PatternRow::WORDS],
-    )
+    read_row(sheet, numbered, &mut rows[first..first + PatternRow::WORDS])
 }
 
 // The rows of a cell's patterns, after `total` rows.

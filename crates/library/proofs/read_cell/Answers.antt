@@ -1,4 +1,3 @@
-use native.Mathlib.Omega.{arith}
 use Rattle.fields.proofs.Readers.{stopped}
 use Rattle.library.proofs.Laws.{head_stops, pins_stop, cell_reads}
 use Rattle.library.proofs.read_cell.Goals as goal

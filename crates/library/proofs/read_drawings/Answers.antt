@@ -1,5 +1,5 @@
 use native.Mathlib.Omega.{arith}
-use mathlib.Core.Path.{refl, sym}
+use mathlib.Core.Path.{sym}
 use Rattle.fields.proofs.Laws.{length_times}
 use Rattle.fields.proofs.Readers.{stopped}
 use Rattle.sheets_rules.specs.LibrarySheet.{count_verdict, pattern, drawings}

@@ -1,7 +1,7 @@
 use native.Mathlib.Omega.{arith}
 use mathlib.Core.Path.{refl}
 use mathlib.Core.List.{[], ◌∷◌}
-use lib.ListN.{length, length-append}
+use lib.ListN.{length-append}
 use Rattle.fields.proofs.Readers.{stopped, none_yet, one_more, one_stops}
 use Rattle.sheets_rules.specs.Model.{patterns_from}
 use Rattle.sheets_rules.specs.LibrarySheet.{cell_after}

@@ -1,4 +1,3 @@
-use mathlib.Core.Path.{◌≡◌}
 use Rattle.std.proofs.Common.{rules}
 use Rattle.sheets_rules.specs.LibrarySheet.{head}
 use Rattle.library.proofs.Laws.{ranged_least}

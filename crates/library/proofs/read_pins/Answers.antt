@@ -23,5 +23,6 @@ loop-k-preserved c =
     let i = c.loop-k in
     one_more (λ s. pin s c.args.bins.count) i.k i.invariant c.in_ok-pins.ensures (omega arith)
     (λ ps p h g. (
-    omega (arith, length-append ps (p ∷ []), h.0),
-    ap (λ (q : PinRecord). set i.pins i.k q) g ∙ pins_more c.args.bins ps p i.k i.pins h.0 h.1))
+      omega (arith, length-append ps (p ∷ []), h.0),
+      ap (λ (q : PinRecord). set i.pins i.k q) g ∙ pins_more c.args.bins ps p i.k i.pins h.0 h.1,
+    ))
