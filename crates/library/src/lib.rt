@@ -51,7 +51,7 @@ impl Width {
 
 // A cell with its number in the library.
 #[derive(Clone, Copy)]
-pub struct NumberedCell {
+struct NumberedCell {
     pub number: u32,
     pub cell: CellRecord,
 }

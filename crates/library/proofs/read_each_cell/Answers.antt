@@ -6,17 +6,12 @@ use Rattle.fields.proofs.Readers.{stopped, none_yet, one_more, one_stops}
 use Rattle.sheets_rules.specs.Model.{patterns_from}
 use Rattle.sheets_rules.specs.LibrarySheet.{cell_after}
 use Rattle.sheets_rules.specs.Inside.Layout.{table_from, pattern_rows}
-use Rattle.library.proofs.Laws.{cell_keeps, cell_after_total, cells_more, table_same}
+use Rattle.library.proofs.Laws.{cell_keeps, cell_after_total, cells_more}
 use Rattle.library.proofs.read_each_cell.Goals as goal
 
 pub loop-k-init : goal.loop-k-init
 unfolding patterns_from table_from pattern_rows
 loop-k-init c = none_yet (λ s. cell_after s c.args.bins.count) c.args.sheet.now (refl, record { totalled = refl; few = omega arith; laid = refl })
-
-pub read_cell-requires : goal.read_cell-requires
-read_cell-requires c =
-    let i = c.loop-k in
-    (c.requires.0, table_same c.args.rows.now i.rows i.auto.rows c.requires.2, i.invariant.takes.holds.1.few, omega (arith, i.invariant.takes.near))
 
 pub returns-in_err-total : goal.returns-in_err-total
 returns-in_err-total c =

@@ -1,4 +1,4 @@
-use mathlib.Core.Path.{refl, ap, ◌∙◌}
+use mathlib.Core.Path.{ap, ◌∙◌}
 use native.Mathlib.Omega.{arith}
 use lib.ListN.{length}
 use lib.Seq.{sets, length-take-le}
@@ -6,9 +6,6 @@ use Rattle.std.proofs.lemmas.Bool.{not-true, not-false}
 use Rattle.fields.proofs.Readers.{stopped}
 use Rattle.library.proofs.Laws.{front_copied, pattern_stops, pattern_lacks, pattern_drawn}
 use Rattle.library.proofs.read_pattern.Goals as goal
-
-pub read_shape-requires : goal.read_shape-requires
-read_shape-requires c = (record { width = omega arith; most = omega arith; nodes = omega arith; pins = λ p. omega arith }, refl, omega arith)
 
 pub returns-in_err-read : goal.returns-in_err-read
 returns-in_err-read c =

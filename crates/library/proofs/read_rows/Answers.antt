@@ -5,15 +5,12 @@ use lib.ListN.{length-append}
 use Rattle.fields.proofs.Readers.{stopped, none_yet, one_more, one_stops}
 use Rattle.sheets_rules.specs.LibrarySheet.{pattern}
 use Rattle.sheets_rules.specs.Inside.Layout.{table_from}
-use Rattle.library.proofs.Laws.{pattern_keeps, rows_more, table_same}
+use Rattle.library.proofs.Laws.{pattern_keeps, rows_more}
 use Rattle.library.proofs.read_rows.Goals as goal
 
 pub loop-k-init : goal.loop-k-init
 unfolding table_from
 loop-k-init c = none_yet (λ s. pattern s c.args.numbered.cell.count) c.args.sheet.now (refl, refl)
-
-pub keep_row-requires : goal.keep_row-requires
-keep_row-requires c = let i = c.loop-k in (c.requires.0, table_same c.args.rows.now i.rows i.auto.rows c.requires.1, omega arith, omega (arith, i.invariant.takes.near))
 
 pub returns-in_err-keep_row : goal.returns-in_err-keep_row
 unfolding pattern
