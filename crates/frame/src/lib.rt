@@ -1,4 +1,5 @@
-// The frame of the programs: an input that holds several sheets with their lengths in front, and the two lines by which any input may be refused.
+// The frame of the programs: an input that holds several sheets with their lengths in front, the two lines by which any input may be refused, and a
+// run from standard input to standard output.
 #![tactic(auto)]
 
 ghost use Rattle.std.specs.Prelude.{◌≡◌, ◌+◌, ◌*◌, ◌<◌, ◌≤◌, length, MatchOption};
