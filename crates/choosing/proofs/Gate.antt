@@ -1,11 +1,10 @@
 -- The match chosen at a gate: the first hit that reaches the least point in time is that of the first match that does.
-use Prim.Native.Nat.{ℕ, zero, suc, ◌+◌, ◌*◌, ◌%◌, ◌≤◌, ◌<◌}
+use Prim.Native.Nat.{ℕ, zero, suc, ◌+◌, ◌%◌, ◌≤◌, ◌<◌}
 use mathlib.Core.Path.{◌≡◌, refl, sym, ap, subst, ◌∙◌}
-use mathlib.Core.Logic.{⊎_elim, ◌↔◌}
+use mathlib.Core.Logic.{◌↔◌}
 use mathlib.Core.Bool.{Bool, true, false, cond, ◌&&◌, false≢true}
 use mathlib.Core.List.{List, [], ◌∷◌}
 use mathlib.Core.Option.{none, some, none-ne-some, some-injective, map-eq-some_iff}
-use native.Mathlib.Decide.{ℕ_discrete}
 use native.Mathlib.Numerals.{add-one}
 use native.Mathlib.Omega.{arith}
 use lib.ListN.{length, get_or}
@@ -18,7 +17,7 @@ use Rattle.covers.specs.Enumeration.{match_covers, under, covers, all_below}
 use Rattle.covers.specs.Tradeoff.{Node}
 use Rattle.covers.specs.Choice.{least, reaches, chosen_inputs, with_inputs, first_reaching, gate_choice, choice}
 use Rattle.covers.specs.Inside.Curve.{base, curve, gates, lookup, point_of}
-use Rattle.covers.proofs.Basics.{option_cases, lt_or_le, at_all, in_select}
+use Rattle.covers.proofs.Basics.{option_cases, at_all, in_select}
 use Rattle.covers.proofs.Least.{least_is, least_some}
 use Rattle.covers.proofs.Unroll.{gate_choice_lem}
 use Rattle.covers.proofs.Handed.{choice_point}
@@ -29,18 +28,17 @@ use Rattle.covers.proofs.Curve.{curve_is, lookup_is_least}
 use Rattle.covers.proofs.Filling.{reaches_from_table}
 use Rattle.covers.proofs.FromSheets.{binned}
 use Rattle.overlay.proofs.Walking.{stands_size}
-use Rattle.matching.specs.Inside.Found.{match_bytes}
+use Rattle.std.specs.Prelude.{None, Some}
+use Rattle.matching.specs.declared.Hit.{Hit}
 use Rattle.matching.specs.Inside.Promises.{Ready}
-use Rattle.matching.proofs.Patterns.{fitting_sound}
-use Rattle.curves.specs.Inside.Words.{absent, point_limit, table_of}
-use Rattle.curves.specs.Inside.Best.{hit_at, pattern_of, legal_best, HitKnown}
+use Rattle.curves.specs.Inside.Words.{point_limit, table_of}
+use Rattle.curves.specs.Inside.Best.{hit_at, pattern_of}
 use Rattle.curves.specs.Inside.Promises.{Worth}
-use Rattle.curves.proofs.Laws.{part_length}
 use Rattle.filling.proofs.Hits.{legal_hit}
-use Rattle.filling.proofs.Node.{no_match, here, node_within, gate_here, FoundIs, match_in, found_at, hits_ready}
+use Rattle.filling.proofs.Node.{no_match, here, node_within, gate_here, FoundIs, match_at, many, match_in, found_at}
 use Rattle.choosing.specs.declared.Goal.{Goal}
 use Rattle.choosing.specs.declared.Inputs.{Inputs}
-use Rattle.choosing.specs.Inside.Promises.{FirstHit, HitHolds, InputsAre, Prepared, at_root, below, Driven}
+use Rattle.choosing.specs.Inside.Promises.{Reaches, Reaching, FirstHit, HitHolds, InputsAre, Prepared, at_root, below, Driven}
 
 -- ---- the first that passes
 
@@ -123,26 +121,29 @@ module _ {most : ℕ} {l : Library} {t : Tree} {rows ss zs : List ℕ} {room : �
     | below a b c ↦ let e = dec.curves.below (record { number = goal.node; shape = s }) drv.node a g goal.bin b in cc
   ]
 
-  -- The word found is the least point in time.
-  pub word_found : (w : ℕ) → Worth point_limit (goal.time + 1) w (lookup (goal.time + 1) (table_of most work goal.node goal.bin)) → 0 < gates s →
-      (w < point_limit) × (least (suc goal.time) covered ≡ some (point_of w))
-  word_found w g h =
-      let is : lookup (goal.time + 1) (table_of most work goal.node goal.bin) ≡ least (suc goal.time) covered =
-      rw (curve_here h, ← add-one goal.time) (lookup_is_least (goal.time + 1) (curve_is covered)) in
-      elim (ℕ_discrete w absent) [ yes z ↦ absurd (none-ne-some _ (sym (g.missing z) ∙ is ∙ drv.some_cover.1)) | no z ↦ (g.small z, sym is ∙ g.point z) ]
+  -- The word found is the least point in time, which there is.
+  look_is : 0 < gates s → lookup (goal.time + 1) (table_of most work goal.node goal.bin) ≡ least (suc goal.time) covered
+  look_is h = rw (curve_here h, ← add-one goal.time) (lookup_is_least (goal.time + 1) (curve_is covered))
 
-module _ {most : ℕ} {l : Library} {t : Tree} {rows ss zs found₀ work : List ℕ} (dec : Prepared most l t rows ss zs (length found₀) work) {goal : Goal} {s : Shape} (drv : Driven l t goal s)
-    {found : List ℕ} {count : ℕ} (are : FoundIs l goal.node s found₀ found count) where
+  pub word_there : 0 < gates s → Worth point_limit (goal.time + 1) None (lookup (goal.time + 1) (table_of most work goal.node goal.bin)) → ⊥
+  word_there h e = none-ne-some _ (sym e ∙ look_is h ∙ drv.some_cover.1)
+
+  pub word_found : (w : ℕ) → Worth point_limit (goal.time + 1) (Some w) (lookup (goal.time + 1) (table_of most work goal.node goal.bin)) → 0 < gates s →
+      (w < point_limit) × (least (suc goal.time) covered ≡ some (point_of w))
+  word_found w g h = (g.small, sym (look_is h) ∙ g.point)
+
+module _ {most : ℕ} {l : Library} {t : Tree} {rows ss zs : List ℕ} {room : ℕ} {work : List ℕ} (dec : Prepared most l t rows ss zs room work) {goal : Goal} {s : Shape} (drv : Driven l t goal s)
+    {hits : List Hit} (are : FoundIs l goal.node s hits) where
   -- The match of hit j.
   abbrev nth : ℕ → Match
-  nth j = get_or (fitting l goal.node s) j no_match
+  nth = match_at (ready dec drv) are
 
   module _ (w : ℕ) (g : 0 < gates s) (e : least (suc goal.time) (covers l goal.load goal.node s) ≡ some (point_of w)) where
     abbrev passes : Match → Bool
     passes m = legal m.pattern.cell goal.load && reaches (point_of w) (match_covers (all_below l) goal.load goal.node m)
 
     -- A hit reaches the word exactly when its match is legal and reaches the point.
-    hit_passes : (j : ℕ) → j < count → (legal_best most ss work (pattern_of rows (hit_at found j)) (hit_at found j) goal.load (w % base + 1) ≡ some (point_of w)) ↔ (passes (nth j) ≡ true)
+    hit_passes : (j : ℕ) → j < length hits → Reaches most ss work rows goal.load w (hit_at hits j) ↔ (passes (nth j) ≡ true)
     unfolding matches point_of
     hit_passes j h = rw (add-one, legal_hit (found_at (ready dec drv) are j h) most work goal.load (suc (w % base))) (cases (legal (nth j).pattern.cell goal.load)
         (λ f.
@@ -152,52 +153,51 @@ module _ {most : ℕ} {l : Library} {t : Tree} {rows ss zs found₀ work : List 
         rw f (r.1, r.0))
         (λ f. rw f ((λ q. absurd (none-ne-some _ q)), (λ q. absurd (false≢true q)))))
 
-    first_found : (r : ℕ) → FirstHit most ss work rows found goal.load w count r → (r < count) × (first_reaching l goal.load goal.node s (point_of w) ≡ some (nth r))
-    first_found r f = ⊎_elim
-        (λ h. (h, is ∙ first_at passes (fitting l goal.node s) r no_match (omega (arith, are.many)) (λ j k. fails j k (omega arith)) ((hit_passes r h).0 (f.here h))))
-        (λ h.
-        let p = parts l goal.load goal.node s goal.time g e (chosen_there l goal.load goal.node s goal.time e).1 in
-        absurd (none-ne-some _ (sym (is ∙ first_none passes (fitting l goal.node s) no_match (λ j k. fails j (omega arith) (omega (arith, are.many)))) ∙ p.first)))
-        (lt_or_le r count)
-      where
-        is : first_reaching l goal.load goal.node s (point_of w) ≡ first_such passes (fitting l goal.node s)
-        is = unfold first_reaching matches in first_select (λ m. legal m.pattern.cell goal.load) (λ m. reaches (point_of w) (match_covers (all_below l) goal.load goal.node m)) (fitting l goal.node s)
+    fails : (j : ℕ) → j < length hits → (Reaches most ss work rows goal.load w (hit_at hits j) → ⊥) → passes (nth j) ≡ false
+    fails j h f = cases (passes (nth j)) (λ q. absurd (f ((hit_passes j h).1 q))) (λ q. q)
 
-        fails : (j : ℕ) → j < r → j < count → passes (nth j) ≡ false
-        fails j g h = cases (passes (nth j)) (λ q. absurd (f.before j g ((hit_passes j h).1 q))) (λ q. q)
+    first_is : first_reaching l goal.load goal.node s (point_of w) ≡ first_such passes (fitting l goal.node s)
+    first_is = unfold first_reaching matches in first_select (λ m. legal m.pattern.cell goal.load) (λ m. reaches (point_of w) (match_covers (all_below l) goal.load goal.node m)) (fitting l goal.node s)
+
+    first_found : (r : ℕ) → Reaching most ss work rows hits goal.load w r → first_reaching l goal.load goal.node s (point_of w) ≡ some (nth r)
+    first_found r f =
+        first_is
+        ∙ first_at passes (fitting l goal.node s) r no_match (omega (arith, f.within, many (ready dec drv) are)) (λ j k. fails j (omega (arith, f.within)) (f.before j k)) ((hit_passes r f.within).0 f.here)
+
+    one_reaches : FirstHit most ss work rows hits goal.load w None → ⊥
+    one_reaches f =
+        let p = parts l goal.load goal.node s goal.time g e (chosen_there l goal.load goal.node s goal.time e).1 in
+        none-ne-some _ (sym (first_is ∙ first_none passes (fitting l goal.node s) no_match (λ j k. let h : j < length hits = omega (arith, many (ready dec drv) are) in fails j h (f j h))) ∙ p.first)
 
 -- The hit that was picked for a word, and its match.
-pub record Picked (l : Library) (goal : Goal) (s : Shape) (rows found : List ℕ) (w r : ℕ) : Type 0 where
+pub record Picked (l : Library) (goal : Goal) (s : Shape) (rows : List ℕ) (hit : Hit) (w : ℕ) : Type 0 where
   pub match : Match
-  pub inside : match_bytes * r + match_bytes ≤ length found
-  pub stored : HitHolds l (pattern_of rows (hit_at found r)) (hit_at found r) match
-  pub known : HitKnown rows (hit_at found r)
-  pub long : length (hit_at found r) ≡ match_bytes
+  pub stored : HitHolds l (pattern_of rows hit) hit match
   pub word : least (suc goal.time) (covers l goal.load goal.node s) ≡ some (point_of w)
   pub first : first_reaching l goal.load goal.node s (point_of w) ≡ some match
 
-pub picked : {most : ℕ} {l : Library} {t : Tree} {rows ss zs found₀ work : List ℕ} → Prepared most l t rows ss zs (length found₀) work → {goal : Goal} {s : Shape} → Driven l t goal s →
-    get_or ss goal.node 0 < 2 → {found : List ℕ} {count : ℕ} → FoundIs l goal.node s found₀ found count → (w r : ℕ) →
-    Worth point_limit (goal.time + 1) w (lookup (goal.time + 1) (table_of most work goal.node goal.bin)) → FirstHit most ss work rows found goal.load w count r → Picked l goal s rows found w r
-picked {l = l} dec {goal} {s} drv small {found} are w r worth first =
-    let g = gate_here (ready dec drv) small in
-    let e = (word_found dec drv w worth g).1 in
-    let q = first_found dec drv are w g e r first in
-    let f = found_at (ready dec drv) are r q.0 in
-    let safe = hits_ready (ready dec drv) are dec.area in
-    let within : match_bytes * r + match_bytes ≤ length found = omega (arith, q.0, safe.room) in
-    record {
-      match = get_or (fitting l goal.node s) r no_match;
-      inside = within;
-      stored = record { few = (fitting_sound l goal.node s dec.decoded.library (match_in (ready dec drv) are r q.0)).few; words = f.holds; stored = f.stored; pinned = f.pinned };
-      known = safe.hits_known r q.0;
-      long = part_length match_bytes (match_bytes * r) found within;
-      word = e;
-      first = q.1;
-    }
+module _ {most : ℕ} {l : Library} {t : Tree} {rows ss zs : List ℕ} {room : ℕ} {work : List ℕ} (dec : Prepared most l t rows ss zs room work) {goal : Goal} {s : Shape} (drv : Driven l t goal s)
+    (small : get_or ss goal.node 0 < 2) {hits : List Hit} (are : FoundIs l goal.node s hits) (w : ℕ)
+    (worth : Worth point_limit (goal.time + 1) (Some w) (lookup (goal.time + 1) (table_of most work goal.node goal.bin))) where
+  abbrev gate : 0 < gates s
+  gate = gate_here (ready dec drv) small
 
-pub picked_inputs : {l : Library} {goal : Goal} {s : Shape} {rows found : List ℕ} {w r : ℕ} → Picked l goal s rows found w r → (x : Inputs) →
-    ((l : Library) (m : Match) → HitHolds l (pattern_of rows (hit_at found r)) (hit_at found r) m → InputsAre l m goal.load (w % base) x) →
+  pub some_reaches : FirstHit most ss work rows hits goal.load w None → ⊥
+  some_reaches = one_reaches dec drv are w gate (word_found dec drv w worth gate).1
+
+  pub picked : (r : ℕ) → Reaching most ss work rows hits goal.load w r → Picked l goal s rows (hit_at hits r) w
+  picked r first =
+      let e = (word_found dec drv w worth gate).1 in
+      let f = found_at (ready dec drv) are r first.within in
+      record {
+        match = match_at (ready dec drv) are r;
+        stored = record { few = f.few; hit_is = f.holds; stored = f.stored; pinned = f.pinned };
+        word = e;
+        first = first_found dec drv are w gate e r first;
+      }
+
+pub picked_inputs : {l : Library} {goal : Goal} {s : Shape} {rows : List ℕ} {hit : Hit} {w : ℕ} → Picked l goal s rows hit w → (x : Inputs) →
+    ((l : Library) (m : Match) → HitHolds l (pattern_of rows hit) hit m → InputsAre l m goal.load (w % base) x) →
     (p : Point) → least (suc goal.time) (covers l goal.load goal.node s) ≡ some p → (m : Match) → first_reaching l goal.load goal.node s p ≡ some m → InputsAre l m goal.load p.arrival x
 unfolding point_of
 picked_inputs {l} {goal} {s} {w = w} k x reads p e m f =

@@ -1,19 +1,16 @@
 // The choice of a cover under a required time, from the curves in the work area.
 #![tactic(auto)]
 
-ghost use Rattle.std.specs.Prelude.{◌≡◌, ◌<◌, ◌≤◌, length, get_or};
+ghost use Rattle.std.specs.Prelude.{◌<◌, ◌≤◌, length, get_or};
 ghost use Rattle.sheets_rules.specs.Model.{Shape, Library, Tree};
-ghost use Rattle.sheets_rules.specs.Inside.Layout.{row_words};
 ghost use Rattle.curves.specs.Inside.Words.{point_limit};
-ghost use Rattle.curves.specs.Inside.Best.{HitSafe, Matches};
-ghost use Rattle.matching.specs.Inside.Found.{match_bytes};
 ghost use Rattle.choosing.specs.Inside.Promises.{FirstHit, InputsRead, Prepared, Driven, MatchChosen, Chooses, CoverChosen};
 
-use curves::Words;
+use curves::{Curves, Match, Matches, Sources, Words};
 use matching::Hit;
 use result_sheets::{CoverRecord, MatchRecord};
 use shapes_rules::Packed;
-use sheets_rules::{Limits, PatternRow, Slots, TreeRecord};
+use sheets_rules::{Limits, Slots, TreeRecord};
 
 // What is asked of a node: the load that it drives, the bin of that load and the time by which it is to arrive. At the root, whose load need
 // not be that of a bin, bin 0 has the curve.
@@ -44,52 +41,40 @@ pub struct Inputs {
     pub goals: [Goal; Slots::PINS],
 }
 
-// The first match, in the order of pattern numbers and then of crossing numbers, that reaches the area and the arrival of `w`.
-fn first_reaching(
-    rows: &[u32],
-    found: &[u8],
-    count: usize,
-    symbols: &[u32],
-    work: &[u64],
-    most: usize,
-    load: u32,
-    w: u64,
-) -> usize
-    requires cases { Matches most rows.now found.now count symbols.now work.now }
-    requires load_bound { (load ≤ 255) × (w < point_limit) }
-    ensures { FirstHit most symbols.now work.now rows.now found.now load w count result }
+// Which match is the first, in the order of pattern numbers and then of crossing numbers, that reaches the area and the arrival of `w`.
+fn first_reaching(matches: &Matches<'_>, sources: &Sources<'_>, load: u32, w: u64) -> Option<usize>
+    requires { (load ≤ 255) × (w < point_limit) }
+    ensures { let s = sources.now in FirstHit s.curves.most s.symbols.now s.curves.work.now matches.now.rows.now matches.now.hits.now load w result }
 {
-    for j in 0..count {
-        let end = w % Limits::TIMES + 1;
-        let reached = curves::match_best(rows, found, j, symbols, work, most, load, end);
-        if reached == w {
-            return j;
+    let end = w % Limits::TIMES + 1;
+    for j in 0..matches.hits.len() {
+        if matches.at(j).legal_best(sources, load, end) == Some(w) {
+            return Some(j);
         }
     }
-    count
+    None
 }
 
-// The inputs of a hit, which drives a load and is to arrive by `time`, with its pattern's row. A pin's delay is taken off the time.
-fn read_inputs(pattern: &[u32], hit: &[u8], load: u32, time: u32) -> Inputs
-    requires { HitSafe pattern.now hit.now × (length pattern.now ≡ row_words) × (length hit.now ≡ match_bytes) × (load ≤ 255) }
-    ensures { InputsRead pattern.now hit.now load time result }
+// The inputs of a match, which drives a load and is to arrive by `time`. A pin's delay is taken off the time.
+fn read_inputs(one: &Match<'_>, load: u32, time: u32) -> Inputs
+    requires { load ≤ 255 }
+    ensures { InputsRead one.now.pattern.now one.now.hit.now load time result }
 {
-    let count = usize::from(hit[Hit::COUNT]);
+    let inputs = one.hit.inputs.as_slice();
     let mut goals = [Goal::NONE; Slots::PINS];
-    for k in 0..count {
-        let at = Hit::INPUTS + Hit::INPUT * k;
-        let pin = cells::pin_figures(pattern, usize::from(hit[at]));
+    for (k, input) in inputs.iter().enumerate() {
+        let pin = cells::pin_figures(one.pattern, usize::from(input.pin));
         goals[k] = Goal {
-            node: usize::from(hit[at + Hit::NODE]),
+            node: usize::from(input.node),
             load: pin.load,
             bin: pin.bin as usize,
             time: time.saturating_sub(cells::delay(pin, load)),
         };
     }
     Inputs {
-        pattern: hit[Hit::PATTERN],
-        crossing: hit[Hit::CROSSING],
-        count,
+        pattern: one.hit.pattern,
+        crossing: one.hit.crossing,
+        count: inputs.len(),
         goals,
     }
 }
@@ -98,23 +83,31 @@ fn read_inputs(pattern: &[u32], hit: &[u8], load: u32, time: u32) -> Inputs
 fn choose_match(
     rows: &[u32],
     tree: &TreeRecord,
-    found: &mut [u8],
-    work: &[u64],
-    most: usize,
+    found: &mut [Hit],
+    curves: &Curves<'_>,
     goal: Goal,
 ) -> Inputs
-    requires { (l : Library) × ((t : Tree) × ((s : Shape) × (Prepared most l t rows.now tree.now.symbols tree.now.sizes (length found.old) work.now × Driven l t goal s × (get_or tree.now.symbols goal.node 0 < 2)))) }
-    ensures { MatchChosen most rows.now tree.now.symbols tree.now.sizes found.old work.now goal result }
+    requires { (l : Library) × ((t : Tree) × ((s : Shape) × (Prepared curves.now.most l t rows.now tree.now.symbols tree.now.sizes (length found.old) curves.now.work.now × Driven l t goal s × (get_or tree.now.symbols goal.node 0 < 2)))) }
+    ensures { MatchChosen curves.now.most rows.now tree.now.symbols tree.now.sizes found.old curves.now.work.now goal result }
 {
-    let load = goal.load;
     let at = Words::BINS * goal.node + goal.bin;
-    let w = curves::look_up(work, most, at, u64::from(goal.time) + 1);
-    let count = matching::find_matches(rows, &tree.symbols, &tree.sizes, goal.node, found);
-    let first = Hit::BYTES * first_reaching(rows, found, count, &tree.symbols, work, most, load, w);
-    let hit = &found[first..first + Hit::BYTES];
-    let row = PatternRow::WORDS * usize::from(hit[Hit::PATTERN]);
-    let time = (w % Limits::TIMES) as u32;
-    read_inputs(&rows[row..row + PatternRow::WORDS], hit, load, time)
+    // Some cover of the node arrives in time, so its curve has a point by then, and some match reaches that point.
+    let Some(w) = curves.look_up(at, u64::from(goal.time) + 1) else {
+        unreachable!();
+    };
+    let count = matching::find_matches(rows, tree, goal.node, found);
+    let matches = Matches {
+        rows,
+        hits: &found[..count],
+    };
+    let sources = Sources {
+        symbols: &tree.symbols,
+        curves: *curves,
+    };
+    let Some(j) = first_reaching(&matches, &sources, goal.load, w) else {
+        unreachable!();
+    };
+    read_inputs(&matches.at(j), goal.load, (w % Limits::TIMES) as u32)
 }
 
 // Puts the matches of the cover chosen at a node into a cover, in ascending order of nodes, after those that it has. The nodes in the subtree
@@ -122,25 +115,24 @@ fn choose_match(
 pub fn choose(
     rows: &[u32],
     tree: &TreeRecord,
-    found: &mut [u8],
-    work: &[u64],
-    most: usize,
+    found: &mut [Hit],
+    curves: &Curves<'_>,
     goal: Goal,
     cover: &mut CoverRecord,
 )
-    requires { (l : Library) × ((t : Tree) × ((s : Shape) × Chooses most l t rows.now tree.now.symbols tree.now.sizes (length found.old) work.now goal cover.old s)) }
-    ensures { CoverChosen most rows.now tree.now.symbols tree.now.sizes found.old work.now goal cover.old cover.new }
+    requires { (l : Library) × ((t : Tree) × ((s : Shape) × Chooses curves.now.most l t rows.now tree.now.symbols tree.now.sizes (length found.old) curves.now.work.now goal cover.old s)) }
+    ensures { CoverChosen curves.now.most rows.now tree.now.symbols tree.now.sizes found.old curves.now.work.now goal cover.old cover.new }
 {
     if Packed::LEAF <= tree.symbols[goal.node] {
         return;
     }
-    let inputs = choose_match(rows, tree, found, work, most, goal);
+    let inputs = choose_match(rows, tree, found, curves, goal);
     cover.push(MatchRecord {
         node: goal.node as u8,
         pattern: inputs.pattern,
         crossing: inputs.crossing,
     });
-    for k in 0..inputs.count {
-        choose(rows, tree, found, work, most, inputs.goals[k], cover);
+    for next in &inputs.goals[..inputs.count] {
+        choose(rows, tree, found, curves, *next, cover);
     }
 }

@@ -3,23 +3,27 @@ use mathlib.Core.Path.{◌≡◌, refl, sym, ap, ap₂, subst, ◌∙◌}
 use mathlib.Core.List.Memᴰ
 use mathlib.Core.List.{List, [], ◌∷◌, ◌++◌, map, map-append, append_assoc, append-nil, Memᴰ}
 use mathlib.Core.Option.{Option, none, some}
+use Rattle.std.specs.Prelude.{None, Some}
 use mathlib.Core.Logic.{⊎_elim}
 use borrow.Author.Tests.{eq-eqb, ne_eqb}
 use Prim.Native.Nat.{ℕ, zero, suc, ◌+◌, ◌-◌, ◌*◌, ◌%◌, ◌≤◌, ◌<◌}
 use native.Mathlib.Decide.{ℕ_discrete}
 use native.Mathlib.Nat.{add-zero}
 use native.Mathlib.Omega.{arith}
-use lib.ListN.{length, get_or, take, drop, set, length-append, length-map}
-use lib.Seq.{sets, sets-eq, get_or-set_other, get_or-set_same, take_all, take_at, take-append-add, take-set-le, drop_at, drop-set-lt, drop-set-add, length-take-le}
+use lib.ListN.{length, get_or, take, drop, set, length-append, length-map, length-take}
+use lib.Seq.{sets, get_or-take, sets-eq, get_or-set_other, get_or-set_same, take_all, take_at, take-append-add, take-set-le, drop_at, drop-set-lt, drop-set-add, length-take-le}
 use Rattle.fields.proofs.Lists.{sets_append}
 use Rattle.covers.specs.Cover.{Point}
 use Rattle.covers.specs.Choice.{lesser}
 use Rattle.covers.proofs.Basics.{option_cases, lt_or_le}
 use Rattle.covers.specs.Inside.Curve.{base, by_deadline, chained, point_of, word_of}
-use Rattle.curves.specs.Inside.Words.{absent, point_limit, match_limit, stored, slot, curve_at, Small, AgreeFrom}
+use Rattle.overlay.specs.declared.Input.{Input}
+use Rattle.overlay.specs.Inside.Promises.{blank_input}
+use Rattle.matching.specs.declared.Hit.{Hit}
+use Rattle.curves.specs.Inside.Words.{point_limit, match_limit, stored, slot, curve_at, Small, AgreeFrom}
 use Rattle.cells.specs.Inside.Cell.{delay_of}
-use Rattle.curves.specs.Inside.Best.{hit_at, pattern_of, hit_count, input_node, input_figures, input_best, input_late, inputs_best, hit_best, legal_best, hits_best, Above}
-use Rattle.curves.specs.Inside.Promises.{Worth, match_before, AllRising, best_before, node_points, PointsFit, Kept, Least, CurveStored, Fit}
+use Rattle.curves.specs.Inside.Best.{hit_at, pattern_of, hit_count, hit_inputs, input_figures, input_best, input_late, inputs_best, hit_best, legal_best, hits_best, Above}
+use Rattle.curves.specs.Inside.Promises.{Held, match_before, AllRising, best_before, node_points, PointsFit, Kept, Least, CurveStored, Fit}
 use Rattle.curves.proofs.Laws.{word_point, point_word_lem, apart, part_word_lem}
 
 -- ---- the other curves
@@ -47,37 +51,38 @@ module _ (most : ℕ) (symbols work work' : List ℕ) (m : ℕ) (a : AgreeFrom m
   unfolding input_best
   input_same node bin load end h = rw (a (4 * node + bin) (omega arith))
 
-  inputs_same : (pattern hit : List ℕ) (load end n k : ℕ) → ((i : ℕ) → i < k + n → m ≤ 4 * input_node pattern hit i) →
-      inputs_best most symbols work pattern hit load end k n ≡ inputs_best most symbols work' pattern hit load end k n
+  inputs_same : (pattern : List ℕ) (load end : ℕ) (is : List Input) → ((k : ℕ) → k < length is → m ≤ 4 * (get_or is k blank_input).node) →
+      inputs_best most symbols work pattern load end is ≡ inputs_best most symbols work' pattern load end is
   unfolding inputs_best input_late
-  inputs_same pattern hit load end zero k h = refl
-  inputs_same pattern hit load end (suc n) k h =
-      let pin = input_figures pattern hit k in
-      rw (input_same (input_node pattern hit k) pin.bin pin.load (end - delay_of pin load) (h k (omega arith)), inputs_same pattern hit load end n (suc k) (λ i l. h i (omega arith)))
+  inputs_same pattern load end [] h = refl
+  inputs_same pattern load end (i ∷ is) h =
+      let pin = input_figures pattern i in
+      rw (input_same i.node pin.bin pin.load (end - delay_of pin load) (h 0 (omega arith)), inputs_same pattern load end is (λ k l. h (suc k) (omega arith)))
 
 -- What is read of later nodes' curves alone is the same where those are.
-module _ (most : ℕ) (symbols work work' : List ℕ) (at : ℕ) (a : AgreeFrom most (at + 1) work work') (rows found : List ℕ) (load n : ℕ) (above : Above at found n) where
-  match_same : (j : ℕ) → j < n → (end : ℕ) → match_before most symbols work rows found load j end ≡ match_before most symbols work' rows found load j end
+module _ (most : ℕ) (symbols work work' : List ℕ) (at : ℕ) (a : AgreeFrom most (at + 1) work work') (rows : List ℕ) (hits : List Hit) (load : ℕ) (above : Above at hits) where
+  match_same : (j : ℕ) → j < length hits → (end : ℕ) → match_before most symbols work rows hits load j end ≡ match_before most symbols work' rows hits load j end
   unfolding legal_best hit_best
   match_same j l end =
-      let hit = hit_at found j in
-      rw (inputs_same most symbols work work' (at + 1) a (pattern_of rows hit) hit load end (hit_count hit) 0 (λ i h. omega (arith, above j l i (omega arith))))
+      let hit = hit_at hits j in
+      rw (inputs_same most symbols work work' (at + 1) a (pattern_of rows hit) load end (hit_inputs hit)
+      (λ k h. let c : k < hit_count hit = omega (arith, length-take (hit_count hit) hit.inputs.list) in rw (get_or-take (hit_count hit) hit.inputs.list k blank_input c) (omega (arith, above j l k c))))
 
-  hits_upto : (end k : ℕ) → k ≤ n → hits_best most symbols work rows found load end k ≡ hits_best most symbols work' rows found load end k
+  hits_upto : (end k : ℕ) → k ≤ length hits → hits_best most symbols work rows hits load end k ≡ hits_best most symbols work' rows hits load end k
   unfolding hits_best
   hits_upto end zero h = refl
   hits_upto end (suc k) h = ap₂ lesser (hits_upto end k (omega arith)) (match_same k (omega arith) end)
 
-  pub hits_same : (end : ℕ) → hits_best most symbols work rows found load end n ≡ hits_best most symbols work' rows found load end n
-  hits_same end = hits_upto end n (omega arith)
+  pub hits_same : (end : ℕ) → best_before most symbols work rows hits load end ≡ best_before most symbols work' rows hits load end
+  hits_same end = hits_upto end (length hits) (omega arith)
 
-  pub kept_same : {end : ℕ} {kept : List ℕ} → Kept most symbols work rows found load n end kept → Kept most symbols work' rows found load n end kept
+  pub kept_same : {end : ℕ} {kept : List ℕ} → Kept most symbols work rows hits load (length hits) end kept → Kept most symbols work' rows hits load (length hits) end kept
   kept_same {kept = kept} k = record {
-    lasts = λ j l e h t. subst (Worth match_limit e (get_or kept j 0)) (match_same j l e) (k.lasts j l e h t);
+    lasts = λ j l e h t. subst (Held match_limit e (get_or kept j 0)) (match_same j l e) (k.lasts j l e h t);
     bounds = λ j l e h p q. k.bounds j l e h p (match_same j l e ∙ q);
   }
 
-  pub rising_same : AllRising most symbols work rows found load n → AllRising most symbols work' rows found load n
+  pub rising_same : AllRising most symbols work rows hits load → AllRising most symbols work' rows hits load
   rising_same r j l = record {
     intime = λ end p q. (r j l).intime end p (match_same j l end ∙ q);
     small = λ end p q. (r j l).small end p (match_same j l end ∙ q);
@@ -93,12 +98,12 @@ set_each P l i w h here k other = elim (ℕ_discrete k i) [ yes e ↦ rw (e, get
 pub small_set : (work : List ℕ) (i w : ℕ) → i < length work → Small work → w < point_limit → Small (set work i w)
 small_set work i w l s h k = set_each (λ j x. x < point_limit) work i w l h k (λ n. s k)
 
-module _ (most : ℕ) (symbols work rows found : List ℕ) (load count at : ℕ) where
+module _ (most : ℕ) (symbols work rows : List ℕ) (hits : List Hit) (load at : ℕ) where
   abbrev best : ℕ → Option Point
-  best = best_before most symbols work rows found load count
+  best = best_before most symbols work rows hits load
 
   abbrev all : List Point
-  all = node_points most symbols work rows found load count
+  all = node_points most symbols work rows hits load
 
   -- k points are stored, and the rest are still to be found, before `end`, from which on the kept words last.
   pub record Growing (k end : ℕ) (work' kept : List ℕ) : Type 0 where
@@ -109,63 +114,63 @@ module _ (most : ℕ) (symbols work rows found : List ℕ) (load count at : ℕ)
     pub laid : work' ≡ sets work (slot most at) (map word_of points)
     pub small : Small work'
     pub bounded : end ≤ base
-    pub lasting : Kept most symbols work rows found load count end kept
+    pub lasting : Kept most symbols work rows hits load (length hits) end kept
 
-  pub growing_start : (kept : List ℕ) → Small work → Kept most symbols work rows found load count base kept → Growing 0 base work kept
+  pub growing_start : (kept : List ℕ) → Small work → Kept most symbols work rows hits load (length hits) base kept → Growing 0 base work kept
   growing_start kept sm l = record { points = []; many = refl; few = omega arith; so_far = ap (λ (n : ℕ). by_deadline n best base) (omega arith); laid = refl; small = sm; bounded = omega arith; lasting = l }
 
-module _ {most : ℕ} {symbols work rows found : List ℕ} {load count at k end : ℕ} {work' kept : List ℕ} (g : Growing most symbols work rows found load count at k end work' kept) (above : Above at found count) where
+module _ {most : ℕ} {symbols work rows : List ℕ} {hits : List Hit} {load at k end : ℕ} {work' kept : List ℕ} (g : Growing most symbols work rows hits load at k end work' kept) (above : Above at hits) where
   -- What is stored so far changes nothing that is read.
   agrees : AgreeFrom most (at + 1) work' work
   agrees j le =
       ap (λ (q : List ℕ). curve_at most q j) g.laid
       ∙ curve_other most work at j (map word_of g.points) (λ z. absurd (omega arith)) (omega (arith, length-map g.points word_of, g.many, g.few))
 
-  pub growing_rising : AllRising most symbols work rows found load count → AllRising most symbols work' rows found load count
-  growing_rising = rising_same most symbols work work' at (λ j le. sym (agrees j le)) rows found load count above
+  pub growing_rising : AllRising most symbols work rows hits load → AllRising most symbols work' rows hits load
+  growing_rising = rising_same most symbols work work' at (λ j le. sym (agrees j le)) rows hits load above
 
-  pub growing_kept : Kept most symbols work' rows found load count end kept
-  growing_kept = kept_same most symbols work work' at (λ j le. sym (agrees j le)) rows found load count above g.lasting
+  pub growing_kept : Kept most symbols work' rows hits load (length hits) end kept
+  growing_kept = kept_same most symbols work work' at (λ j le. sym (agrees j le)) rows hits load above g.lasting
 
   -- The next point, if there is one.
-  step : (o : Option Point) → hits_best most symbols work' rows found load end count ≡ o →
-      node_points most symbols work rows found load count ≡ g.points ++ chained o (λ p. by_deadline (most - k) (best_before most symbols work rows found load count) p.arrival)
+  step : (o : Option Point) → best_before most symbols work' rows hits load end ≡ o →
+      node_points most symbols work rows hits load ≡ g.points ++ chained o (λ p. by_deadline (most - k) (best_before most symbols work rows hits load) p.arrival)
   unfolding by_deadline
   step o e =
       let left : most + 1 - k ≡ suc (most - k) = omega (arith, g.few) in
-      rw (left, ← hits_same most symbols work' work at agrees rows found load count above end, e) at g.so_far
+      rw (left, ← hits_same most symbols work' work at agrees rows hits load above end, e) at g.so_far
 
-  finished : (ps : List Point) (r : ℕ) → node_points most symbols work rows found load count ≡ ps → r ≡ length ps → take most ps ≡ g.points → CurveStored most symbols work rows found load count at work' r
+  finished : (ps : List Point) (r : ℕ) → node_points most symbols work rows hits load ≡ ps → r ≡ length ps → take most ps ≡ g.points → CurveStored most symbols work rows hits load at work' r
   finished ps r e l t = record { counted = rw e l; laid = rw (e, t) g.laid; small = g.small }
 
-  module _ {kept' : List ℕ} {w : ℕ} (o : Least most symbols work' rows found load count end kept' w) where
-    pub growing_done : w ≡ absent → CurveStored most symbols work rows found load count at work' k
-    unfolding chained
-    growing_done z = finished g.points k (step none (o.least.missing z) ∙ append-nil g.points) (sym g.many) (take_all most g.points (omega (arith, g.many, g.few)))
+  pub growing_done : {kept' : List ℕ} → Least most symbols work' rows hits load end kept' None → CurveStored most symbols work rows hits load at work' k
+  unfolding chained
+  growing_done o = finished g.points k (step none o.least ∙ append-nil g.points) (sym g.many) (take_all most g.points (omega (arith, g.many, g.few)))
 
-    pub growing_over : (w ≡ absent → ⊥) → k ≡ most → CurveStored most symbols work rows found load count at work' (most + 1)
+  module _ {kept' : List ℕ} {w : ℕ} (o : Least most symbols work' rows hits load end kept' (Some w)) where
+    pub growing_over : k ≡ most → CurveStored most symbols work rows hits load at work' (most + 1)
     unfolding chained by_deadline
-    growing_over n e =
+    growing_over e =
         let done : most - k ≡ 0 = omega arith in
-        finished (g.points ++ (point_of w ∷ [])) (most + 1) (rw done at (step (some (point_of w)) (o.least.point n)))
+        finished (g.points ++ (point_of w ∷ [])) (most + 1) (rw done at (step (some (point_of w)) o.least.point))
         (simp length-append (omega (arith, g.many))) (take_at g.points (point_of w ∷ []) most (g.many ∙ e))
 
-    pub growing_next : (w ≡ absent → ⊥) → (k ≡ most → ⊥) → PointsFit most symbols work rows found load count → slot most at + k < length work' →
-        Growing most symbols work rows found load count at (k + 1) (w % base) (set work' (slot most at + k) w) kept'
+    pub growing_next : (k ≡ most → ⊥) → PointsFit most symbols work rows hits load → slot most at + k < length work' →
+        Growing most symbols work rows hits load at (k + 1) (w % base) (set work' (slot most at + k) w) kept'
     unfolding chained point_of
-    growing_next n m fit l =
+    growing_next m fit l =
         let left : most - k ≡ most + 1 - (k + 1) = omega (arith, g.few) in
-        let now : best_before most symbols work rows found load count end ≡ some (point_of w) = sym (hits_same most symbols work' work at agrees rows found load count above end) ∙ o.least.point n in
-        let earlier : w % base ≤ end = omega (arith, o.least.intime n) in
+        let now : best_before most symbols work rows hits load end ≡ some (point_of w) = sym (hits_same most symbols work' work at agrees rows hits load above end) ∙ o.least.point in
+        let earlier : w % base ≤ end = omega (arith, o.least.intime) in
         record {
           points = g.points ++ (point_of w ∷ []);
           many = simp length-append (omega (arith, g.many));
           few = omega (arith, g.few);
-          so_far = (rw left at (step (some (point_of w)) (o.least.point n))) ∙ sym (append_assoc g.points (point_of w ∷ []) _);
+          so_far = (rw left at (step (some (point_of w)) o.least.point)) ∙ sym (append_assoc g.points (point_of w ∷ []) _);
           laid = rw (map-append word_of g.points, sets_append, length-map, g.many, word_point w, ← g.laid);
           small = small_set work' (slot most at + k) w l g.small (omega (arith, (fit.fit end (point_of w) now).area));
           bounded = omega (arith, g.bounded);
-          lasting = let k = kept_same most symbols work' work at agrees rows found load count above o.lasting in record { lasts = λ j h e le. k.lasts j h e (omega arith); bounds = λ j h e le. k.bounds j h e (omega arith) };
+          lasting = let k = kept_same most symbols work' work at agrees rows hits load above o.lasting in record { lasts = λ j h e le. k.lasts j h e (omega arith); bounds = λ j h e le. k.bounds j h e (omega arith) };
         }
 
 -- ---- a curve that was stored

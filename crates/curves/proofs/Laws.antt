@@ -2,17 +2,24 @@
 use mathlib.Core.Path.{◌≡◌, refl, sym, ap, subst, ◌∙◌}
 use mathlib.Core.List.{List, [], ◌∷◌}
 use mathlib.Core.Logic.{⊎_elim}
-use mathlib.Core.Bool.{Bool, true, false}
+use mathlib.Core.Bool.{not, cond}
 use native.Mathlib.Decide.{ℕ_discrete}
 use mathlib.Core.Option.{Option, none, some, map}
-use Prim.Native.Nat.{ℕ, zero, suc, ◌+◌, ◌-◌, ◌*◌, ◌/◌, ◌%◌, ◌≤◌, ◌<◌, min, max}
+use Prim.Native.Nat.{ℕ, suc, ◌+◌, ◌-◌, ◌*◌, ◌/◌, ◌%◌, ◌≤◌, ◌<◌, min, max}
 use native.Mathlib.Nat.{div-add-mod', mul-suc, mul-le-mul_left}
 use native.Mathlib.Numerals.{add-one}
 use native.Mathlib.Omega.{arith}
 use lib.ListN.{length, get_or, take, drop, length-drop, length-take, drop_of_length-le, get_or-eq_default}
-use lib.Seq.{length-take-le, get_or-take, get_or-drop, drop-cons}
-use borrow.Author.Tests.{eq-eqb, ne_eqb, lt-ltb, le-ltb, le-leb, lt-leb}
-use Rattle.sheets_rules.specs.Inside.Layout.{row_words}
+use lib.Seq.{take_all, length-take-le, get_or-take, get_or-drop, drop-cons}
+use lib.Dec.{eqb, ltb}
+use borrow.Author.Tests.{eqb-true, ltb-true, ltb-false, eq-eqb, ne_eqb, lt-ltb, le-ltb, le-leb, lt-leb}
+use borrow.Table.Steps.{cases}
+use Rattle.std.specs.Prelude.{Option as Maybe, None, Some, unwrap_or}
+use Rattle.std.specs.Bool.{then_some}
+use Rattle.std.specs.Option.{option_or}
+use Rattle.std.proofs.lemmas.List.{take-append-drop}
+use Rattle.std.proofs.lemmas.List.Folds.{find-append}
+use Rattle.std.proofs.lemmas.Option.{none-some, same_Some}
 use Rattle.covers.specs.Cover.{Point, late, raised, beside, leaf_arrival, leaf_point}
 use Rattle.covers.specs.Choice.{before, lesser}
 use Rattle.covers.specs.Inside.Curve.{base, both, lookup, point_of, word_of}
@@ -20,10 +27,12 @@ use Rattle.covers.proofs.Points.{point_path, both_assoc, both_carries, Leq, smal
 use Rattle.covers.proofs.Basics.{lt_or_le}
 use Rattle.curves.specs.Inside.Words.{absent, area_limit, point_limit, match_limit, stored, slot, table_of, Small, ZeroBelow, WorkArea}
 use Rattle.cells.specs.declared.PinFigures.{PinFigures}
-use Rattle.cells.specs.Inside.Cell.{row_legal, delay_of}
-use Rattle.matching.specs.Inside.Found.{match_bytes}
-use Rattle.curves.specs.Inside.Best.{hit_at, pattern_of, row_area, hit_count, input_node, input_figures, input_best, input_late, inputs_best, hit_best, legal_best, hits_best, Sources, Tables, HitKnown, Matches}
-use Rattle.curves.specs.Inside.Promises.{Worth, match_before, Kept}
+use Rattle.cells.specs.Inside.Cell.{delay_of}
+use Rattle.overlay.specs.declared.Input.{Input}
+use Rattle.overlay.specs.Inside.Promises.{blank_input}
+use Rattle.matching.specs.declared.Hit.{Hit}
+use Rattle.curves.specs.Inside.Best.{InputSafe, HitSafe, row_area, hit_count, hit_inputs, input_figures, input_best, input_late, inputs_best, hit_best, hits_best}
+use Rattle.curves.specs.Inside.Promises.{first_before, PointWord, Worth, Held, match_before}
 use Rattle.leaves.specs.Inside.Leaf.{leaf_of}
 
 -- ---- words
@@ -41,12 +50,20 @@ pub word_arrival : (p : Point) → p.arrival < base → word_of p % base ≡ p.a
 unfolding word_of
 word_arrival p h = omega arith
 
--- A word that is in use, and one that is not.
-pub worth_point : (limit end w : ℕ) (o : Option Point) → w < limit → w < absent → w % base < end → o ≡ some (point_of w) → Worth limit end w o
-worth_point limit end w o h l t e = record { missing = λ z. absurd (omega arith); point = λ n. e; small = λ n. h; intime = λ n. t }
+-- A kept word that is in use, and one that is not.
+pub held_point : (limit end w : ℕ) (o : Option Point) → w < absent → PointWord limit end w o → Held limit end w o
+held_point limit end w o l g = record { missing = λ z. absurd (omega arith); point = λ n. g }
 
-pub worth_none : (limit end : ℕ) (o : Option Point) → o ≡ none → Worth limit end absent o
-worth_none limit end o e = record { missing = λ z. e; point = λ n. absurd (n refl); small = λ n. absurd (n refl); intime = λ n. absurd (n refl) }
+pub held_none : (limit end : ℕ) (o : Option Point) → o ≡ none → Held limit end absent o
+held_none limit end o e = record { missing = λ z. e; point = λ n. absurd (n refl) }
+
+-- What is kept of what was found, and what is found of what is kept.
+pub held : (limit end : ℕ) (r : Maybe ℕ) (o : Option Point) → limit ≤ absent → Worth limit end r o → Held limit end (unwrap_or r absent) o
+held limit end None o h e = held_none limit end o e
+held limit end (Some w) o h g = held_point limit end w o (omega (arith, g.small)) g
+
+pub told : (limit end w : ℕ) (o : Option Point) → Held limit end w o → Worth limit end (then_some (not (eqb w absent)) w) o
+told limit end w o g = elim (ℕ_discrete w absent) [ yes e ↦ rw (eq-eqb w absent e) (g.missing e) | no n ↦ rw (ne_eqb w absent n) (g.point n) ]
 
 -- ---- stored curves
 
@@ -94,39 +111,52 @@ unfolding lookup
 found_never [] end e = refl
 found_never (p ∷ ps) end e = rw (le-ltb p.arrival end (omega arith)) (found_never ps end e)
 
--- That word is before the instant, or is not.
-module _ (curve : List ℕ) (end k : ℕ) where
-  pub found_end : get_or curve k 0 ≡ 0 → lookup end (stored (drop k curve)) ≡ none
-  unfolding lookup
-  found_end e = ap (lookup end) (stored_end curve k e)
+-- The first word before an instant, of a line of words and of the rest.
+pub probed_line : (n end : ℕ) (curve : List ℕ) → option_or (first_before end (take n curve)) (first_before end (drop n curve)) ≡ first_before end curve
+probed_line n end curve = sym (find-append (λ w. ltb (w % base) end) (take n curve) (drop n curve)) ∙ ap (first_before end) (take-append-drop n curve)
 
-  pub found_here : (get_or curve k 0 ≡ 0 → ⊥) → get_or curve k 0 % base < end → lookup end (stored (drop k curve)) ≡ some (point_of (get_or curve k 0))
-  unfolding lookup point_of
-  found_here n t = ap (lookup end) (stored_more curve k n) ∙ rw (lt-ltb (get_or curve k 0 % base) end t)
+pub probed_rest : (n m end : ℕ) (curve : List ℕ) → None ≡ first_before end (take n curve) → length curve ≤ n + m → first_before end (take m (drop n curve)) ≡ first_before end curve
+probed_rest n m end curve e h =
+    ap (first_before end) (take_all m (drop n curve) (omega (arith, length-drop n curve)))
+    ∙ ap (λ (o : Maybe ℕ). option_or o (first_before end (drop n curve))) e
+    ∙ probed_line n end curve
 
-  pub found_later : end ≤ get_or curve k 0 % base → lookup end (stored (drop k curve)) ≡ lookup end (stored (drop (k + 1) curve))
-  unfolding lookup point_of
-  found_later t = ⊎_elim
-      (λ z. ap (lookup end) (stored_more curve k (λ e. absurd (omega arith))) ∙ rw (le-ltb (get_or curve k 0 % base) end t))
-      (λ z. found_never (stored (drop k curve)) end (omega arith) ∙ sym (found_never (stored (drop (k + 1) curve)) end (omega arith)))
-      (lt_or_le 0 end)
+-- What the first word before an instant says of the first point there.
+module _ (end : ℕ) where
+  pub found_nothing : (ws : List ℕ) → first_before end ws ≡ None → lookup end (stored ws) ≡ none
+  unfolding lookup stored point_of
+  found_nothing [] e = refl
+  found_nothing (x ∷ xs) e = cases (ltb (x % base) end)
+      (λ t. absurd (none-some x (sym (rw t at e))))
+      (λ t. cases (eqb x 0) (λ z. rw z refl) (λ z. rw (z, t) (found_nothing xs (rw t at e))))
 
-pub one_less : (n k : ℕ) → k < n → n - k ≡ suc (n - (k + 1))
-one_less n k h = omega arith
+  found_word : (w : ℕ) (ws : List ℕ) → first_before end ws ≡ Some w → Small ws → (w < point_limit) × (w % base < end) × (lookup end (stored ws) ≡ cond (eqb w 0) none (some (point_of w)))
+  unfolding lookup stored point_of
+  found_word w [] e s = absurd (none-some w e)
+  found_word w (x ∷ xs) e s = cases (ltb (x % base) end)
+      (λ t. let same : x ≡ w = same_Some x w (rw t at e) in
+      rw (← same) (s 0, ltb-true _ _ t, cases (eqb x 0) (λ z. rw z refl) (λ z. rw (z, t) refl)))
+      (λ t. let r = found_word w xs (rw t at e) (λ k. s (suc k)) in
+      (r.0, r.1, cases (eqb x 0) (λ z. absurd (omega (arith, eqb-true _ _ z, ltb-false _ _ t, r.1))) (λ z. rw (z, t) r.2)))
+
+pub found_worth : (end : ℕ) (curve : List ℕ) (w : ℕ) → Some w ≡ first_before end curve → Small curve → Worth point_limit end (then_some (not (eqb w 0)) w) (lookup end (stored curve))
+found_worth end curve w e s =
+    let r = found_word end w curve (sym e) s in
+    cases (eqb w 0) (λ z. rw z (r.2 ∙ rw z refl)) (λ z. rw z (record { point = r.2 ∙ rw z refl; small = r.0; intime = r.1 }))
 
 -- ---- an input
 
 module _ (most : ℕ) (symbols work : List ℕ) (node bin load end : ℕ) where
-  pub leaf_timely : (x : ℕ) → 2 ≤ get_or symbols node 0 → x ≡ leaf_arrival (leaf_of (get_or symbols node 0)) load → x < base → x < end →
-      Worth point_limit end x (input_best most symbols work node bin load end)
+  pub leaf_worth : (x : ℕ) → 2 ≤ get_or symbols node 0 → x ≡ leaf_arrival (leaf_of (get_or symbols node 0)) load → x < base →
+      Worth point_limit end (then_some (ltb x end) x) (input_best most symbols work node bin load end)
   unfolding input_best before point_of leaf_point
-  leaf_timely x h e l t =
-      worth_point point_limit end x _ (omega arith) (omega arith) (omega arith)
-      (rw (le-leb 2 (get_or symbols node 0) h, ← e, lt-ltb x end t) (ap {B = Option Point} some (point_path (omega arith) (omega arith))))
-
-  pub leaf_late : (x : ℕ) → 2 ≤ get_or symbols node 0 → x ≡ leaf_arrival (leaf_of (get_or symbols node 0)) load → end ≤ x → input_best most symbols work node bin load end ≡ none
-  unfolding input_best before leaf_point
-  leaf_late x h e t = rw (le-leb 2 (get_or symbols node 0) h, ← e, le-ltb x end t)
+  leaf_worth x h e l = cases (ltb x end)
+      (λ t. rw t (record {
+        point = rw (le-leb 2 (get_or symbols node 0) h, ← e, t) (ap {B = Option Point} some (point_path (omega arith) (omega arith)));
+        small = omega arith;
+        intime = omega (arith, ltb-true x end t);
+      }))
+      (λ t. rw t (rw (le-leb 2 (get_or symbols node 0) h, ← e, t) refl))
 
   pub gate_best : get_or symbols node 0 < 2 → lookup end (table_of most work node bin) ≡ input_best most symbols work node bin load end
   unfolding input_best
@@ -134,91 +164,87 @@ module _ (most : ℕ) (symbols work : List ℕ) (node bin load end : ℕ) where
 
 -- ---- an input as its match sees it
 
-pub worth_late : (end d w : ℕ) (o : Option Point) → end ≤ base → Worth point_limit (end - d) w o → (w ≡ absent → ⊥) → Worth point_limit end (w + d) (map (late d) o)
+pub word_late : (end d w : ℕ) (o : Option Point) → end ≤ base → PointWord point_limit (end - d) w o → PointWord point_limit end (w + d) (map (late d) o)
 unfolding late point_of
-worth_late end d w o h g n =
-    let t = g.intime n in
-    let l = g.small n in
-    worth_point point_limit end (w + d) _ (omega arith) (omega arith) (omega arith) (rw (g.point n) (ap {B = Option Point} some (point_path (omega arith) (omega arith))))
+word_late end d w o h g =
+    let t = g.intime in
+    let l = g.small in
+    record { point = rw g.point (ap {B = Option Point} some (point_path (omega arith) (omega arith))); small = omega arith; intime = omega arith }
 
-module _ {most : ℕ} {pattern hit symbols work : List ℕ} (t : Tables most pattern hit symbols work) (load end : ℕ) where
-  abbrev one : ℕ → Option Point
-  one = input_late most symbols work pattern hit load end
+module _ (most : ℕ) (symbols work pattern : List ℕ) (load end : ℕ) where
+  abbrev one : Input → Option Point
+  one = input_late most symbols work pattern load end
 
-  abbrev rest : ℕ → ℕ → Option Point
-  rest = inputs_best most symbols work pattern hit load end
+  abbrev rest : List Input → Option Point
+  rest = inputs_best most symbols work pattern load end
 
-  abbrev all : Option Point
-  all = hit_best most symbols work pattern hit load end
-
-  -- Input k, from its pin's figures and its least point before what the pin leaves of the bound.
-  module _ (k : ℕ) (pin : PinFigures) (d left w : ℕ) where
+  -- An input, from its pin's figures and its least point before what the pin leaves of the bound.
+  module _ (input : Input) (pin : PinFigures) (d left : ℕ) where
     abbrev own : Option Point
-    own = input_best most symbols work (input_node pattern hit k) pin.bin pin.load left
+    own = input_best most symbols work input.node pin.bin pin.load left
 
-    module _ (ep : pin ≡ input_figures pattern hit k) (ed : d ≡ delay_of pin load) (el : left ≡ end - d) where
-      seen : map (late d) own ≡ one k
+    module _ (ep : pin ≡ input_figures pattern input) (ed : d ≡ delay_of pin load) (el : left ≡ end - d) where
+      seen : map (late d) own ≡ one input
       unfolding input_late
       seen = rw (el, ed, ep)
 
-      pub input_missing : Worth point_limit left w own → w ≡ absent → Worth point_limit end absent (one k)
-      input_missing g z = worth_none point_limit end (one k) (sym seen ∙ ap (map (late d)) (g.missing z))
+      pub input_missing : own ≡ none → one input ≡ none
+      input_missing e = sym seen ∙ ap (map (late d)) e
 
-      pub input_found : end ≤ base → Worth point_limit left w own → (w ≡ absent → ⊥) → Worth point_limit end (w + d) (one k)
-      input_found h g n = subst (Worth point_limit end (w + d)) seen (worth_late end d w own h (subst (λ (b : ℕ). Worth point_limit b w own) el g) n)
+      pub input_found : (w : ℕ) → end ≤ base → PointWord point_limit left w own → PointWord point_limit end (w + d) (one input)
+      input_found w h g = subst (PointWord point_limit end (w + d)) seen (word_late end d w own h (subst (λ (b : ℕ). PointWord point_limit b w own) el g))
 
   -- ---- a match: its inputs one after another
 
-  abbrev many : ℕ
-  many = hit_count hit
-
   -- After k inputs, which are side by side the point p.
-  module _ (k : ℕ) (p : Point) (i : rest 0 many ≡ both (some p) (rest k (many - k))) where
-    next : k < many → (o : Option Point) → one k ≡ o → rest 0 many ≡ both (some p) (both o (rest (k + 1) (many - (k + 1))))
+  module _ (inputs : List Input) (k : ℕ) (p : Point) (i : rest inputs ≡ both (some p) (rest (drop k inputs))) where
+    next : k < length inputs → (o : Option Point) → one (get_or inputs k blank_input) ≡ o → rest inputs ≡ both (some p) (both o (rest (drop (k + 1) inputs)))
     unfolding inputs_best
-    next h o e = i ∙ rw (one_less many k h, add-one, ← e)
+    next h o e = i ∙ rw (drop-cons inputs k blank_input h, add-one, ← e)
 
-    pub match_turn : k < many → (w : ℕ) → one k ≡ some (point_of w) →
-        rest 0 many ≡ both (some (record { area = p.area + w / base; arrival = max p.arrival (w % base) })) (rest (k + 1) (many - (k + 1)))
+    pub inputs_turn : k < length inputs → (w : ℕ) → one (get_or inputs k blank_input) ≡ some (point_of w) →
+        rest inputs ≡ both (some (record { area = p.area + w / base; arrival = max p.arrival (w % base) })) (rest (drop (k + 1) inputs))
     unfolding both beside point_of
-    match_turn h w e = next h (some (point_of w)) e ∙ sym (both_assoc (some p) (some (point_of w)) (rest (k + 1) (many - (k + 1))))
+    inputs_turn h w e = next h (some (point_of w)) e ∙ sym (both_assoc (some p) (some (point_of w)) (rest (drop (k + 1) inputs)))
 
-    pub match_stops : k < many → one k ≡ none → Worth match_limit end absent all
-    unfolding hit_best both
-    match_stops h e = worth_none match_limit end all (rw (next h none e))
+    pub inputs_stop : k < length inputs → one (get_or inputs k blank_input) ≡ none → rest inputs ≡ none
+    unfolding both
+    inputs_stop h e = rw (next h none e) refl
 
-    pub match_worth : many ≤ k → p.area ≤ 6 * area_limit → p.arrival < end → end ≤ base → Worth match_limit end ((row_area pattern + p.area) * base + p.arrival) all
-    unfolding hit_best raised point_of inputs_best both beside before
-    match_worth h hp ht he =
-        let a = row_area pattern in
-        let w = (a + p.area) * base + p.arrival in
-        let small : a ≤ 65535 = t.safe.area in
-        let done : many - k ≡ 0 = omega arith in
-        let whole : rest 0 many ≡ some p = i ∙ rw (done, lt-ltb 0 end (omega arith)) (ap {B = Option Point} some (point_path (omega arith) (omega arith))) in
-        worth_point match_limit end w all (omega arith) (omega arith) (omega arith) (rw whole (ap {B = Option Point} some (point_path (omega arith) (omega arith))))
+    pub inputs_end : length inputs ≤ k → p.arrival < end → rest inputs ≡ some p
+    unfolding inputs_best both beside before
+    inputs_end h t = i ∙ rw (drop_of_length-le inputs h, lt-ltb 0 end (omega arith)) (ap {B = Option Point} some (point_path (omega arith) (omega arith)))
 
-  nothing : (n k : ℕ) → end ≡ 0 → rest k n ≡ none
+  pub inputs_never : (inputs : List Input) → end ≡ 0 → rest inputs ≡ none
   unfolding inputs_best before
-  nothing zero k e = rw (le-ltb 0 end (omega arith))
-  nothing (suc n) k e = ap (both (one k)) (nothing n (suc k) e) ∙ (both_carries (one k)).on_none
+  inputs_never [] e = rw (le-ltb 0 end (omega arith)) refl
+  inputs_never (i ∷ is) e = ap (both (one i)) (inputs_never is e) ∙ (both_carries (one i)).on_none
 
-  pub match_never : end ≡ 0 → Worth match_limit end absent all
-  unfolding hit_best
-  match_never e = worth_none match_limit end all (ap (map (raised (row_area pattern))) (nothing (hit_count hit) 0 e))
+  module _ (hit : Hit) where
+    abbrev all : Option Point
+    all = hit_best most symbols work pattern hit load end
 
-  -- ---- a match, if it is legal
+    pub match_never : rest (hit_inputs hit) ≡ none → all ≡ none
+    unfolding hit_best
+    match_never e = ap (map (raised (row_area pattern))) e
 
-  abbrev allowed : Option Point
-  allowed = legal_best most symbols work pattern hit load end
+    pub match_worth : (p : Point) → rest (hit_inputs hit) ≡ some p → row_area pattern ≤ 65535 → p.area ≤ 6 * area_limit → p.arrival < end → end ≤ base →
+        PointWord match_limit end ((row_area pattern + p.area) * base + p.arrival) all
+    unfolding hit_best raised point_of
+    match_worth p e ha hp ht he = record {
+      point = rw e (ap {B = Option Point} some (point_path (omega arith) (omega arith)));
+      small = omega arith;
+      intime = omega arith;
+    }
 
-  module _ {b : Bool} (e : b ≡ row_legal pattern load) where
-    pub match_illegal : b ≡ false → Worth match_limit end absent allowed
-    unfolding legal_best
-    match_illegal f = worth_none match_limit end allowed (rw (← e, f))
+-- The inputs of a hit are few and safe to read.
+pub few_inputs : {pattern : List ℕ} {hit : Hit} → HitSafe pattern hit → length (hit_inputs hit) ≤ 6
+few_inputs {hit = hit} s = omega (arith, length-take (hit_count hit) hit.inputs.list, s.few)
 
-    pub match_legal : b ≡ true → (r : ℕ) → Worth match_limit end r all → Worth match_limit end r allowed
-    unfolding legal_best
-    match_legal f r g = rw (← e, f) g
+pub input_safe : {pattern : List ℕ} {hit : Hit} → HitSafe pattern hit → (k : ℕ) → k < length (hit_inputs hit) → InputSafe pattern (get_or (hit_inputs hit) k blank_input)
+input_safe {hit = hit} s k h =
+    let l : k < hit_count hit = omega (arith, length-take (hit_count hit) hit.inputs.list) in
+    rw (get_or-take (hit_count hit) hit.inputs.list k blank_input l) (s.inputs k l)
 
 -- ---- the lesser of two
 
@@ -231,52 +257,35 @@ unfolding word_of
 point_order (smaller l) h = omega arith
 point_order (earlier e l) h = omega arith
 
-module _ (limit end v w : ℕ) (o o' : Option Point) (fits : limit ≤ absent) (a : Worth limit end v o) (b : Worth limit end w o') where
+module _ (limit end v w : ℕ) (o o' : Option Point) (fits : limit ≤ absent) (a : Held limit end v o) (b : Held limit end w o') where
   -- The later one is the lesser word.
-  lesser_new : w < v → Worth limit end w (lesser o o')
+  lesser_new : w < v → Held limit end w (lesser o o')
   unfolding lesser
   lesser_new h = elim (ℕ_discrete v absent) [
     | yes e ↦ rw (a.missing e) b
     | no e ↦
-        let f : w ≡ absent → ⊥ = λ z. omega (arith, a.small e) in
-        worth_point limit end w _ (b.small f) (omega (arith, b.small f)) (b.intime f) (rw (a.point e, b.point f) (ap {B = Option Point} some (pick_right (word_order w v (omega arith)))))
+        let p = a.point e in
+        let q = b.point (λ z. omega (arith, p.small)) in
+        held_point limit end w _ (omega (arith, q.small)) (record { point = rw (p.point, q.point) (ap {B = Option Point} some (pick_right (word_order w v (omega arith)))); small = q.small; intime = q.intime })
   ]
 
-  lesser_old : v ≤ w → Worth limit end v (lesser o o')
+  lesser_old : v ≤ w → Held limit end v (lesser o o')
   unfolding lesser
   lesser_old h = elim (ℕ_discrete w absent) [
     | yes f ↦ rw (b.missing f, lesser_none o) a
     | no f ↦
-        let e : v ≡ absent → ⊥ = λ z. omega (arith, b.small f) in
-        worth_point limit end v _ (a.small e) (omega (arith, a.small e)) (a.intime e) (rw (a.point e, b.point f) (ap {B = Option Point} some (pick_left (word_order v w h))))
+        let q = b.point f in
+        let p = a.point (λ z. omega (arith, q.small)) in
+        held_point limit end v _ (omega (arith, p.small)) (record { point = rw (p.point, q.point) (ap {B = Option Point} some (pick_left (word_order v w h))); small = p.small; intime = p.intime })
   ]
 
-  pub lesser_word : Worth limit end (min v w) (lesser o o')
+  pub lesser_word : Held limit end (min v w) (lesser o o')
   lesser_word = ⊎_elim (λ h. let e : min v w ≡ w = omega arith in rw e (lesser_new h)) (λ h. let e : min v w ≡ v = omega arith in rw e (lesser_old h)) (lt_or_le w v)
 
 -- ---- the hits of a node
 
-pub hits_turn : {most : ℕ} {symbols work rows found : List ℕ} {load count end : ℕ} {kept : List ℕ} → Kept most symbols work rows found load count end kept → (j v w : ℕ) →
-    Worth match_limit end v (hits_best most symbols work rows found load end j) → Worth match_limit end w (match_before most symbols work rows found load j end) →
-    Worth match_limit end (min v w) (hits_best most symbols work rows found load end (j + 1))
+pub hits_turn : (most : ℕ) (symbols work rows : List ℕ) (hits : List Hit) (load end j v w : ℕ) →
+    Held match_limit end v (hits_best most symbols work rows hits load end j) → Held match_limit end w (match_before most symbols work rows hits load j end) →
+    Held match_limit end (min v w) (hits_best most symbols work rows hits load end (j + 1))
 unfolding hits_best
-hits_turn {end = end} k j v w a b = rw add-one (lesser_word match_limit end v w _ _ (omega arith) a b)
-
--- What reading one of the matches requires.
-pub hit_ready : {most : ℕ} {rows found : List ℕ} {count : ℕ} {symbols work : List ℕ} → Matches most rows found count symbols work → (j : ℕ) → j < count →
-    HitKnown rows (hit_at found j) × (match_bytes * (j + 1) ≤ length found)
-hit_ready m j h = (m.hits_known j h, omega (arith, m.room))
-
--- The matches of a node, read with another work area.
-pub matches_in : {most : ℕ} {rows found : List ℕ} {count : ℕ} {symbols work work' : List ℕ} → Matches most rows found count symbols work → WorkArea most work' → Matches most rows found count symbols work'
-matches_in m w = record { hits_known = m.hits_known; room = m.room; sources = record { symbols_length = m.sources.symbols_length; symbols_small = m.sources.symbols_small; curves = w } }
-
--- The tables that one of the matches is read with.
-pub hit_tables : {most : ℕ} {rows symbols work : List ℕ} (found : List ℕ) (j : ℕ) → HitKnown rows (hit_at found j) → match_bytes * (j + 1) ≤ length found → Sources most symbols work →
-    Tables most (pattern_of rows (hit_at found j)) (hit_at found j) symbols work
-hit_tables {rows = rows} found j k h s = record {
-  safe = k.safe;
-  pattern_length = part_length row_words (row_words * get_or (hit_at found j) 0 0) rows (omega (arith, k.known));
-  hit_length = part_length match_bytes (match_bytes * j) found (omega arith);
-  sources = s;
-}
+hits_turn most symbols work rows hits load end j v w a b = rw add-one (lesser_word match_limit end v w _ _ (omega arith) a b)

@@ -5,10 +5,12 @@ use mathlib.Core.List.{List, [], map, Memᴰ}
 use mathlib.Core.Option.{Option, some, none-ne-some}
 use Prim.Native.Nat.{ℕ, suc, ◌+◌, ◌*◌, ◌≤◌, ◌<◌}
 use native.Mathlib.Omega.{arith}
-use lib.ListN.{length, get_or, take}
+use lib.ListN.{length, get_or, take, drop, length-map}
+use lib.Seq.{sets, sets-eq, take-append_seam}
+use Rattle.std.proofs.lemmas.List.{get_or-map}
 use borrow.Table.Steps.{cases}
 use Rattle.sheets_rules.specs.Model.{plain_leaf, Shape, leaf, inv, nand, Library, Tree, patterns}
-use Rattle.sheets_rules.specs.Inside.Layout.{table_from, row_words}
+use Rattle.sheets_rules.specs.Inside.Layout.{row_words}
 use Rattle.sheets_rules.specs.Inside.Sound.{SoundLibrary}
 use Rattle.covers.specs.Crossing.{redrawn}
 use Rattle.covers.specs.Match.{Input, Match, legal, fitting, matches}
@@ -30,19 +32,19 @@ use Rattle.fields.proofs.Lists.{at_mem}
 use Rattle.overlay.specs.Inside.Standing.{Stands, Subject}
 use Rattle.cells.specs.Inside.Cell.{CellStored}
 use Rattle.cells.proofs.Laws.{figures_are, pin_safe}
-use Rattle.overlay.proofs.Patterns.{no_input, no_pattern, rows_long, row_stored}
+use Rattle.overlay.specs.Inside.Promises.{input_of, inputs_of}
+use Rattle.overlay.proofs.Patterns.{no_input, input_kept, no_pattern, rows_long, row_stored}
 use Rattle.overlay.proofs.Standing.{heads_everywhere, subject_everywhere}
-use Rattle.matching.specs.Inside.Found.{match_most, match_bytes, input_place, hit_of}
+use Rattle.matching.specs.declared.Hit.{Hit}
+use Rattle.matching.specs.Inside.Found.{match_most, no_hit, hit_of}
 use Rattle.matching.specs.Inside.Promises.{Ready}
-use Rattle.matching.proofs.Written.{length_hit, hit_pin, hit_node}
-use Rattle.matching.proofs.Patterns.{SoundMatch, fitting_sound, fitting_few, hit_read}
-use Rattle.sheets_rules.proofs.Tables.{length_table}
+use Rattle.matching.proofs.Patterns.{SoundMatch, fitting_sound, fitting_few}
 use Rattle.curves.specs.Inside.Words.{table_of, WorkArea}
-use Rattle.curves.specs.Inside.Best.{hit_at, pattern_of, hit_count, InputSafe, Sources, Matches, Above, hits_best}
+use Rattle.curves.specs.Inside.Best.{hit_at, pattern_of, hit_count, input_at, InputSafe, SourcesSafe, HitsKnown, Above, hits_best}
 use Rattle.curves.specs.Inside.Promises.{match_before, Rising, best_before, node_points, PointsFit, Fit}
-use Rattle.curves.proofs.Laws.{part_word_lem, point_order}
+use Rattle.curves.proofs.Laws.{point_order}
 use Rattle.leaves.proofs.Symbols.{symbols_small}
-use Rattle.filling.proofs.Hits.{Headed, Holds, Found, legal_hit, hits_are_best}
+use Rattle.filling.proofs.Hits.{Headed, Found, legal_hit, hits_are_best}
 
 -- ---- a node
 
@@ -63,7 +65,7 @@ module _ {l : Library} {t : Tree} {rows ss zs : List ℕ} {n room : ℕ} {s : Sh
   node_within = omega (arith, here.ends, size_pos s)
 
   -- What the least points are read from.
-  pub sources : {most : ℕ} {work : List ℕ} → WorkArea most work → Sources most ss work
+  pub sources : {most : ℕ} {work : List ℕ} → WorkArea most work → SourcesSafe most ss work
   sources w = record { symbols_length = here.symbols_long; symbols_small = symbols_small ss t.shape g.decoded.symbols_are g.decoded.tree.leaves; curves = w }
 
   -- What stands at the node.
@@ -93,93 +95,96 @@ module _ {l : Library} {t : Tree} {rows ss zs : List ℕ} {n room : ℕ} {s : Sh
 
 -- ---- its matches
 
--- The matches of a node as they are found.
-pub record FoundIs (l : Library) (n : ℕ) (s : Shape) (found₀ found : List ℕ) (count : ℕ) : Type 0 where
-  pub many : count ≡ length (fitting l n s)
-  pub table : found ≡ table_from match_bytes found₀ 0 (map hit_of (fitting l n s))
+-- There are not too many for the table.
+pub few_matches : {l : Library} {t : Tree} {rows ss zs : List ℕ} {n room : ℕ} {s : Shape} → Ready l t rows ss zs n room s → length (fitting l n s) ≤ match_most
+few_matches {l = l} {n = n} {s = s} g = omega (arith, fitting_few l n s, g.decoded.library.few_patterns)
 
-module _ {l : Library} {t : Tree} {rows ss zs : List ℕ} {n : ℕ} {found₀ : List ℕ} {s : Shape} (g : Ready l t rows ss zs n (length found₀) s)
-    {found : List ℕ} {count : ℕ} (f : FoundIs l n s found₀ found count) where
+-- The hits of a node are those of its matches.
+pub record FoundIs (l : Library) (n : ℕ) (s : Shape) (hits : List Hit) : Type 0 where
+  pub hits_are : hits ≡ map hit_of (fitting l n s)
+
+-- They are the first of the table, as many as are found.
+pub found_are : {l : Library} {t : Tree} {rows ss zs : List ℕ} {n : ℕ} {s : Shape} (table : List Hit) → Ready l t rows ss zs n (length table) s → (count : ℕ) (table' : List Hit) →
+    (count ≡ length (fitting l n s)) × (table' ≡ sets table 0 (map hit_of (fitting l n s))) → FoundIs l n s (take count table')
+found_are {l = l} {n = n} {s = s} table g count table' e =
+    let hits = map hit_of (fitting l n s) in
+    let many : length hits ≡ count = omega (arith, length-map (fitting l n s) hit_of, e.0) in
+    let room : 0 + length hits ≤ length table = omega (arith, many, e.0, g.room_is, few_matches g) in
+    record { hits_are = rw (e.1, sets-eq hits table 0 room, ← many) (take-append_seam hits (drop (0 + length hits) table)) }
+
+module _ {l : Library} {t : Tree} {rows ss zs : List ℕ} {n room : ℕ} {s : Shape} (g : Ready l t rows ss zs n room s) {hits : List Hit} (f : FoundIs l n s hits) where
   abbrev sound : SoundLibrary l
   sound = g.decoded.library
 
   abbrev pub match_at : ℕ → Match
   match_at j = get_or (fitting l n s) j no_match
 
-  pub match_in : (j : ℕ) → j < count → Memᴰ (match_at j) (fitting l n s)
-  match_in j h = at_mem (fitting l n s) j no_match (omega (arith, f.many))
+  pub many : length hits ≡ length (fitting l n s)
+  many = ap length f.hits_are ∙ length-map (fitting l n s) hit_of
 
-  pub hit_holds : (j : ℕ) → j < count → Holds (hit_at found j) (match_at j)
-  hit_holds j h c k =
-      part_word_lem match_bytes (match_bytes * j) found c (omega (arith, (sound_match g (match_in j h)).hit_few))
-      ∙ rw f.table (hit_read l n s sound found₀ g.room_is no_match j c (omega (arith, f.many)) k)
+  pub match_in : (j : ℕ) → j < length hits → Memᴰ (match_at j) (fitting l n s)
+  match_in j h = at_mem (fitting l n s) j no_match (omega (arith, many))
+
+  pub hit_holds : (j : ℕ) → j < length hits → hit_at hits j ≡ hit_of (match_at j)
+  hit_holds j h = ap (λ (q : List Hit). get_or q j no_hit) f.hits_are ∙ get_or-map hit_of (fitting l n s) j no_match no_hit (omega (arith, many))
 
   -- The hit's pattern, and that pattern's row.
-  number_is : (j : ℕ) → j < count → get_or (hit_at found j) 0 0 ≡ (match_at j).number
+  number_is : (j : ℕ) → j < length hits → (hit_at hits j).pattern ≡ (match_at j).number
   unfolding hit_of
-  number_is j h = hit_holds j h 0 (omega arith)
+  number_is j h = ap (λ (q : Hit). q.pattern) (hit_holds j h)
 
-  number_small : (j : ℕ) → j < count → (match_at j).number < length (patterns l)
+  number_small : (j : ℕ) → j < length hits → (match_at j).number < length (patterns l)
   number_small j h = at_below (patterns l) (match_at j).number (sound_match g (match_in j h)).fitting_is.numbered
 
-  pub pattern_stored : (j : ℕ) → j < count → CellStored l (pattern_of rows (hit_at found j)) (match_at j).pattern.cell
+  pub pattern_stored : (j : ℕ) → j < length hits → CellStored l (pattern_of rows (hit_at hits j)) (match_at j).pattern.cell
   pattern_stored j h =
       rw (number_is j h, ← at_value (patterns l) (match_at j).number no_pattern (sound_match g (match_in j h)).fitting_is.numbered)
       (row_stored g.decoded (match_at j).number (number_small j h) row_words refl).cell
 
-  pub found_at : (j : ℕ) → j < count → Found l rows ss (hit_at found j) (match_at j)
-  found_at j h = record { holds = hit_holds j h; stored = pattern_stored j h; pinned = (sound_match g (match_in j h)).pinned; headed = headed g (match_in j h) }
+  pub found_at : (j : ℕ) → j < length hits → Found l rows ss (hit_at hits j) (match_at j)
+  found_at j h = let sm = sound_match g (match_in j h) in record { holds = hit_holds j h; few = sm.few; stored = pattern_stored j h; pinned = sm.pinned; headed = headed g (match_in j h) }
 
   -- How many inputs there are, and input k.
-  hit_many : (j : ℕ) → j < count → hit_count (hit_at found j) ≡ length (match_at j).inputs
-  unfolding hit_of
-  hit_many j h = hit_holds j h 2 (omega arith)
+  inputs_many : (j : ℕ) → j < length hits → hit_count (hit_at hits j) ≡ length (match_at j).inputs
+  unfolding hit_of inputs_of
+  inputs_many j h = ap hit_count (hit_holds j h)
 
-  module _ (j : ℕ) (h : j < count) (k : ℕ) (hk : k < length (match_at j).inputs) where
-    abbrev input_at : Input
-    input_at = get_or (match_at j).inputs k no_input
+  module _ (j : ℕ) (h : j < length hits) (k : ℕ) (hk : k < length (match_at j).inputs) where
+    abbrev input : Input
+    input = get_or (match_at j).inputs k no_input
 
-    input_in : Memᴰ input_at (match_at j).inputs
+    input_in : Memᴰ input (match_at j).inputs
     input_in = at_mem (match_at j).inputs k no_input hk
 
-    input_pin_lem : get_or (hit_at found j) (input_place k) 0 ≡ input_at.pin
-    input_pin_lem = hit_holds j h (input_place k) (omega (arith, length_hit (match_at j))) ∙ hit_pin (match_at j) k hk
+    input_is : input_at (hit_at hits j) k ≡ input_of input
+    unfolding hit_of
+    input_is = ap (λ (q : Hit). input_at q k) (hit_holds j h) ∙ input_kept (match_at j).inputs k refl (sound_match g (match_in j h)).few hk
 
-    input_node_lem : get_or (hit_at found j) (input_place k + 1) 0 ≡ input_at.node
-    input_node_lem = hit_holds j h (input_place k + 1) (omega (arith, length_hit (match_at j))) ∙ hit_node (match_at j) k hk
+    input_safe : InputSafe (pattern_of rows (hit_at hits j)) (input_at (hit_at hits j) k)
+    input_safe = let sm = sound_match g (match_in j h) in rw input_is (record {
+      pin = omega (arith, sm.pinned input input_in, sm.cell.few_pins);
+      node = (place_of_lem g (match_in j h) input input_in).1;
+      figures = rw (figures_are (pattern_stored j h) input (sm.pinned input input_in) refl) (pin_safe sound sm.cell input);
+    })
 
-    input_safe : InputSafe (pattern_of rows (hit_at found j)) (hit_at found j) k
-    input_safe = let sm = sound_match g (match_in j h) in record {
-      pin = omega (arith, input_pin_lem, sm.pinned input_at input_in, sm.cell.few_pins);
-      node = rw input_node_lem (place_of_lem g (match_in j h) input_at input_in).1;
-      figures = rw (figures_are (pattern_stored j h) input_at (sm.pinned input_at input_in) input_pin_lem) (pin_safe sound sm.cell input_at);
-    }
-
-  pub hits_ready : {most : ℕ} {work : List ℕ} → WorkArea most work → Matches most rows found count ss work
-  hits_ready w = record {
-    hits_known = λ j h. let sm = sound_match g (match_in j h) in let many = hit_many j h in record {
-      known = omega (arith, number_is j h, number_small j h, rows_long g.decoded);
-      safe = record { area = omega (arith, (pattern_stored j h).area_is, sm.cell.area); few = omega (arith, many, sm.few); inputs = λ k below. input_safe j h k (omega arith) };
-    };
-    room = omega (arith, f.many, fitting_few l n s, sound.few_patterns, ap length f.table, length_table match_bytes found₀ 0 (map hit_of (fitting l n s)), g.room_is);
-    sources = sources g w;
+  pub hits_known : HitsKnown rows hits
+  hits_known j h = let sm = sound_match g (match_in j h) in record {
+    known = omega (arith, number_is j h, number_small j h, rows_long g.decoded);
+    safe = record { area = omega (arith, (pattern_stored j h).area_is, sm.cell.area); few = omega (arith, inputs_many j h, sm.few); inputs = λ k below. input_safe j h k (omega (arith, inputs_many j h)) };
   }
 
-  pub count_few : count ≤ match_most
-  count_few = omega (arith, f.many, fitting_few l n s, sound.few_patterns)
-
-  pub hits_above : Above (4 * n + 3) found count
+  pub hits_above : Above (4 * n + 3) hits
   hits_above j h k below =
-      let inside : k < length (match_at j).inputs = omega (arith, hit_many j h) in
-      omega (arith, input_node_lem j h k inside, (place_of_lem g (match_in j h) (input_at j h k inside) (input_in j h k inside)).0)
+      let inside : k < length (match_at j).inputs = omega (arith, inputs_many j h) in
+      rw (input_is j h k inside) (omega (arith, (place_of_lem g (match_in j h) (input j h k inside) (input_in j h k inside)).0))
 
   -- With the curves of all later nodes in the work area.
   module _ (most : ℕ) (work : List ℕ) (filled : Filled l t.shape (table_of most work) (suc n)) (gate : 0 < gates s) (load : ℕ) (light : load ≤ 255) where
-    best_is_least : (end : ℕ) → best_before most ss work rows found load count end ≡ least end (covers l load n s)
+    best_is_least : (end : ℕ) → best_before most ss work rows hits load end ≡ least end (covers l load n s)
     unfolding matches
     best_is_least end =
-        ap (hits_best most ss work rows found load end) f.many
-        ∙ hits_are_best most l ss work rows found load end (fitting l n s) no_match (λ j h. found_at j (omega (arith, f.many)))
+        ap (hits_best most ss work rows hits load end) many
+        ∙ hits_are_best most l ss work rows hits load end (fitting l n s) no_match (λ j h. found_at j (omega (arith, many)))
         ∙ best_from_table l (binned sound) t.shape (table_of most work) n s filled g.here load end gate
 
     timely : (c : Cover) → In (covers l load n s) c → c.point.arrival < base
@@ -192,7 +197,7 @@ module _ {l : Library} {t : Tree} {rows ss zs : List ℕ} {n : ℕ} {found₀ : 
         record { some_area = cover_area sound legal-cover gate; area = omega arith; arrival = timely c k }
 
     -- The covers with one of the matches on top, and that its points rise.
-    module _ (j : ℕ) (h : j < count) where
+    module _ (j : ℕ) (h : j < length hits) where
       abbrev match_only : List Cover
       match_only = match_covers (all_below l) load n (match_at j)
 
@@ -201,7 +206,7 @@ module _ {l : Library} {t : Tree} {rows ss zs : List ℕ} {n : ℕ} {found₀ : 
         unfolding matches
         match_legal = in_select (λ m. legal m.pattern.cell load) (fitting l n s) (match_in j h) allowed
 
-        before_is : (end : ℕ) → match_before most ss work rows found load j end ≡ least end match_only
+        before_is : (end : ℕ) → match_before most ss work rows hits load j end ≡ least end match_only
         before_is end = legal_hit (found_at j h) most work load end ∙ rw allowed (match_from_table l (binned sound) t.shape (table_of most work) n s filled g.here load end match_legal)
 
         among : (c : Cover) → In match_only c → In (covers l load n s) c
@@ -211,7 +216,7 @@ module _ {l : Library} {t : Tree} {rows ss zs : List ℕ} {n : ℕ} {found₀ : 
         least_fits : {end : ℕ} {p : Point} → IsLeast end (In match_only) p → Fit p
         least_fits f = subst Fit f.point (cover_fits f.cover (among f.cover f.among))
 
-        legal_rises : Rising most ss work rows found load j
+        legal_rises : Rising most ss work rows hits load j
         unfolding word_of
         legal_rises = record {
           intime = λ end p e. (least_some (least_is end match_only) (sym (before_is end) ∙ e)).intime;
@@ -221,17 +226,17 @@ module _ {l : Library} {t : Tree} {rows ss zs : List ℕ} {n : ℕ} {found₀ : 
               (z.0, before_is end' ∙ z.1, point_order z.2 (least_fits (least_some (least_is end' match_only) z.1)).arrival);
         }
 
-      match_rises : Rising most ss work rows found load j
+      match_rises : Rising most ss work rows hits load j
       match_rises = cases (legal (match_at j).pattern.cell load) legal_rises (λ e.
-          let never : (end : ℕ) (p : Point) → match_before most ss work rows found load j end ≡ some p → ⊥ =
+          let never : (end : ℕ) (p : Point) → match_before most ss work rows hits load j end ≡ some p → ⊥ =
           λ end p q. none-ne-some p (rw (legal_hit (found_at j h) most work load end, e) at q) in
           record { intime = λ end p q. absurd (never end p q); small = λ end p q. absurd (never end p q); rises = λ end end' less p q. absurd (never end p q) })
 
-    pub points_fit : PointsFit most ss work rows found load count
+    pub points_fit : PointsFit most ss work rows hits load
     points_fit = record {
       fit = λ end p e. let f = least_some (least_is end (covers l load n s)) (sym (best_is_least end) ∙ e) in subst Fit f.point (cover_fits f.cover f.among);
       rising = match_rises;
     }
 
-    pub curve_is_found : node_points most ss work rows found load count ≡ take (most + 1) (curve (covers l load n s))
+    pub curve_is_found : node_points most ss work rows hits load ≡ take (most + 1) (curve (covers l load n s))
     curve_is_found = ap (λ (best : ℕ → Option Point). by_deadline (most + 1) best base) (fun_ext best_is_least) ∙ curve_found (most + 1) base (covers l load n s) timely

@@ -1,14 +1,15 @@
 // Every node's curves, filled from the highest number down.
 #![tactic(auto)]
 
-ghost use Rattle.std.specs.Prelude.{◌≤◌, length};
+ghost use Rattle.std.specs.Prelude.{◌≡◌, ◌≤◌, length};
 ghost use Rattle.sheets_rules.specs.Model.{Shape, Library, Tree};
 ghost use Rattle.matching.specs.Inside.Found.{match_most};
-ghost use Rattle.filling.specs.Inside.Promises.{NodeReady, NodeFilled, FillReady, FillsNode, Exceeds, FillStart, FillsTree};
+ghost use Rattle.filling.specs.Inside.Promises.{NodeReady, NodeFilled, FillReady, FillsNode, FillStart, FillsTree};
 
-use curves::{Target, Words};
+use curves::{Matches, Target, Words};
+use matching::Hit;
 use shapes_rules::Packed;
-use sheets_rules::{Bins, Slots, TreeRecord};
+use sheets_rules::{Bins, TreeRecord};
 
 // A node, the loads considered there, and how many trade-offs it may have.
 #[derive(Clone, Copy)]
@@ -18,123 +19,83 @@ pub struct Turn {
     pub most: usize,
 }
 
-// How many points a node has under each load considered there; one more than it may have stands for any more.
-#[derive(Clone, Copy)]
-pub struct Counts {
-    pub points: [u8; Slots::BINS],
-}
-
-// Every curve is filled, or the highest-numbered node that has too many points under some load.
-#[derive(Clone, Copy)]
-pub enum Filling {
-    Whole,
-    Overfull(usize),
-}
-
-// The curves of a node under its loads, from the last one down. `kept` is room for a word of each match.
+// The curves of a node under its loads, from the last one down, or its number, if it has too many points under one of them. `kept` is room for a
+// word of each match.
 fn fill_node(
-    rows: &[u32],
-    found: &[u8],
-    count: usize,
+    matches: &Matches<'_>,
     symbols: &[u32],
     work: &mut [u64],
     kept: &mut [u64],
     turn: Turn,
-) -> Counts
-    requires { NodeReady symbols.now work.old rows.now found.now count turn × (count ≤ length kept.old) }
-    ensures { NodeFilled symbols.now work.old rows.now found.now count turn work.new result }
+) -> Result<(), usize>
+    requires ready { NodeReady symbols.now work.old matches.now.rows.now matches.now.hits.now turn }
+    requires room { length matches.now.hits.now ≤ length kept.old }
+    ensures { NodeFilled symbols.now work.old matches.now.rows.now matches.now.hits.now turn work.new result }
 {
-    let bins = turn.bins;
-    let loads = bins.loads;
-    let mut points = [0u8; Slots::BINS];
-    let mut b = bins.count;
-    while 0 < b {
-        b -= 1;
+    for b in (0..turn.bins.count).rev() {
         let target = Target {
             at: Words::BINS * turn.node + b,
-            load: loads[b] as u32,
+            load: u32::from(turn.bins.loads[b]),
             most: turn.most,
         };
-        points[b] = curves::curve(rows, found, count, symbols, work, kept, target) as u8;
+        if turn.most < matches.curve(symbols, work, kept, target) {
+            return Err(turn.node);
+        }
     }
-    Counts { points }
+    Ok(())
 }
 
 // The curves of a node: a leaf has none.
-fn fill_at<'a>(
-    rows: &'a [u32],
-    symbols: &'a [u32],
-    sizes: &'a [u8],
+fn fill_at(
+    rows: &[u32],
+    tree: &TreeRecord,
     turn: Turn,
-    found: &mut [u8],
+    found: &mut [Hit],
     work: &mut [u64],
     kept: &mut [u64],
-) -> Counts
-    requires { ((l : Library) × ((t : Tree) × ((s : Shape) × FillReady l t rows.now symbols.now sizes.now turn found.old work.old s))) × (match_most ≤ length kept.old) }
-    ensures { FillsNode rows.now symbols.now sizes.now turn found.old work.old work.new result }
+) -> Result<(), usize>
+    requires ready { (l : Library) × ((t : Tree) × ((s : Shape) × FillReady l t rows.now tree.now.symbols tree.now.sizes turn (length found.old) work.old s)) }
+    requires room { match_most ≤ length kept.old }
+    ensures { FillsNode rows.now tree.now.symbols tree.now.sizes turn (length found.old) work.old work.new result }
 {
-    let node = turn.node;
-    if Packed::LEAF <= symbols[node] {
-        return Counts {
-            points: [0u8; Slots::BINS],
-        };
+    let symbols = &tree.symbols;
+    if Packed::LEAF <= symbols[turn.node] {
+        return Ok(());
     }
-    let count = matching::find_matches(rows, symbols, sizes, node, found);
-    fill_node(rows, found, count, symbols, work, kept, turn)
+    let count = matching::find_matches(rows, tree, turn.node, found);
+    let matches = Matches {
+        rows,
+        hits: &found[..count],
+    };
+    fill_node(&matches, symbols, work, kept, turn)
 }
 
-// Whether a node has more points under some load than it may have.
-fn too_many(counts: Counts, turn: Turn) -> bool
-    requires { turn.bins.count ≤ 4 }
-    ensures { Exceeds turn result counts }
-{
-    let points = counts.points;
-    let count = turn.bins.count;
-    let most = turn.most;
-    let mut b: usize = 0;
-    while b < count {
-        if most < points[b] as usize {
-            return true;
-        }
-        b += 1;
-    }
-    false
-}
-
-// The curves of every node below the root under every load bin, then the root's under the root load.
+// The curves of every node below the root under every load bin, then the root's under the root load; or the highest-numbered node that has too many
+// points under some load.
 pub fn fill(
     rows: &[u32],
     bins: Bins,
-    tree: TreeRecord,
+    tree: &TreeRecord,
     most: usize,
-    found: &mut [u8],
+    found: &mut [Hit],
     work: &mut [u64],
     kept: &mut [u64],
-) -> Filling
-    requires { ((l : Library) × ((t : Tree) × FillStart l t rows.now bins tree most found.old work.old)) × (match_most ≤ length kept.old) }
-    ensures { FillsTree rows.now bins tree most found.old work.old work.new result }
+) -> Result<(), usize>
+    requires start { (l : Library) × ((t : Tree) × FillStart l t rows.now bins tree.now most work.old) }
+    requires room { (length found.old ≡ match_most) × (match_most ≤ length kept.old) }
+    ensures { FillsTree rows.now bins tree.now most work.old work.new result }
 {
-    let mut node = tree.count;
-    while 1 < node {
-        node -= 1;
-        let turn = Turn { node, bins, most };
-        let counts = fill_at(rows, &tree.symbols, &tree.sizes, turn, found, work, kept);
-        if too_many(counts, turn) {
-            return Filling::Overfull(node);
-        }
+    for node in (1..tree.count).rev() {
+        fill_at(rows, tree, Turn { node, bins, most }, found, work, kept)?;
     }
     let bins = Bins {
         count: 1,
-        loads: [tree.load, 0u8, 0u8, 0u8],
+        loads: [tree.load, 0, 0, 0],
     };
-    let turn = Turn {
+    let root = Turn {
         node: 0,
         bins,
         most,
     };
-    let counts = fill_at(rows, &tree.symbols, &tree.sizes, turn, found, work, kept);
-    if too_many(counts, turn) {
-        return Filling::Overfull(0);
-    }
-    Filling::Whole
+    fill_at(rows, tree, root, found, work, kept)
 }

@@ -1,42 +1,62 @@
--- From what was filled to what the core answers.
+-- From what the core starts from to the curves, and what it answers where a node is overfull.
 use Prim.Native.Nat.{ℕ}
-use mathlib.Core.Path.{◌≡◌, sym, ap, ◌∙◌}
+use mathlib.Core.Path.{◌≡◌, refl, sym, ap, ◌∙◌}
 use mathlib.Core.List.{List}
-use mathlib.Core.Option.{Option}
+use mathlib.Core.Option.{Option, some}
 use native.Mathlib.Omega.{arith}
-use lib.ListN.{length}
-use Rattle.sheets_rules.specs.declared.Bins.{Bins}
+use lib.ListN.{length, get_or, length-replicate}
+use Rattle.std.specs.Prelude.{Err}
+use Rattle.fields.proofs.Lists.{zeros_at}
+use Rattle.sheets_rules.specs.declared.LibraryRecord.{LibraryRecord}
+use Rattle.sheets_rules.specs.declared.Refusal.{Refusal}
 use Rattle.sheets_rules.specs.declared.TreeRecord.{TreeRecord}
 use Rattle.sheets_rules.specs.Model.{Library, Tree}
-use Rattle.covers.specs.Choice.{choice}
-use Rattle.covers.specs.Tradeoff.{tradeoffs}
 use Rattle.covers.specs.Answer.{answered, mapped, nonempty, listed}
-use Rattle.filling.specs.declared.Filling.TheVariants.{Whole, Overfull}
+use Rattle.covers.specs.Capacity.{work_words}
+use Rattle.covers.specs.Choice.{choice}
+use Rattle.covers.specs.Tradeoff.{tradeoffs, overfull_node}
+use Rattle.overlay.proofs.Sheets.{decoded_of}
+use Rattle.matching.specs.Inside.Found.{match_table}
+use Rattle.filling.specs.declared.Filling.TheVariants.{Whole}
 use Rattle.filling.specs.Inside.Promises.{FillStart, FillingIs}
-use Rattle.fields.specs.declared.Finding.TheVariants.{Refused}
-use Rattle.map_core.specs.Inside.Found.{of_finding, of_mapped, of_listed, bare_cover, refused_with}
-use Rattle.map_core.specs.Inside.Promises.{Curved, MappedIs, ListedIs}
+use Rattle.map_core.specs.Inside.Found.{crowded}
+use Rattle.map_core.specs.Inside.Promises.{rows_of, Started, Curved, MappedIs, ListedIs}
 
--- What the curves were filled from, and the curves.
-pub core_curved : {l : Library} {t : Tree} {rows : List ℕ} {bins : Bins} {tree : TreeRecord} {most : ℕ} {found work : List ℕ} → FillStart l t rows bins tree most found work →
-    (work' found' : List ℕ) → length found' ≡ length found → length work' ≡ length work → FillingIs most l t work' Whole → Curved most l t rows tree (length found') work'
-core_curved s work' found' f e w = record {
-  prepared = record {
-    decoded = s.decoded;
-    room_is = f ∙ s.room;
-    area = record { bounded = s.bounded; room = omega (arith, e, s.work_length); small = w.1.small };
-    curves = w.1;
-  };
-  tree_is = s.tree_is;
-  some_most = s.some_most;
-  not_overfull = w.0;
-}
+module _ {most : ℕ} {l : Library} {t : Tree} {library : LibraryRecord} {tree : TreeRecord} {work : List ℕ} (start : Started most l t library tree work) where
+  pub work_long : length work ≡ work_words most
+  work_long = ap length start.zeros ∙ length-replicate {A = ℕ} (work_words most) 0
 
-module _ (most : ℕ) (l : Library) (t : Tree) (work : List ℕ) (n : ℕ) (e : FillingIs most l t work (Overfull n)) where
-  pub map_overfull : MappedIs most l t (refused_with 7 n)
-  unfolding of_mapped of_finding refused_with bare_cover mapped answered
-  map_overfull = record { answer_is = sym (ap (λ (o : Option ℕ). answered o (choice l t.load 0 t.shape t.required)) e); few = omega arith }
+  -- What the curves are filled from, and the curves.
+  pub fill_start : (found : List ℕ) → length found ≡ match_table → FillStart l t (rows_of library) library.bins tree most found work
+  fill_start found room = record {
+    decoded = decoded_of start.sheets;
+    bins_are = ap (λ (r : LibraryRecord). r.bins) start.sheets.read.library_is;
+    tree_is = start.sheets.tree_is;
+    room = room;
+    work_length = work_long;
+    zero = λ k. ap (λ (ws : List ℕ). get_or ws k 0) start.zeros ∙ zeros_at (work_words most) k;
+    some_most = start.allowed.some;
+    bounded = start.allowed.bounded;
+  }
 
-  pub list_overfull : ListedIs most l t work (record { finding = Refused (record { item = 0; number = 7; place = n }); count = 0 })
-  unfolding of_listed of_finding listed answered
-  list_overfull = record { answer_is = sym (ap (λ (o : Option ℕ). answered o (nonempty (tradeoffs l t.load 0 t.shape))) e); few = omega arith; small = λ k h. absurd (omega arith) }
+  pub curved : (work' : List ℕ) → length work' ≡ length work → FillingIs most l t work' Whole → Curved most l t library tree work'
+  curved work' e w = record {
+    sheets = start.sheets;
+    prepared = record {
+      decoded = decoded_of start.sheets;
+      room_is = refl;
+      area = record { bounded = start.allowed.bounded; room = omega (arith, e, work_long); small = w.1.small };
+      curves = w.1;
+    };
+    some_most = start.allowed.some;
+    not_overfull = w.0;
+  }
+
+module _ (most : ℕ) (l : Library) (t : Tree) {q : Refusal} (n : ℕ) (is : q ≡ crowded n) (e : overfull_node most l t ≡ some n) where
+  pub map_crowded : MappedIs most l t (Err q)
+  unfolding mapped answered
+  map_crowded = rw is (record { answer_is = sym (ap (λ (o : Option ℕ). answered o (choice l t.load 0 t.shape t.required)) e); few = tt })
+
+  pub list_crowded : (work : List ℕ) → ListedIs most l t work (Err q)
+  unfolding listed answered
+  list_crowded work = rw is (record { answer_is = sym (ap (λ (o : Option ℕ). answered o (nonempty (tradeoffs l t.load 0 t.shape))) e); few = tt; small = tt })

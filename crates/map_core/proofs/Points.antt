@@ -2,16 +2,24 @@
 use Prim.Native.Nat.{ℕ, zero, suc, ◌+◌, ◌≤◌, ◌<◌}
 use mathlib.Core.Path.{◌≡◌, refl, sym, ap, ◌∙◌}
 use mathlib.Core.Logic.{⊎_elim}
-use mathlib.Core.Bool.{false≢true}
+use mathlib.Core.Bool.{not, false≢true}
 use mathlib.Core.List.Memᴰ
-use mathlib.Core.List.{List, [], ◌∷◌, ◌++◌, map, map-append, append_assoc, append-nil, reverse, reverse-reverse}
+use mathlib.Core.List.{List, [], ◌∷◌, map, reverse, reverse-reverse}
 use mathlib.Core.Option.{Option, none, some, none-ne-some}
-use native.Mathlib.Numerals.{add-one}
 use native.Mathlib.Nat.{mul-zero}
 use native.Mathlib.Omega.{arith}
 use lib.ListN.{length, get_or, take, drop, set, length-map, length-reverse}
-use lib.Seq.{take-suc, take-take, length-take-le, drop-length, get_or-set_same}
+use lib.Seq.{take-take, length-take-le, get_or-set_same}
+use Rattle.std.specs.List.{position, position_or_len}
+use Rattle.std.specs.Option.{unwrap_or}
+use Rattle.std.specs.Prelude.{Ok, Err}
+use Rattle.std.specs.declared.option.Option as Std
+use Rattle.std.proofs.lemmas.List.Sums.{prefix_len-le-length}
+use borrow.Table.Steps.{cases}
+use borrow.Author.Tests.{ltb-false}
+use lib.Dec.{eqb, ltb}
 use Rattle.fields.specs.Answer.{success}
+use Rattle.sheets_rules.specs.declared.LibraryRecord.{LibraryRecord}
 use Rattle.sheets_rules.specs.declared.TreeRecord.{TreeRecord}
 use Rattle.sheets_rules.specs.Model.{Library, Tree}
 use Rattle.covers.specs.Cover.{Point, leaf_arrival, leaf_point}
@@ -23,10 +31,8 @@ use Rattle.covers.proofs.Nodes.{root_in}
 use Rattle.covers.proofs.Overfull.{LastOf, nowhere, at, overfull_listed, overfull_named}
 use Rattle.covers.proofs.Points.{point_path}
 use Rattle.curves.specs.Inside.Words.{point_limit, stored}
-use Rattle.curves.proofs.Laws.{stored_end, stored_more}
 use Rattle.result_sheets.specs.Inside.Promises.{points_of}
-use Rattle.fields.specs.declared.Finding.TheVariants.{Refused, Found}
-use Rattle.map_core.specs.Inside.Found.{of_finding, of_listed}
+use Rattle.map_core.specs.Inside.Found.{no_cover}
 use Rattle.map_core.specs.Inside.Promises.{Curved, ListedIs}
 use Rattle.map_core.proofs.Root.{load_is, gate_root, leaf_root}
 use Rattle.covers.proofs.Tradeoffs.{leaf_tradeoffs}
@@ -34,23 +40,26 @@ use Rattle.leaves.specs.Inside.Leaf.{leaf_of}
 
 -- ---- counting
 
--- The first k words are points of the curve, and the rest of it stands after them.
-abbrev pub Counted : List ℕ → ℕ → Type 0
-Counted ws k = stored ws ≡ map point_of (take k ws) ++ stored (drop k ws)
+-- How many words come before a 0, or all.
+abbrev pub words_before : List ℕ → ℕ
+words_before ws = position_or_len (λ (w : ℕ). eqb w 0) ws
 
-pub counted_more : (ws : List ℕ) (k : ℕ) → k < length ws → (get_or ws k 0 ≡ 0 → ⊥) → Counted ws k → Counted ws (k + 1)
-counted_more ws k h there c =
-    let here = point_of (get_or ws k 0) in
-    let front : map point_of (take (k + 1) ws) ≡ map point_of (take k ws) ++ (here ∷ []) =
-    ap (λ (j : ℕ). map point_of (take j ws)) (add-one k) ∙ ap (map point_of) (take-suc ws k 0 h) ∙ map-append point_of (take k ws) (get_or ws k 0 ∷ []) in
-    c ∙ ap (λ (ps : List Point). map point_of (take k ws) ++ ps) (stored_more ws k there) ∙ sym (append_assoc (map point_of (take k ws)) (here ∷ []) (stored (drop (k + 1) ws))) ∙ ap (λ (ps : List Point). ps ++ stored (drop (k + 1) ws)) (sym front)
-
-pub counted_end : (ws : List ℕ) (k : ℕ) → get_or ws k 0 ≡ 0 → Counted ws k → stored ws ≡ map point_of (take k ws)
-counted_end ws k e c = c ∙ ap (λ (ps : List Point). map point_of (take k ws) ++ ps) (stored_end ws k e) ∙ append-nil (map point_of (take k ws))
-
-pub counted_all : (ws : List ℕ) (k : ℕ) → length ws ≡ k → Counted ws k → stored ws ≡ map point_of (take k ws)
+-- They are the curve's points.
+points_before : (ws : List ℕ) → stored ws ≡ map point_of (take (words_before ws) ws)
 unfolding stored
-counted_all ws k e c = c ∙ ap (λ (vs : List ℕ). map point_of (take k ws) ++ stored vs) (ap (λ (j : ℕ). drop j ws) (sym e) ∙ drop-length ws) ∙ append-nil (map point_of (take k ws))
+points_before [] = refl
+points_before (w ∷ ws) =
+    let more : 1 + words_before ws ≡ suc (words_before ws) = omega arith in
+    cases (eqb w 0) (λ e. rw e refl) (λ e. rw e (ap (λ (ps : List Point). point_of w ∷ ps) (points_before ws) ∙ ap (λ (k : ℕ). map point_of (take k (w ∷ ws))) (sym more)))
+
+pub counted : (ws : List ℕ) (o : Std.Option ℕ) (n : ℕ) → o ≡ position (λ (w : ℕ). eqb w 0) ws → n ≡ unwrap_or o (length ws) → (n ≤ length ws) × (stored ws ≡ map point_of (take n ws))
+counted ws o n e f = rw all (within, points_before ws)
+  where
+    within : words_before ws ≤ length ws
+    within = prefix_len-le-length (λ (w : ℕ). not (eqb w 0)) ws
+
+    all : n ≡ words_before ws
+    all = cases (ltb (words_before ws) (length ws)) (λ g. f ∙ rw (e, g) refl) (λ g. f ∙ rw (e, g) (omega (arith, within, ltb-false (words_before ws) (length ws) g)))
 
 -- ---- a leaf
 
@@ -65,7 +74,7 @@ first_set (w ∷ ws) a h = refl
 
 -- ---- the root
 
-module _ {most : ℕ} {l : Library} {t : Tree} {rows : List ℕ} {tree : TreeRecord} {room : ℕ} {work : List ℕ} (given : Curved most l t rows tree room work) where
+module _ {most : ℕ} {l : Library} {t : Tree} {library : LibraryRecord} {tree : TreeRecord} {work : List ℕ} (given : Curved most l t library tree work) where
   abbrev all : List Point
   all = tradeoffs l t.load 0 t.shape
 
@@ -84,8 +93,8 @@ module _ {most : ℕ} {l : Library} {t : Tree} {rows : List ℕ} {tree : TreeRec
           false≢true (sym (a root (root_in 0 t.shape)) ∙ (overfull_listed most l t root).1 (t.load, Memᴰ.head refl, m))
       go e (at {k = k} h) m = none-ne-some k (sym e)
 
-  pub leaf_listed : 2 ≤ get_or tree.symbols 0 0 → (a : ℕ) → a ≡ leaf_arrival (leaf_of (get_or tree.symbols 0 0)) tree.load → a < base → ListedIs most l t (set work 0 a) (record { finding = Found; count = 1 })
-  unfolding of_listed of_finding answered nonempty points_of leaf_point
+  pub leaf_listed : 2 ≤ get_or tree.symbols 0 0 → (a : ℕ) → a ≡ leaf_arrival (leaf_of (get_or tree.symbols 0 0)) tree.load → a < base → ListedIs most l t (set work 0 a) (Ok 1)
+  unfolding answered nonempty points_of leaf_point
   leaf_listed h a e small =
       let there : 0 < length work = omega (arith, given.prepared.area.room) in
       let one : all ≡ record { area = 0; arrival = a } ∷ [] =
@@ -120,16 +129,16 @@ module _ {most : ℕ} {l : Library} {t : Tree} {rows : List ℕ} {tree : TreeRec
     many : count ≡ length all
     many = sym (length-take-le count work (omega (arith, within, first_words, given.prepared.area.room))) ∙ sym (length-map (take count work) point_of) ∙ ap length words_are ∙ length-reverse all
 
-    pub gate_empty : count ≡ 0 → ListedIs most l t work (record { finding = Refused (record { item = 0; number = 8; place = 0 }); count = count })
-    unfolding of_listed of_finding answered nonempty
-    gate_empty e = record { answer_is = listed_is none (go all (omega (arith, many))); few = omega (arith, e); small = λ k h. absurd (omega (arith, e)) }
+    pub gate_empty : count ≡ 0 → ListedIs most l t work (Err no_cover)
+    unfolding answered nonempty
+    gate_empty e = record { answer_is = listed_is none (go all (omega (arith, many))); few = tt; small = tt }
       where
         go : (ps : List Point) → length ps ≡ 0 → nonempty ps ≡ none
         go [] z = refl
         go (p ∷ ps) z = absurd (omega arith)
 
-    pub gate_listed : (count ≡ 0 → ⊥) → ListedIs most l t work (record { finding = Found; count = count })
-    unfolding of_listed of_finding answered nonempty points_of
+    pub gate_listed : (count ≡ 0 → ⊥) → ListedIs most l t work (Ok count)
+    unfolding answered nonempty points_of
     gate_listed there = record {
       answer_is = ap success (ap reverse words_are ∙ reverse-reverse all) ∙ listed_is (some all) (go all (positive count many there));
       few = omega (arith, many, few);

@@ -8,7 +8,10 @@ use native.Mathlib.Numerals.{add-one}
 use native.Mathlib.Omega.{arith}
 use borrow.Author.Tests.{le-leb, lt-leb}
 use lib.ListN.{length, get_or}
+use Rattle.std.specs.Prelude.{Result, Ok, Err}
 use Rattle.fields.specs.Answer.{success}
+use Rattle.sheets_rules.specs.declared.LibraryRecord.{LibraryRecord}
+use Rattle.sheets_rules.specs.declared.Refusal.{Refusal}
 use Rattle.sheets_rules.specs.declared.TreeRecord.{TreeRecord}
 use Rattle.sheets_rules.specs.Model.{Leaf, Shape, leaf, inv, nand, Library, Tree}
 use Rattle.sheets_rules.specs.Inside.Layout.{tree_laid}
@@ -24,20 +27,24 @@ use Rattle.covers.proofs.Matching.{gates_lt_size}
 use Rattle.covers.proofs.Nodes.{root_in}
 use Rattle.covers.proofs.Unroll.{choice_unroll}
 use Rattle.leaves.specs.Inside.Leaf.{Heads, leaf_of, symbol_limit}
+use Rattle.matching.specs.Inside.Found.{match_table}
 use Rattle.overlay.specs.Inside.Standing.{Stands}
 use Rattle.overlay.proofs.Standing.{heads_everywhere, stands_everywhere, subject_everywhere}
 use Rattle.curves.specs.Inside.Words.{absent, point_limit, stored, curve_at}
 use Rattle.curves.specs.Inside.Promises.{Worth}
-use Rattle.choosing.specs.Inside.Promises.{at_root, Chooses, appended}
+use Rattle.choosing.specs.declared.Goal.{Goal}
+use Rattle.choosing.specs.Inside.Promises.{at_root, Chooses, CoverChosen}
 use Rattle.choosing.proofs.Gate.{chosen_there}
-use Rattle.choosing.proofs.Below.{appended_cover}
 use Rattle.result_sheets.specs.declared.CoverRecord.{CoverRecord}
-use Rattle.result_sheets.specs.Public.{placed_of, cover_of}
-use Rattle.fields.specs.declared.Finding.TheVariants.{Found}
-use Rattle.map_core.specs.declared.Mapped.{Mapped}
-use Rattle.map_core.specs.Inside.Found.{of_finding, of_mapped, bare_cover, refused_with}
-use Rattle.map_core.specs.Inside.Promises.{Curved, MappedIs}
+use Rattle.result_sheets.specs.Public.{cover_of, bare_cover, appended}
+use Rattle.result_sheets.proofs.Laws.{appended_cover}
+use Rattle.map_core.specs.Inside.Found.{of_mapped, no_cover}
+use Rattle.map_core.specs.Inside.Promises.{rows_of, Curved, MapsLeaf, MappedIs}
 use Rattle.leaves.proofs.Symbols.{symbols_small, leaf_told}
+
+-- What is asked of the root.
+abbrev pub root_goal : (load time : ℕ) → Goal
+root_goal load time = record { node = 0; load = load; bin = 0; time = time }
 
 -- ---- a leaf
 
@@ -46,29 +53,29 @@ module _ (l : Library) (load : ℕ) (x : Leaf) (time : ℕ) where
   leaf_is : choice l load 0 (leaf x) time ≡ choice_step l (choice l) load 0 (leaf x) time
   leaf_is = ap (λ (f : ℕ → Option Cover). f time) (choice_unroll l load 0 (leaf x))
 
-  pub leaf_late : time < leaf_arrival x load → of_mapped (refused_with 8 0) ≡ answered none (choice l load 0 (leaf x) time)
-  unfolding of_mapped of_finding refused_with answered choice_step
+  pub leaf_late : time < leaf_arrival x load → of_mapped (Err no_cover) ≡ answered none (choice l load 0 (leaf x) time)
+  unfolding answered choice_step
   leaf_late h = sym (ap (answered none) (leaf_is ∙ ap (λ (b : Bool). cond b (some (leaf_cover x load)) none) (lt-leb _ _ h)))
 
-  pub leaf_timely : (a : ℕ) → a ≡ leaf_arrival x load → a ≤ time → of_mapped (record { finding = Found; cover = bare_cover 0 a }) ≡ answered none (choice l load 0 (leaf x) time)
-  unfolding of_mapped of_finding bare_cover placed_of answered choice_step leaf_cover leaf_point
+  pub leaf_timely : (a : ℕ) → a ≡ leaf_arrival x load → a ≤ time → of_mapped (Ok (bare_cover 0 a)) ≡ answered none (choice l load 0 (leaf x) time)
+  unfolding answered choice_step leaf_cover leaf_point
   leaf_timely a e h =
       ap (λ (b : ℕ). success (record { point = record { area = 0; arrival = b }; placed = [] })) e
       ∙ sym (ap (answered none) (leaf_is ∙ ap (λ (b : Bool). cond b (some (leaf_cover x load)) none) (le-leb (leaf_arrival x load) time (subst (λ (b : ℕ). b ≤ time) e h))))
 
 -- ---- the root
 
-module _ {most : ℕ} {l : Library} {t : Tree} {rows : List ℕ} {tree : TreeRecord} {room : ℕ} {work : List ℕ} (given : Curved most l t rows tree room work) where
+module _ {most : ℕ} {l : Library} {t : Tree} {library : LibraryRecord} {tree : TreeRecord} {work : List ℕ} (given : Curved most l t library tree work) where
   abbrev first : ℕ
   first = get_or tree.symbols 0 0
 
   pub load_is : tree.load ≡ t.load
   unfolding tree_laid
-  load_is = ap (λ (r : TreeRecord). r.load) given.tree_is
+  load_is = ap (λ (r : TreeRecord). r.load) given.sheets.tree_is
 
   pub time_is : tree.required ≡ t.required
   unfolding tree_laid
-  time_is = ap (λ (r : TreeRecord). r.required) given.tree_is
+  time_is = ap (λ (r : TreeRecord). r.required) given.sheets.tree_is
 
   abbrev Root : Shape → Type 0
   Root = Stands tree.symbols tree.sizes 0
@@ -108,8 +115,11 @@ module _ {most : ℕ} {l : Library} {t : Tree} {rows : List ℕ} {tree : TreeRec
       ap (answered none) (sym e ∙ ap₂ (λ (a b : ℕ). choice l a 0 t.shape b) load_is time_is)
       ∙ ap (λ (q : Option ℕ). answered q (choice l t.load 0 t.shape t.required)) (sym given.not_overfull)
 
-  pub leaf_mapped : 2 ≤ first → (r : Mapped) → of_mapped r ≡ answered none (choice l tree.load 0 (leaf (leaf_of first)) tree.required) → of_mapped r ≡ mapped most l t
-  leaf_mapped h r e = e ∙ ap (λ (s : Shape). answered none (choice l tree.load 0 s tree.required)) (sym (leaf_root h)) ∙ chosen_is _ refl
+  pub leaf_mapped : 2 ≤ first → (r : Result CoverRecord Refusal) → MapsLeaf first tree.load tree.required r → MappedIs most l t r
+  leaf_mapped h r e = record {
+    answer_is = e.answer_is l ∙ ap (λ (s : Shape). answered none (choice l tree.load 0 s tree.required)) (sym (leaf_root h)) ∙ chosen_is _ refl;
+    few = e.few;
+  }
 
   module _ (gate : first < 2) (w : ℕ) (worth : Worth point_limit (tree.required + 1) w (lookup (tree.required + 1) (stored (curve_at most work 0)))) where
     looked : lookup (tree.required + 1) (stored (curve_at most work 0)) ≡ least (suc tree.required) (covers l tree.load 0 t.shape)
@@ -117,11 +127,11 @@ module _ {most : ℕ} {l : Library} {t : Tree} {rows : List ℕ} {tree : TreeRec
         ap (lookup (tree.required + 1)) (given.prepared.curves.root (gate_root gate)) ∙ lookup_is_least (tree.required + 1) (curve_is (covers l t.load 0 t.shape))
         ∙ ap₂ (λ (k a : ℕ). least k (covers l a 0 t.shape)) (add-one tree.required) (sym load_is)
 
-    pub gate_none : w ≡ absent → MappedIs most l t (refused_with 8 0)
-    unfolding of_mapped of_finding refused_with bare_cover answered
+    pub gate_none : w ≡ absent → MappedIs most l t (Err no_cover)
+    unfolding answered
     gate_none e = record {
       answer_is = chosen_is none (go (choice l tree.load 0 t.shape tree.required) (choice_point l tree.load 0 t.shape tree.required ∙ sym looked ∙ worth.missing e));
-      few = omega arith;
+      few = tt;
     }
       where
         go : (o : Option Cover) → map (λ (c : Cover). c.point) o ≡ none → o ≡ none
@@ -141,25 +151,26 @@ module _ {most : ℕ} {l : Library} {t : Tree} {rows : List ℕ} {tree : TreeRec
       few_placed : length chosen.0.placed ≤ 63
       few_placed = omega (arith, few_matches (choice_handed l tree.load 0 t.shape tree.required chosen.1).legal, gates_lt_size t.shape, given.prepared.decoded.tree.size)
 
-      pub gate_found : (cover : CoverRecord) → ((c : Cover) → choice l tree.load 0 t.shape tree.required ≡ some c → cover ≡ appended (bare_cover (w / base) (w % base)) c.placed) → MappedIs most l t (record { finding = Found; cover = cover })
-      unfolding of_mapped of_finding answered bare_cover point_of
-      gate_found cover h =
-          let c = chosen.0 in
-          let is = h c chosen.1 in
-          let p : point_of w ≡ c.point = some-injective _ _ (sym least_here ∙ sym (choice_point l tree.load 0 t.shape tree.required) ∙ ap (map (λ (d : Cover). d.point)) chosen.1) in
-          let whole : cover_of cover ≡ c = ap cover_of is ∙ appended_cover (bare_cover (w / base) (w % base)) c.placed refl (omega (arith, few_placed)) (omega (arith, few_placed)) (omega (arith, few_placed)) ∙ ap (λ (q : Point). record { point = q; placed = c.placed }) p in
-          record { answer_is = ap success whole ∙ chosen_is (some c) chosen.1; few = omega (arith, ap (λ (r : CoverRecord). r.count) is, few_placed) }
+      module _ (goal : Goal) (goal_is : goal ≡ root_goal tree.load tree.required) (begun : CoverRecord) (begun_is : begun ≡ bare_cover (w / base) (w % base)) (rows : List ℕ) (rows_are : rows ≡ rows_of library) (found : List ℕ) (room : length found ≡ match_table) where
+        -- What the choice is lent.
+        pub gate_chooses : Chooses most l t rows tree.symbols tree.sizes (length found) work goal begun t.shape
+        gate_chooses = rw (goal_is, begun_is, rows_are, room) (record {
+          prepared = given.prepared;
+          driven = record {
+            node = root_in 0 t.shape;
+            drives = at_root refl load_is refl;
+            time_small = omega (arith, time_is, given.prepared.decoded.tree.required);
+            some_cover = (point_of w, least_here);
+          };
+          fits = omega (arith, gates_lt_size t.shape, given.prepared.decoded.tree.size);
+        })
 
-      -- What the choice is lent.
-      pub gate_chooses : Chooses most l t rows tree.symbols tree.sizes room work (record { node = 0; load = tree.load; bin = 0; time = tree.required }) (bare_cover (w / base) (w % base)) t.shape
-      unfolding bare_cover
-      gate_chooses = record {
-        prepared = given.prepared;
-        driven = record {
-          node = root_in 0 t.shape;
-          drives = at_root refl load_is refl;
-          time_small = omega (arith, time_is, given.prepared.decoded.tree.required);
-          some_cover = (point_of w, least_here);
-        };
-        fits = omega (arith, gates_lt_size t.shape, given.prepared.decoded.tree.size);
-      }
+        -- What it names.
+        pub gate_found : (cover : CoverRecord) → CoverChosen most rows tree.symbols tree.sizes found work goal begun cover → MappedIs most l t (Ok cover)
+        unfolding answered point_of
+        gate_found cover chooses =
+            let c = chosen.0 in
+            let is : cover ≡ appended (bare_cover (w / base) (w % base)) c.placed = rw begun_is at (chooses l t t.shape gate_chooses c (rw goal_is chosen.1)) in
+            let p : point_of w ≡ c.point = some-injective _ _ (sym least_here ∙ sym (choice_point l tree.load 0 t.shape tree.required) ∙ ap (map (λ (d : Cover). d.point)) chosen.1) in
+            let whole : cover_of cover ≡ c = ap cover_of is ∙ appended_cover (bare_cover (w / base) (w % base)) c.placed refl (omega (arith, few_placed)) ∙ ap (λ (q : Point). record { point = q; placed = c.placed }) p in
+            record { answer_is = ap success whole ∙ chosen_is (some c) chosen.1; few = omega (arith, ap (λ (r : CoverRecord). r.count) is, few_placed) }

@@ -1,128 +1,105 @@
 // The core: what map and list find for a sound library and a sound tree, as decoded. Every curve is filled; then the cover is chosen, or
-// the root's trade-offs are counted. What is found is handed back, and nothing is written but the work area and the two tables beside it: of a
-// node's matches, and of a word to keep for each.
+// the root's trade-offs are counted. What is found is handed back, and nothing is written but the work area.
 #![tactic(auto)]
 
-ghost use Rattle.std.specs.Prelude.{◌≡◌, List, map, ℕ, ◌≤◌, length, take, replicate};
+ghost use Rattle.std.specs.Prelude.{◌≡◌, map, ◌≤◌, length, take};
 ghost use Rattle.sheets_rules.specs.Model.{Library, Tree};
+ghost use Rattle.sheets_rules.specs.Inside.Sound.{LibraryStored};
+ghost use Rattle.sheets_rules.specs.declared.LibraryRecord.{LibraryRecord};
 ghost use Rattle.covers.specs.Inside.Curve.{point_of};
 ghost use Rattle.leaves.specs.Inside.Leaf.{symbol_limit};
-ghost use Rattle.matching.specs.Inside.Found.{match_table, match_most};
+ghost use Rattle.matching.specs.Inside.Found.{match_table};
 ghost use Rattle.curves.specs.Inside.Words.{stored};
-ghost use Rattle.filling.specs.Inside.Promises.{FillStart};
-ghost use Rattle.map_core.specs.Inside.Found.{bare_cover, refused_with};
-ghost use Rattle.map_core.specs.Inside.Promises.{Curved, MapsLeaf, MapsCurved, MapsFilled, ListsCurved, ListsFilled, Solves};
+ghost use Rattle.map_core.specs.Inside.Promises.{rows_of, Started, Curved, Fills, MapsLeaf, MapsCurved, MapsTree, ListsCurved, ListsTree};
 
 use choosing::Goal;
 use curves::Words;
-use fields::{Finding, Refusal};
 use filling::Filling;
 use matching::Hit;
 use result_sheets::CoverRecord;
 use shapes_rules::Packed;
-use sheets_rules::{Bins, Limits, TreeRecord};
+use sheets_rules::{LibraryRecord, Limits, PatternRow, Reason, Refusal, TreeRecord};
 
-// What is asked for: the cover that map hands over, or the list of the root's trade-offs, for which the required time does not count.
-#[derive(Clone, Copy)]
-pub enum Task {
-    Cover,
-    Tradeoffs,
-}
+// No cover is in time, or there is none.
+const NO_COVER: Refusal = Refusal {
+    item: 0,
+    reason: Reason::NoCover,
+    place: 0,
+};
 
-// What is found for a task: the cover, or how many trade-offs the root has.
-#[derive(Clone, Copy)]
-pub struct Solved {
-    pub finding: Finding,
-    pub cover: CoverRecord,
-    pub count: usize,
-}
-
-// The cover that map hands over, if it is found.
-#[derive(Clone, Copy)]
-pub struct Mapped {
-    pub finding: Finding,
-    pub cover: CoverRecord,
-}
-
-// How many trade-offs the root has, if they are found: their points are the first words of the work area, the latest first.
-#[derive(Clone, Copy)]
-pub struct Listed {
-    pub finding: Finding,
-    pub count: usize,
-}
-
-// Document 01's numbers of what is refused here: an overfull node, no cover.
-#[derive(Clone, Copy)]
-struct Numbers {}
-
-impl Numbers {
-    const OVERFULL: u32 = 7;
-
-    const NO_COVER: u32 = 8;
-}
-
-// A cover with no match yet.
-pub fn bare(area: u32, arrival: u32) -> CoverRecord
-    ensures { result ≡ bare_cover area arrival }
+// The rows of a library that are filled.
+#[tactic(auto, using(sheets_rules::proofs::Stored::few_rows))]
+fn rows(library: &LibraryRecord) -> &[u32]
+    requires { (l : Library) × LibraryStored l library.now }
+    ensures { result.now ≡ rows_of library.now }
 {
-    CoverRecord {
-        area,
-        arrival,
-        count: 0,
-        nodes: [0u8; Limits::TREE_NODES],
-        patterns: [0u8; Limits::TREE_NODES],
-        crossings: [0u8; Limits::TREE_NODES],
-    }
+    &library.rows[..PatternRow::WORDS * library.total]
 }
 
-// No cover, but a refusal.
-pub fn refuse(number: u32, place: usize) -> Mapped
-    ensures { result ≡ refused_with number place }
+// The curves of every node, where none has too many trade-offs. A word is kept for each match of the table.
+fn fill(
+    library: &LibraryRecord,
+    tree: &TreeRecord,
+    most: usize,
+    found: &mut [u8],
+    work: &mut [u64],
+) -> Result<(), Refusal>
+    requires started { (l : Library) × ((t : Tree) × Started most l t library.now tree.now work.old) }
+    requires room { length found.old ≡ match_table }
+    ensures { Fills most library.now tree.now work.old work.new result }
 {
-    let cover = bare(0, 0);
-    Mapped {
-        finding: Finding::Refused(Refusal {
+    let mut kept = [0u64; Hit::MATCHES];
+    match filling::fill(
+        rows(library),
+        library.bins,
+        *tree,
+        most,
+        found,
+        work,
+        &mut kept,
+    ) {
+        Filling::Overfull(node) => Err(Refusal {
             item: 0,
-            number,
-            place,
+            reason: Reason::Crowded,
+            place: node,
         }),
-        cover,
+        Filling::Whole => Ok(()),
     }
 }
 
 // A leaf's own cover, which has no match, if it arrives in time.
-fn map_leaf(symbol: u32, load: u32, time: u32) -> Mapped
+fn map_leaf(symbol: u32, load: u32, time: u32) -> Result<CoverRecord, Refusal>
     requires { (2 ≤ symbol) × (symbol ≤ symbol_limit) × (load ≤ 255) }
-    ensures maps_leaf { MapsLeaf symbol load time result }
-    ensures count_value { result.cover.count ≡ 0 }
+    ensures { MapsLeaf symbol load time result }
 {
     let arrival = leaves::leaf_arrival(symbol, load) as u32;
     if time < arrival {
-        return refuse(Numbers::NO_COVER, 0);
+        return Err(NO_COVER);
     }
-    let cover = bare(0, arrival);
-    Mapped {
-        finding: Finding::Found,
-        cover,
-    }
+    Ok(CoverRecord::bare(0, arrival))
 }
 
 // The root's cover under its required time, from the curves.
-fn map_root(rows: &[u32], tree: TreeRecord, most: usize, found: &mut [u8], work: &[u64]) -> Mapped
-    requires { (l : Library) × ((t : Tree) × Curved most l t rows.now tree (length found.old) work.now) }
-    ensures { MapsCurved most rows.now tree (length found.old) work.now result }
+fn map_root(
+    library: &LibraryRecord,
+    tree: &TreeRecord,
+    most: usize,
+    found: &mut [u8],
+    work: &[u64],
+) -> Result<CoverRecord, Refusal>
+    requires curved { (l : Library) × ((t : Tree) × Curved most l t library.now tree.now work.now) }
+    requires room { length found.old ≡ match_table }
+    ensures { MapsCurved most library.now tree.now work.now result }
 {
-    let symbols = tree.symbols;
-    let sizes = tree.sizes;
-    let load = tree.load as u32;
+    let load = u32::from(tree.load);
     let time = tree.required;
-    let symbol = symbols[0];
+    let symbol = tree.symbols[0];
     if Packed::LEAF <= symbol {
         return map_leaf(symbol, load, time);
     }
-    let w = curves::look_up(work, most, 0, time as u64 + 1);
+    let w = curves::look_up(work, most, 0, u64::from(time) + 1);
     if w == Words::ABSENT {
-        return refuse(Numbers::NO_COVER, 0);
+        return Err(NO_COVER);
     }
     let goal = Goal {
         node: 0,
@@ -130,140 +107,63 @@ fn map_root(rows: &[u32], tree: TreeRecord, most: usize, found: &mut [u8], work:
         bin: 0,
         time,
     };
-    let begun = bare((w / Limits::TIMES) as u32, (w % Limits::TIMES) as u32);
-    let cover = choosing::choose(rows, &symbols, &sizes, found, work, most, goal, begun);
-    Mapped {
-        finding: Finding::Found,
-        cover,
-    }
+    let mut cover = CoverRecord::bare((w / Limits::TIMES) as u32, (w % Limits::TIMES) as u32);
+    choosing::choose(rows(library), tree, found, work, most, goal, &mut cover);
+    Ok(cover)
 }
 
-// The cover that map hands over, for a sound library and a sound tree as decoded, where a node may have `most` trade-offs under a load.
-fn map_tree(
-    rows: &[u32],
-    bins: Bins,
-    tree: TreeRecord,
+// The cover that map hands over, for a sound library and a sound tree as decoded, where a node may have `most` trade-offs under a load, in
+// a work area of zeros.
+pub fn map_tree(
+    library: &LibraryRecord,
+    tree: &TreeRecord,
     most: usize,
-    found: &mut [u8],
     work: &mut [u64],
-    kept: &mut [u64],
-) -> Mapped
-    requires { ((l : Library) × ((t : Tree) × FillStart l t rows.now bins tree most found.old work.old)) × (match_most ≤ length kept.old) }
-    ensures { MapsFilled most rows.now bins tree found.old work.old result }
+) -> Result<CoverRecord, Refusal>
+    requires { (l : Library) × ((t : Tree) × Started most l t library.now tree.now work.old) }
+    ensures { MapsTree most library.now tree.now work.old result }
 {
-    let filling = filling::fill(rows, bins, tree, most, found, work, kept);
-    match filling {
-        Filling::Overfull(node) => refuse(Numbers::OVERFULL, node),
-        Filling::Whole => map_root(rows, tree, most, found, work),
-    }
+    let mut found = [0u8; Hit::TABLE];
+    fill(library, tree, most, &mut found, work)?;
+    map_root(library, tree, most, &mut found, work)
 }
 
 // How many points a curve has: its words up to a 0.
 fn count_points(curve: &[u64]) -> usize
     ensures { (result ≤ length curve.now) × (stored curve.now ≡ map point_of (take result curve.now)) }
 {
-    let mut k: usize = 0;
-    while k < curve.len() {
-        if curve[k] == 0 {
-            break;
-        }
-        k += 1;
-    }
-    k
+    curve.iter().position(|w| *w == 0).unwrap_or(curve.len())
 }
 
-// The root's trade-offs, from its curve. A leaf has one, of no area, which is put in the curve's place.
-fn list_root(tree: TreeRecord, most: usize, work: &mut [u64]) -> Listed
-    requires { (l : Library) × ((t : Tree) × ((rows : List ℕ) × ((room : ℕ) × Curved most l t rows tree room work.old))) }
-    ensures { ListsCurved most tree work.old work.new result }
+// How many trade-offs the root has, from its curve. A leaf has one, of no area, which is put in the curve's place.
+fn list_root(tree: &TreeRecord, most: usize, work: &mut [u64]) -> Result<usize, Refusal>
+    requires { (l : Library) × ((t : Tree) × ((library : LibraryRecord) × Curved most l t library tree.now work.old)) }
+    ensures { ListsCurved most tree.now work.old work.new result }
 {
-    let symbols = tree.symbols;
-    let symbol = symbols[0];
+    let symbol = tree.symbols[0];
     if Packed::LEAF <= symbol {
-        work[0] = leaves::leaf_arrival(symbol, tree.load as u32);
-        return Listed {
-            finding: Finding::Found,
-            count: 1,
-        };
+        work[0] = leaves::leaf_arrival(symbol, u32::from(tree.load));
+        return Ok(1);
     }
     let count = count_points(&work[..most + 1]);
     if count == 0 {
-        return Listed {
-            finding: Finding::Refused(Refusal {
-                item: 0,
-                number: Numbers::NO_COVER,
-                place: 0,
-            }),
-            count,
-        };
+        return Err(NO_COVER);
     }
-    Listed {
-        finding: Finding::Found,
-        count,
-    }
+    Ok(count)
 }
 
-// Every trade-off of the root, for a sound library and a sound tree as decoded; the required time does not count.
-fn list_tree(
-    rows: &[u32],
-    bins: Bins,
-    tree: TreeRecord,
-    most: usize,
-    found: &mut [u8],
-    work: &mut [u64],
-    kept: &mut [u64],
-) -> Listed
-    requires { ((l : Library) × ((t : Tree) × FillStart l t rows.now bins tree most found.old work.old)) × (match_most ≤ length kept.old) }
-    ensures { ListsFilled most rows.now bins tree found.old work.old work.new result }
-{
-    let filling = filling::fill(rows, bins, tree, most, found, work, kept);
-    match filling {
-        Filling::Overfull(node) => Listed {
-            finding: Finding::Refused(Refusal {
-                item: 0,
-                number: Numbers::OVERFULL,
-                place: node,
-            }),
-            count: 0,
-        },
-        Filling::Whole => list_root(tree, most, work),
-    }
-}
-
-// What a task asks for, for a sound library and a sound tree as decoded, in a work area of zeros. The two tables stand here and nowhere else.
-pub fn solve(
-    task: Task,
-    rows: &[u32],
-    bins: Bins,
-    tree: TreeRecord,
+// How many trade-offs the root has, for a sound library and a sound tree as decoded, in a work area of zeros: their points are its first
+// words then, the latest first. The required time does not count.
+pub fn list_tree(
+    library: &LibraryRecord,
+    tree: &TreeRecord,
     most: usize,
     work: &mut [u64],
-) -> Solved
-    requires { (l : Library) × ((t : Tree) × FillStart l t rows.now bins tree most (replicate match_table 0) work.old) }
-    ensures { Solves task most rows.now bins tree work.old work.new result }
+) -> Result<usize, Refusal>
+    requires { (l : Library) × ((t : Tree) × Started most l t library.now tree.now work.old) }
+    ensures { ListsTree most library.now tree.now work.old work.new result }
 {
     let mut found = [0u8; Hit::TABLE];
-    let mut kept = [0u64; Hit::MATCHES];
-    match task {
-        Task::Cover => {
-            let mapped = map_tree(rows, bins, tree, most, &mut found, work, &mut kept);
-            let finding = mapped.finding;
-            let cover = mapped.cover;
-            Solved {
-                finding,
-                cover,
-                count: 0,
-            }
-        }
-        Task::Tradeoffs => {
-            let listed = list_tree(rows, bins, tree, most, &mut found, work, &mut kept);
-            let finding = listed.finding;
-            let cover = bare(0, 0);
-            Solved {
-                finding,
-                cover,
-                count: listed.count,
-            }
-        }
-    }
+    fill(library, tree, most, &mut found, work)?;
+    list_root(tree, most, work)
 }

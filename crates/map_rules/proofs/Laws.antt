@@ -8,7 +8,7 @@ use native.Mathlib.Omega.{arith}
 use borrow.Table.Steps.{cases}
 use lib.Dec.{leb}
 use lib.ListN.{length, take, drop, replicate, length-replicate}
-use lib.Seq.{take-append_seam, drop-append_seam}
+use lib.Seq.{length-take-le, take-append_seam, drop-append_seam}
 use borrow.Rule.Slice.PartMut.{mid_of, put_mid, mid_len, drop_put}
 use Rattle.fields.specs.declared.Fault.{Fault}
 use Rattle.fields.specs.declared.Fault.TheVariants.{Truncated, Tail, Range, Drawing, Size}
@@ -50,6 +50,15 @@ cleared_again n k work before part after same e len long f =
   where
     beyond : drop n (replicate n 0 ++ drop n work) ≡ drop n work
     beyond = subst (λ (k : ℕ). drop k (replicate n 0 ++ drop n work) ≡ drop n work) (length-replicate {A = ℕ} n 0) (drop-append_seam (replicate n 0) (drop n work))
+
+-- The same where the words in front were lent as the front of it.
+pub cleared_front : (n k : ℕ) (work before part after : List ℕ) → k ≡ n → before ≡ cleared n work → length part ≡ length (take k before) → n ≤ length before → after ≡ cleared n (part ++ drop k before) → after ≡ cleared n work
+unfolding cleared
+cleared_front n k work before part after same e len long f =
+    let lent : length part ≡ n = len ∙ ap (λ (j : ℕ). length (take j before)) same ∙ length-take-le n before long in
+    let kept : drop n (part ++ drop k before) ≡ drop k before = ap (λ (j : ℕ). drop j (part ++ drop k before)) (sym lent) ∙ drop-append_seam part (drop k before) in
+    let beyond : drop n (replicate n 0 ++ drop n work) ≡ drop n work = subst (λ (j : ℕ). drop j (replicate n 0 ++ drop n work) ≡ drop n work) (length-replicate {A = ℕ} n 0) (drop-append_seam (replicate n 0) (drop n work)) in
+    f ∙ ap (λ (q : List ℕ). replicate n 0 ++ q) (kept ∙ ap (λ (j : ℕ). drop j before) same ∙ ap (drop n) e ∙ beyond)
 
 -- ---- what the core refuses
 

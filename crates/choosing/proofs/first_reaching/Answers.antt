@@ -1,17 +1,12 @@
-use native.Mathlib.Omega.{arith}
+use mathlib.Core.Path.{sym}
 use borrow.Author.Count.{below_more}
-use Rattle.curves.proofs.Laws.{hit_ready}
 use Rattle.choosing.proofs.Reading.{reached, unreached}
 use Rattle.choosing.proofs.first_reaching.Goals as goal
 
-pub match_best-reached-requires : goal.match_best-reached-requires
-match_best-reached-requires c =
-    let p = c.requires in
-    record { hit_known = hit_ready p.cases c.loop-j.j (omega arith); sources = p.cases.sources; load_bound = (p.load_bound.0, omega arith) }
-
 pub loop-j-preserved : goal.loop-j-preserved
-loop-j-preserved c = below_more _ _ c.loop-j.invariant (unreached c.args.w c.match_best-reached.result _ _ (omega arith) c.match_best-reached.ensures c.if-reached-w.false)
+loop-j-preserved c =
+    below_more _ _ c.loop-j.invariant (unreached _ _ c.args.w c.legal_best.result _ (rw (c.at.ensures.pattern_is, c.at.ensures.hit_is) at c.legal_best.ensures) (sym c.if-eq.ensures))
 
-pub returns-then-reached-w : goal.returns-then-reached-w
-returns-then-reached-w c =
-    record { within = omega arith; before = c.loop-j.invariant; here = λ h. reached c.args.w c.match_best-reached.result _ _ (omega arith) c.match_best-reached.ensures c.if-reached-w.true }
+pub returns-then-eq : goal.returns-then-eq
+returns-then-eq c =
+    record { within = c.loop-j-test.true; before = c.loop-j.invariant; here = reached _ _ c.args.w c.legal_best.result _ (rw (c.at.ensures.pattern_is, c.at.ensures.hit_is) at c.legal_best.ensures) (sym c.if-eq.ensures) }

@@ -1,8 +1,8 @@
--- The loop over the hits, left with the first that reaches: none before it does.
+-- The loop over the matches, left with the first that reaches: none before it does.
 use Prim.Native.Nat.{ℕ, ◌<◌}
 use Rattle.curves.specs.Inside.Best.{hit_at}
 use Rattle.choosing.specs.Inside.Promises.{Reaches}
 use Rattle.choosing.proofs.first_reaching.Given as goal
 
 abbrev pub invariant-loop-j : goal.invariant-loop-j
-invariant-loop-j l = (i : ℕ) → i < l.j → Reaches l.most l.symbols l.work l.rows l.load l.w (hit_at l.found i) → ⊥
+invariant-loop-j l = (i : ℕ) → i < l.j → let s = l.sources in Reaches s.curves.most s.symbols.now s.curves.work.now l.matches.rows.now l.load l.w (hit_at l.matches.hits.now i) → ⊥

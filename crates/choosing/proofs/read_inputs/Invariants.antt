@@ -9,4 +9,5 @@ use Rattle.choosing.proofs.read_inputs.Given as goal
 
 abbrev pub invariant-loop-k : goal.invariant-loop-k
 invariant-loop-k l =
-    (length l.goals ≡ 6) × ((r : Library) (m : Match) → HitHolds r l.pattern l.hit m → (i : ℕ) → i < l.k → get_or l.goals i no_goal ≡ goal_of r m l.load l.time (get_or m.inputs i no_input))
+    (length l.goals ≡ 6)
+    × ((r : Library) (m : Match) → HitHolds r l.one.pattern.now l.one.hit.now m → (i : ℕ) → i < l.k → get_or l.goals i no_goal ≡ goal_of r m l.load l.time (get_or m.inputs i no_input))

@@ -1,5 +1,5 @@
 -- What the choice of a cover is lent and what it promises, by the choice rule.
-use Rattle.std.specs.Prelude.{ℕ, suc, ◌+◌, ◌-◌, ◌%◌, ◌≤◌, ◌<◌, ◌≡◌, length, get_or}
+use Rattle.std.specs.Prelude.{ℕ, suc, Option as Maybe, None, Some, ◌+◌, ◌-◌, ◌%◌, ◌≤◌, ◌<◌, ◌≡◌, length, get_or}
 use mathlib.Core.List.{List, Memᴰ}
 use Rattle.std.proofs.Math.Option.{some}
 use Rattle.sheets_rules.specs.Model.{plain_leaf, Shape, Library, Tree}
@@ -11,7 +11,8 @@ use Rattle.covers.specs.Choice.{least, first_reaching, choice}
 use Rattle.covers.specs.Inside.Curve.{base, gates, point_of}
 use Rattle.cells.specs.Inside.Cell.{CellStored}
 use Rattle.overlay.specs.Inside.Promises.{Decoded}
-use Rattle.matching.specs.Inside.Found.{match_table, hit_of}
+use Rattle.matching.specs.declared.Hit.{Hit}
+use Rattle.matching.specs.Inside.Found.{match_most, hit_of}
 use Rattle.curves.specs.Inside.Words.{WorkArea}
 use Rattle.curves.specs.Inside.Best.{hit_at, pattern_of, legal_best}
 use Rattle.curves.specs.Inside.Stored.{CurvesStored}
@@ -23,19 +24,24 @@ use Rattle.choosing.specs.declared.Inputs.{Inputs}
 -- ---- a match and its inputs
 
 -- The hit of a legal match whose least point in time is that of the word w.
-abbrev pub Reaches : ℕ → List ℕ → List ℕ → List ℕ → ℕ → ℕ → List ℕ → Type 0
+abbrev pub Reaches : ℕ → List ℕ → List ℕ → List ℕ → ℕ → ℕ → Hit → Type 0
 Reaches most symbols work rows load w hit = legal_best most symbols work (pattern_of rows hit) hit load (w % base + 1) ≡ some (point_of w)
 
--- The first of `count` hits that reaches the word's area and arrival, or none of them.
-pub record FirstHit (most : ℕ) (symbols work rows found : List ℕ) (load w count r : ℕ) : Type 0 where
-  pub within : r ≤ count
-  pub before : (j : ℕ) → j < r → Reaches most symbols work rows load w (hit_at found j) → ⊥
-  pub here : r < count → Reaches most symbols work rows load w (hit_at found r)
+-- The first of the hits that reaches the word's area and arrival, or that none does.
+module _ (most : ℕ) (symbols work rows : List ℕ) (hits : List Hit) (load w : ℕ) where
+  pub record Reaching (r : ℕ) : Type 0 where
+    pub within : r < length hits
+    pub before : (j : ℕ) → j < r → Reaches most symbols work rows load w (hit_at hits j) → ⊥
+    pub here : Reaches most symbols work rows load w (hit_at hits r)
+
+  abbrev pub FirstHit : Maybe ℕ → Type 0
+  FirstHit None = (j : ℕ) → j < length hits → Reaches most symbols work rows load w (hit_at hits j) → ⊥
+  FirstHit (Some r) = Reaching r
 
 -- A hit holds a match, and its pattern's row the cell.
-pub record HitHolds (l : Library) (pattern hit : List ℕ) (m : Match) : Type 0 where
+pub record HitHolds (l : Library) (pattern : List ℕ) (hit : Hit) (m : Match) : Type 0 where
   pub few : length m.inputs ≤ 6
-  pub words : (c : ℕ) → c < length (hit_of m) → get_or hit c 0 ≡ get_or (hit_of m) c 0
+  pub hit_is : hit ≡ hit_of m
   pub stored : CellStored l pattern m.pattern.cell
   pub pinned : (i : Input) → Memᴰ i m.inputs → i.pin < length m.pattern.cell.pins
 
@@ -62,7 +68,7 @@ pub record InputsAre (l : Library) (m : Match) (load t : ℕ) (r : Inputs) : Typ
   pub each : (k : ℕ) → k < length m.inputs → get_or r.goals k no_goal ≡ goal_of l m load t (get_or m.inputs k no_input)
 
 -- The inputs are read of whichever match the hit holds.
-abbrev pub InputsRead : (pattern hit : List ℕ) → (load t : ℕ) → Inputs → Type 0
+abbrev pub InputsRead : List ℕ → Hit → (load t : ℕ) → Inputs → Type 0
 InputsRead pattern hit load t r = (l : Library) (m : Match) → HitHolds l pattern hit m → InputsAre l m load t r
 
 -- ---- the choice
@@ -70,7 +76,7 @@ InputsRead pattern hit load t r = (l : Library) (m : Match) → HitHolds l patte
 -- The library l and the tree t as decoded, room for the matches of a node, and the curves of the tree's nodes in the work area.
 pub record Prepared (most : ℕ) (l : Library) (t : Tree) (rows ss zs : List ℕ) (room : ℕ) (work : List ℕ) : Type 0 where
   pub decoded : Decoded l t rows ss zs
-  pub room_is : room ≡ match_table
+  pub room_is : room ≡ match_most
   pub area : WorkArea most work
   pub curves : CurvesStored most l t work
 
@@ -87,7 +93,7 @@ pub record Driven (l : Library) (t : Tree) (goal : Goal) (s : Shape) : Type 0 wh
   pub some_cover : (p : Point) × (least (suc goal.time) (covers l goal.load goal.node s) ≡ some p)
 
 -- The first match that reaches the least point in time is chosen, whichever library and tree are stored.
-abbrev pub MatchChosen : ℕ → (rows ss zs found work : List ℕ) → Goal → Inputs → Type 0
+abbrev pub MatchChosen : ℕ → (rows ss zs : List ℕ) → List Hit → (work : List ℕ) → Goal → Inputs → Type 0
 MatchChosen most rows ss zs found work goal r =
     (l : Library) (t : Tree) (s : Shape) → Prepared most l t rows ss zs (length found) work → Driven l t goal s →
     (p : Point) → least (suc goal.time) (covers l goal.load goal.node s) ≡ some p →
@@ -100,7 +106,7 @@ pub record Chooses (most : ℕ) (l : Library) (t : Tree) (rows ss zs : List ℕ)
   pub fits : cover.count + gates s ≤ 64
 
 -- The matches of the cover that the choice rule names come after those of the record, whichever library and tree are stored.
-abbrev pub CoverChosen : ℕ → (rows ss zs found work : List ℕ) → Goal → CoverRecord → CoverRecord → Type 0
+abbrev pub CoverChosen : ℕ → (rows ss zs : List ℕ) → List Hit → (work : List ℕ) → Goal → CoverRecord → CoverRecord → Type 0
 CoverChosen most rows ss zs found work goal cover r =
     (l : Library) (t : Tree) (s : Shape) → Chooses most l t rows ss zs (length found) work goal cover s →
     (c : Cover) → choice l goal.load goal.node s goal.time ≡ some c → r ≡ appended cover c.placed

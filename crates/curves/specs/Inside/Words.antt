@@ -4,7 +4,7 @@ use Rattle.covers.specs.Capacity.{work_words}
 use Rattle.covers.specs.Cover.{Point}
 use Rattle.covers.specs.Inside.Curve.{base, point_of}
 
--- What stands for no point: 2^63, above every word of a point.
+-- What stands for no point among kept words: 2^63, above every word of a point.
 abbrev pub absent : ℕ
 absent = 2 ^ 63
 

@@ -1,25 +1,14 @@
-use native.Mathlib.Omega.{arith}
-use mathlib.Core.Path.{refl}
-use Rattle.map_core.proofs.Points.{counted_more, counted_end, counted_all}
+use borrow.Author.Rules.{rules}
+use borrow.Author.Tests.{tests}
+use Prim.Native.Nat.{ℕ}
+use lib.Dec.{eqb}
+use Rattle.std.proofs.lemmas.Iterator.{YieldsList-from_slice}
+use Rattle.std.proofs.lemmas.Iterator.Search.{position_from_yields_List}
+use Rattle.map_core.proofs.Points.{counted}
 use Rattle.map_core.proofs.count_points.Goals as goal
 
-pub loop-k-init : goal.loop-k-init
-loop-k-init c = (omega arith, refl)
-
-pub loop-k-preserved : goal.loop-k-preserved
-loop-k-preserved c =
-    let i = c.loop-k in
-    let a = c.args in
-    let e = c.if-curve-k-eq0 in
-    (omega arith, counted_more a.curve.now i.k (omega arith) (λ z. omega (arith, e, z)) i.invariant.1)
-
-pub returns-after-loop-k : goal.returns-after-loop-k
-returns-after-loop-k c =
-    let i = c.loop-k in
-    (i.invariant.0, counted_all c.args.curve.now i.k (omega arith) i.invariant.1)
-
-pub returns-then-curve-k-eq0 : goal.returns-then-curve-k-eq0
-returns-then-curve-k-eq0 c =
-    let i = c.loop-k in
-    let e = c.if-curve-k-eq0 in
-    (i.invariant.0, counted_end c.args.curve.now i.k (omega (arith, e)) i.invariant.1)
+pub returns : goal.returns
+returns c =
+    let ws = c.args.curve.now in
+    let first = position_from_yields_List (λ (w : ℕ). eqb w 0) _ _ c.position.result c.position.ensures.ran (YieldsList-from_slice ws cc) (λ x b q k. search (rules, tests)) in
+    counted ws c.position.result c.unwrap_or.result first c.unwrap_or.ensures

@@ -1,36 +1,26 @@
 use borrow.Author.Rules.{rules}
-use Prim.Native.Nat.{◌+◌}
-use mathlib.Core.Path.{sym}
 use native.Mathlib.Omega.{arith}
-use lib.Seq.{length-take-le}
 use Rattle.map_core.proofs.Root.{leaf_small}
 use Rattle.map_core.proofs.Points.{leaf_listed, gate_empty, gate_listed}
 use Rattle.map_core.proofs.list_root.Goals as goal
 
 pub leaf_arrival-requires : goal.leaf_arrival-requires
-leaf_arrival-requires c =
-    let p = c.requires in
-    let e = c.if-symbol-ge-LEAF in
-    (omega (arith, e), leaf_small p.1.1.1.1, search rules)
+leaf_arrival-requires c = let e = c.if-symbol-ge-LEAF in (omega arith, leaf_small c.requires.1.1.1, search rules)
 
 pub returns-then-symbol-ge-LEAF : goal.returns-then-symbol-ge-LEAF
-returns-then-symbol-ge-LEAF c l t rows room given =
+returns-then-symbol-ge-LEAF c l t library given =
     let e = c.if-symbol-ge-LEAF in
-    leaf_listed given (omega (arith, e)) c.leaf_arrival.result c.leaf_arrival.ensures.0 c.leaf_arrival.ensures.1
-
-pub slice_bounds-count_points-end-2 : goal.slice_bounds-count_points-end-2
-slice_bounds-count_points-end-2 c =
-    sym (length-take-le (c.args.most + 1) c.args.work.now (omega (arith, c.requires.1.1.1.1.prepared.area.room)))
+    leaf_listed given (omega (arith, e)) c.leaf_arrival.result (rw c.from.ensures at c.leaf_arrival.ensures.0) c.leaf_arrival.ensures.1
 
 pub returns-then-count-eq0 : goal.returns-then-count-eq0
-returns-then-count-eq0 c l t rows room given =
+returns-then-count-eq0 c l t library given =
     let e = c.if-symbol-ge-LEAF in
     let k = c.count_points-count in
     let z = c.if-count-eq0 in
     gate_empty given (omega (arith, e)) k.result k.ensures.0 k.ensures.1 (omega (arith, z))
 
 pub returns : goal.returns
-returns c l t rows room given =
+returns c l t library given =
     let e = c.if-symbol-ge-LEAF in
     let k = c.count_points-count in
     let z = c.if-count-eq0 in

@@ -1,26 +1,9 @@
-use mathlib.Core.Path.{sym, subst}
-use Rattle.filling.specs.Inside.Promises.{FillingIs}
-use Rattle.map_core.specs.Inside.Promises.{MappedIs}
-use Rattle.map_core.proofs.Core.{core_curved, map_overfull}
+use Rattle.std.proofs.lemmas.Result.{err_from_is_err_and}
+use Rattle.map_core.proofs.Core.{map_crowded}
 use Rattle.map_core.proofs.map_tree.Goals as goal
 
-pub fill-filling-requires : goal.fill-filling-requires
-fill-filling-requires c = c.requires
-
-pub map_root-requires : goal.map_root-requires
-map_root-requires c =
-    let p = c.requires.0 in
-    let f = c.fill-filling in
-    let whole = subst (FillingIs c.args.most p.0 p.1.0 f.new.work) c.in-Whole.is (f.ensures p.0 p.1.0 p.1.1) in
-    (p.0, (p.1.0, core_curved p.1.1 f.new.work f.new.found f.auto.found f.auto.work whole))
-
-pub returns-in-Overfull : goal.returns-in-Overfull
-returns-in-Overfull c l t start =
-    let f = c.fill-filling in
-    subst (MappedIs c.args.most l t) (sym c.refuse.ensures) (map_overfull c.args.most l t f.new.work c.in-Overfull.node (subst (FillingIs c.args.most l t f.new.work) c.in-Overfull.is (f.ensures l t start)))
-
-pub returns-in-Whole : goal.returns-in-Whole
-returns-in-Whole c l t start =
-    let f = c.fill-filling in
-    let whole = subst (FillingIs c.args.most l t f.new.work) c.in-Whole.is (f.ensures l t start) in
-    c.map_root.ensures l t (core_curved start f.new.work f.new.found f.auto.found f.auto.work whole)
+pub returns-in_err-fill : goal.returns-in_err-fill
+returns-in_err-fill c l t start =
+    let p = err_from_is_err_and c.from_residual.result c.from_residual.ensures.1 in
+    let (n, is, e) = c.in_err-fill.ensures l t start in
+    rw (p.1, p.2) (map_crowded c.args.most l t n is e)

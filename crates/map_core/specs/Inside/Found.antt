@@ -1,32 +1,27 @@
 -- What the core found, as an answer.
-use Rattle.std.specs.Prelude.{ℕ, List, replicate}
-use Rattle.fields.specs.Answer.{Answer, refusal, success}
+use Rattle.std.specs.Prelude.{ℕ, List, Result, Ok, Err}
+use Rattle.fields.specs.Answer.{Answer, success}
+use Rattle.sheets_rules.specs.declared.Reason.TheVariants.{Crowded, NoCover}
+use Rattle.sheets_rules.specs.declared.Refusal.{Refusal}
+use Rattle.sheets_rules.specs.Report.{refusal}
 use Rattle.covers.specs.Cover.{Point, Cover}
 use Rattle.result_sheets.specs.declared.CoverRecord.{CoverRecord}
 use Rattle.result_sheets.specs.Public.{cover_of}
 use Rattle.result_sheets.specs.Inside.Promises.{points_of}
-use Rattle.fields.specs.declared.Finding.{Finding}
-use Rattle.fields.specs.declared.Finding.TheVariants.{Refused, Found}
-use Rattle.map_core.specs.declared.Mapped.{Mapped}
-use Rattle.map_core.specs.declared.Listed.{Listed}
 
--- Each case of the enum: the refusal, or what was found.
-unfoldable pub of_finding : {A : Type 0} → A → Finding → Answer A
-of_finding a (Refused r) = refusal r
-of_finding a Found = success a
-
-unfoldable pub of_mapped : Mapped → Answer Cover
-unfolding of_finding
-of_mapped r = of_finding (cover_of r.cover) r.finding
+-- Each case of the result: what was found, or the refusal.
+abbrev pub of_mapped : Result CoverRecord Refusal → Answer Cover
+of_mapped (Ok cover) = success (cover_of cover)
+of_mapped (Err q) = refusal q
 
 -- The points are in the work area.
-unfoldable pub of_listed : List ℕ → Listed → Answer (List Point)
-unfolding of_finding
-of_listed work r = of_finding (points_of r.count work) r.finding
+abbrev pub of_listed : List ℕ → Result ℕ Refusal → Answer (List Point)
+of_listed work (Ok count) = success (points_of count work)
+of_listed work (Err q) = refusal q
 
--- A cover's record with no match yet, and a refusal beside one.
-unfoldable pub bare_cover : (area arrival : ℕ) → CoverRecord
-bare_cover area arrival = record { area = area; arrival = arrival; count = 0; nodes = replicate 64 0; patterns = replicate 64 0; crossings = replicate 64 0 }
+-- The core's two refusals: a node with too many trade-offs, and no cover.
+abbrev pub crowded : ℕ → Refusal
+crowded n = record { item = 0; reason = Crowded; place = n }
 
-unfoldable pub refused_with : (number place : ℕ) → Mapped
-refused_with number place = record { finding = Refused (record { item = 0; number = number; place = place }); cover = bare_cover 0 0 }
+abbrev pub no_cover : Refusal
+no_cover = record { item = 0; reason = NoCover; place = 0 }
