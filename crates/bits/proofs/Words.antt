@@ -14,7 +14,7 @@ use lib.Dec.{eqb, leb}
 use borrow.Author.Tests.{le-leb, lt-leb, eq-eqb, ne_eqb, leb-true, leb-false}
 use borrow.Table.Steps.{cases}
 use Rattle.bits.specs.declared.Cursor.{Cursor}
-use Rattle.bits.specs.declared.FieldRead.TheVariants.{Value, Truncated}
+use Rattle.std.specs.Prelude.{Some, None}
 use Rattle.bits.specs.Bits.{after, bit_at, value_at, cursor_at, field_at, bytes_to, rest_of, filled_at, ends_at}
 use Rattle.bits.specs.Inside.Promises.{Opens}
 use Rattle.bits.proofs.Laws.{value_lt, value_small, value_cong}
@@ -93,11 +93,11 @@ stands e = rw e (omega arith)
 pub stands_there : {c : Cursor} {i : ℕ} → c ≡ cursor_at (i + 0) → (c.used < 8) × (8 * c.byte + c.used ≡ i)
 stands_there {c} {i} e = let h = stands e in (h.0, h.1 ∙ add-zero i)
 
-pub found : (s : List ℕ) (i w v : ℕ) (n : Cursor) → i + w ≤ 8 * length s → v ≡ value_at s i w → n ≡ cursor_at (i + w) → Value v n ≡ field_at s i w
+pub found : (s : List ℕ) (i w v : ℕ) (n : Cursor) → i + w ≤ 8 * length s → v ≡ value_at s i w → n ≡ cursor_at (i + w) → Some (v, n) ≡ field_at s i w
 unfolding field_at
-found s i w v n l ev en = rw (le-leb (i + w) (8 * length s) l) (ap₂ Value ev en)
+found s i w v n l ev en = rw (le-leb (i + w) (8 * length s) l) (ap₂ (λ x c. Some (x, c)) ev en)
 
-pub none : (s : List ℕ) (i w : ℕ) → 8 * length s < i + w → Truncated ≡ field_at s i w
+pub none : (s : List ℕ) (i w : ℕ) → 8 * length s < i + w → None ≡ field_at s i w
 unfolding field_at
 none s i w l = rw (lt-leb (i + w) (8 * length s) l) refl
 

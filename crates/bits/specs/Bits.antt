@@ -1,8 +1,6 @@
 -- Bit fields in a list of bytes, most significant bit first. A place is a bit's number, counted from 0.
-use Rattle.std.specs.Prelude.{ℕ, zero, suc, ◌+◌, ◌-◌, ◌*◌, ◌/◌, ◌%◌, ◌^◌, List, Bool, cond, ◌&&◌, length, get_or, set, leb, eqb}
+use Rattle.std.specs.Prelude.{ℕ, zero, suc, Option, Some, None, ◌+◌, ◌-◌, ◌*◌, ◌/◌, ◌%◌, ◌^◌, List, Bool, cond, ◌&&◌, length, get_or, set, leb, eqb}
 use Rattle.bits.specs.declared.Cursor.{Cursor}
-use Rattle.bits.specs.declared.FieldRead.{FieldRead}
-use Rattle.bits.specs.declared.FieldRead.TheVariants.{Value, Truncated}
 
 -- How many bits of its byte stand after place i.
 unfoldable pub after : ℕ → ℕ
@@ -24,9 +22,9 @@ place_of c = 8 * c.byte + c.used
 unfoldable pub cursor_at : ℕ → Cursor
 cursor_at i = record { byte = i / 8; used = i % 8 }
 
--- The field of w bits at place i: its value and the place after it, or that the bytes end before or inside it.
-unfoldable pub field_at : List ℕ → ℕ → ℕ → FieldRead
-field_at s i w = cond (leb (i + w) (8 * length s)) (Value (value_at s i w) (cursor_at (i + w))) Truncated
+-- The field of w bits at place i: its value and the place after it, or none, if the bytes end before or inside it.
+unfoldable pub field_at : List ℕ → ℕ → ℕ → Option (ℕ × Cursor)
+field_at s i w = cond (leb (i + w) (8 * length s)) (Some (value_at s i w, cursor_at (i + w))) None
 
 -- How many bytes the bits before place i take up, and how many bits of the last of them are left.
 unfoldable pub bytes_to : ℕ → ℕ

@@ -2,22 +2,15 @@
 // No place is divided in reading: a cursor has the number of its byte and how many of its bits are before the place, and goes on by adding and comparing.
 #![tactic(auto)]
 
-ghost use Rattle.std.specs.Prelude.{◌≡◌, ◌+◌, ◌-◌, ◌*◌, ◌/◌, ◌%◌, ◌<◌, ◌≤◌, ◌^◌, min, length, drop, leb};
+ghost use Rattle.std.specs.Prelude.{◌≡◌, ◌+◌, ◌-◌, ◌*◌, ◌/◌, ◌%◌, ◌<◌, ◌≤◌, ◌^◌, length, drop, leb};
 ghost use Rattle.bits.specs.Bits.{place_of, cursor_at, value_at, field_at, bytes_to, filled_at, ends_at, with_bit, with_field};
 ghost use Rattle.bits.specs.Inside.Promises.{Opens, Opened, FieldOf, Weight};
 
 // A place in bytes: the number of a byte, and how many of its bits are before the place.
-#[derive(Clone, Copy)]
+#[derive(Clone, Copy, Debug, PartialEq, Eq)]
 pub struct Cursor {
     pub byte: usize,
     pub used: usize,
-}
-
-// What reading a field finds: its value and the cursor after it, or that the bytes end before or inside it.
-#[derive(Clone, Copy)]
-pub enum FieldRead {
-    Value(u64, Cursor),
-    Truncated,
 }
 
 impl Cursor {
@@ -49,7 +42,7 @@ impl Cursor {
         Cursor::BYTE_BITS * self.byte + self.used
     }
 
-    // The cursor `width` bits on: 8 bits carry to the next byte.
+    // The cursor `width` bits on: 8 bits carry to the next byte. It counts on and does not divide: no place is divided or shifted in reading a sheet.
     pub fn on(self, width: usize) -> Self
         requires { (place_of self < 2 ^ 32) × (width ≤ 64) }
         ensures { result ≡ cursor_at (place_of self + width) }
@@ -68,50 +61,46 @@ impl Cursor {
         requires { self.used < 8 }
         ensures { result ≡ leb (place_of self) (8 * bytes) }
     {
-        let byte = self.byte;
-        if byte < bytes {
-            return true;
-        }
-        if bytes < byte {
-            return false;
-        }
-        self.used == 0
+        let Cursor { byte, used } = self;
+        byte < bytes || byte == bytes && used == 0
     }
 
     // The field of `width` bits at the cursor. Where a word is there and has the field, it is cut from it; else, near the end and for wide fields, it is read byte by byte.
-    pub fn field(self, s: &[u8], width: usize) -> FieldRead
+    // None: the bytes end before or inside it.
+    pub fn field(self, s: &[u8], width: usize) -> Option<(u64, Cursor)>
         requires { (place_of self < 2 ^ 32) × (width ≤ 64) }
         ensures { result ≡ field_at s.now (place_of self) width }
     {
-        let byte = self.byte;
-        let used = self.used;
+        let Cursor { byte, used } = self;
         let next = self.on(width);
-        if used + width <= Cursor::WORD_BITS {
-            if byte + Cursor::WORD_BYTES <= s.len() {
-                return FieldRead::Value(cut(word(s, byte), Cursor::WORD_BITS, used, width), next);
-            }
+        if used + width <= Cursor::WORD_BITS && byte + Cursor::WORD_BYTES <= s.len() {
+            return Some((cut(word(s, byte), Cursor::WORD_BITS, used, width), next));
         }
         if next.inside(s.len()) {
-            return FieldRead::Value(spread(s, byte, used, width), next);
+            return Some((spread(s, byte, used, width), next));
         }
-        FieldRead::Truncated
+        None
     }
 
     // The field of `width` bits at the cursor, in `bytes` bytes that open so.
-    pub fn field_of(self, opening: &[u8; Cursor::OPENING], bytes: usize, width: usize) -> FieldRead
+    pub fn field_of(
+        self,
+        opening: &[u8; Cursor::OPENING],
+        bytes: usize,
+        width: usize,
+    ) -> Option<(u64, Cursor)>
         requires { Opened opening.now bytes × (self.used < 8) × (self.byte ≤ 252) × (width ≤ 24) }
         ensures { FieldOf opening.now bytes (place_of self) width result }
     {
-        let byte = self.byte;
-        let used = self.used;
+        let Cursor { byte, used } = self;
         let next = self.on(width);
         if next.inside(bytes) {
-            return FieldRead::Value(
+            return Some((
                 cut(word(opening, byte), Cursor::WORD_BITS, used, width),
                 next,
-            );
+            ));
         }
-        FieldRead::Truncated
+        None
     }
 
     // How many bytes the bits before the cursor take up.
@@ -120,9 +109,8 @@ impl Cursor {
         ensures { result ≡ bytes_to (place_of self) }
     {
         // A cursor may have a byte that is used up.
-        let at = self.on(0);
-        let byte = at.byte;
-        if at.used == 0 {
+        let Cursor { byte, used } = self.on(0);
+        if used == 0 {
             return byte;
         }
         byte + 1
@@ -133,17 +121,12 @@ impl Cursor {
         requires { place_of self < 2 ^ 32 }
         ensures { result ≡ filled_at s.now (place_of self) }
     {
-        let at = self.on(0);
-        let byte = at.byte;
-        let used = at.used;
+        let Cursor { byte, used } = self.on(0);
         if used == 0 {
             return byte <= s.len();
         }
-        if s.len() < byte + 1 {
-            return false;
-        }
         let left = Cursor::BYTE_BITS - used;
-        cut(octet(s[byte]), Cursor::BYTE_BITS, used, left) == 0
+        byte < s.len() && cut(u64::from(s[byte]), Cursor::BYTE_BITS, used, left) == 0
     }
 
     // Whether the bytes end at the cursor: zero bits to the byte, and no byte more.
@@ -151,21 +134,8 @@ impl Cursor {
         requires { place_of self < 2 ^ 32 }
         ensures { result ≡ ends_at s.now (place_of self) }
     {
-        if s.len() != self.bytes_to() {
-            return false;
-        }
-        self.fills(s)
+        s.len() == self.bytes_to() && self.fills(s)
     }
-}
-
-// How many of `left` bytes stand in an opening.
-fn opened(left: usize) -> usize
-    ensures { result ≡ min left 256 }
-{
-    if left < Cursor::OPENING {
-        return left;
-    }
-    Cursor::OPENING
 }
 
 // The bytes from number `at` on, as many as an opening has: zero bytes after the last.
@@ -174,19 +144,11 @@ pub fn opening(s: &[u8], at: usize) -> [u8; Cursor::OPENING]
     ensures { Opens result (drop at s.now) (length s.now - at) }
 {
     let mut bytes = [0u8; Cursor::OPENING];
-    let count = opened(s.len() - at);
-    let mut k = 0;
-    while k < count {
+    let count = (s.len() - at).min(Cursor::OPENING);
+    for k in 0..count {
         bytes[k] = s[at + k];
-        k += 1;
     }
     bytes
-}
-
-fn octet(x: u8) -> u64
-    ensures { (result ≡ x) × (result < 256) }
-{
-    x as u64
 }
 
 // The number in four bytes.
@@ -194,8 +156,8 @@ fn word(s: &[u8], at: usize) -> u64
     requires { at + 4 ≤ length s.now }
     ensures { (result ≡ value_at s.now (8 * at) 32) × (result < 2 ^ 32) }
 {
-    let high = Cursor::BYTE_VALUES * octet(s[at]) + octet(s[at + 1]);
-    let low = Cursor::BYTE_VALUES * octet(s[at + 2]) + octet(s[at + 3]);
+    let high = Cursor::BYTE_VALUES * u64::from(s[at]) + u64::from(s[at + 1]);
+    let low = Cursor::BYTE_VALUES * u64::from(s[at + 2]) + u64::from(s[at + 3]);
     Cursor::BYTE_VALUES * Cursor::BYTE_VALUES * high + low
 }
 
@@ -226,7 +188,7 @@ fn spread(s: &[u8], byte: usize, used: usize, width: usize) -> u64
     if Cursor::BYTE_BITS <= used {
         return spread(s, byte + 1, used - Cursor::BYTE_BITS, width);
     }
-    let here = octet(s[byte]);
+    let here = u64::from(s[byte]);
     let left = Cursor::BYTE_BITS - used;
     if width <= left {
         return cut(here, Cursor::BYTE_BITS, used, width);
@@ -234,12 +196,6 @@ fn spread(s: &[u8], byte: usize, used: usize, width: usize) -> u64
     let rest = width - left;
     let high = cut(here, Cursor::BYTE_BITS, used, left);
     high * power(rest) + spread(s, byte + 1, 0, rest)
-}
-
-fn wide(x: u8) -> u32
-    ensures { result ≡ x }
-{
-    x as u32
 }
 
 // What the bit at place `i` is worth in its byte.
@@ -256,7 +212,7 @@ fn put_bit(s: &mut [u8], i: usize, b: u32)
 {
     let half = weight(i);
     let full = 2 * half;
-    let byte = wide(s[i / 8]);
+    let byte = u32::from(s[i / 8]);
     s[i / 8] = ((byte / full * full + (b * half + byte % half)) % 256) as u8;
 }
 
@@ -266,10 +222,8 @@ pub fn put(s: &mut [u8], at: usize, width: usize, v: u32)
     ensures { s.new ≡ with_field s.old at width v }
 {
     let mut rest = v;
-    let mut k = width;
-    while 0 < k {
-        k -= 1;
+    for k in (0..width).rev() {
         put_bit(s, at + k, rest % 2);
-        rest = rest / 2;
+        rest /= 2;
     }
 }

@@ -6,7 +6,7 @@ use lib.ListN.{length}
 use Rattle.covers.specs.Cover.{Point, Placed, Cover}
 use Rattle.fields.specs.Reading.{Reader, done, ◌>>=◌, times, free, field, ended}
 use Rattle.fields.specs.Written.{Field, packed}
-use Rattle.fields.specs.declared.Scan.{Scan}
+use Rattle.fields.specs.Reading.{Scan}
 use Rattle.fields.proofs.Laws.{free_small, length_times, times_each}
 use Rattle.fields.proofs.Written.{Says, says_field, says_done, says_then, says_times, says_end, says_all}
 use Rattle.covers.specs.CoverSheet.{area_width, arrival_width, match_count_width, node_width, pattern_width, crossing_width, point_count_width, placed_fields, cover_fields, point_fields, list_fields, cover_sheet, list_sheet, placed_read, cover_read, point_read, list_read, CoverReads, ListReads}

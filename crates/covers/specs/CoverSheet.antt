@@ -1,7 +1,7 @@
 -- The cover sheet and the list sheet: their fields, the bytes written, and what reads them.
 use Rattle.std.specs.Prelude.{ℕ, ◌≡◌, List, [], ◌∷◌, length}
 use Rattle.bits.specs.Bits.{cursor_at}
-use Rattle.fields.specs.declared.Scan.TheVariants.{At}
+use Rattle.fields.specs.Reading.{At}
 use Rattle.fields.specs.Reading.{Reader, done, ◌>>=◌, times, start, free, field, ended}
 use Rattle.fields.specs.Written.{Field, widths, packed}
 use Rattle.covers.specs.Cover.{Point, Placed, Cover}

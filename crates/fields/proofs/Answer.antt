@@ -1,15 +1,18 @@
 -- Answers one after another, and that a word says its answer.
 use Prim.Native.Nat.{ℕ, ◌+◌, ◌*◌, ◌/◌, ◌%◌}
-use mathlib.Core.Path.{◌≡◌, refl, sym, ap}
+use mathlib.Core.Path.{◌≡◌, refl, sym, ap, subst}
 use native.Mathlib.Omega.{arith}
 use lib.Dec.{ltb}
 use borrow.Table.Steps.{cases}
 use borrow.Author.Tests.{lt-ltb, le-ltb, ltb-true}
+use Rattle.bits.specs.declared.Cursor.{Cursor}
 use Rattle.fields.specs.declared.Fault.{Fault}
-use Rattle.fields.specs.declared.Scan.{Scan}
-use Rattle.fields.specs.declared.Scan.TheVariants.{At, Refused}
+use Rattle.fields.specs.declared.Flaw.{Flaw}
+use Rattle.fields.specs.Reading.{Scan}
+use Rattle.fields.specs.Reading.{At, Refused}
 use Rattle.fields.specs.Reading.{place, Live}
-use Rattle.fields.specs.Answer.{Answer, refused_in, success, said, ◌>>=◌, places, numbers, word, of_word, Bounded, BoundedExactly}
+use Rattle.fields.specs.Inside.Promises.{Took, Told, Flawed}
+use Rattle.fields.specs.Answer.{Answer, refused_in, refused, success, said, ◌>>=◌, places, numbers, word, of_word, Bounded, BoundedExactly}
 
 -- An answer refuses or succeeds, with the equation that says which.
 pub answer-cases {χ} : {A : Type 0} {X : Type χ} (o : Answer A) → ((item number place : ℕ) → o ≡ refused_in item number place → X) → ((a : A) → o ≡ success a → X) → X
@@ -45,6 +48,17 @@ pub read_said : {A : Type 0} (number : Fault → ℕ) (x : A × Scan) → Live x
 unfolding said
 read_said number (a, At c) live = refl
 read_said number (a, Refused f p) live = absurd live
+
+-- What a reader of the whole sheet answered.
+pub took_said : {A B : Type 0} (number : Fault → ℕ) {Holds : A → B → Type 0} {x : A × Scan} {reach : ℕ} {after : Cursor} {b : B} → Took Holds x reach after b → said number x ≡ success x.0
+took_said number {x = x} h = read_said number x (subst Live (sym h.at) tt)
+
+pub told_said : {A B : Type 0} (number : Fault → ℕ) {Holds : A → B → Type 0} {x : A × Scan} {b : B} → Told Holds x b → said number x ≡ success x.0
+told_said number {x = x} h = read_said number x h.live
+
+pub flawed_said : {A : Type 0} (number : Fault → ℕ) {x : A × Scan} {reach : ℕ} {e : Flaw} → Flawed x reach e → said number x ≡ refused (number e.fault) e.place
+unfolding said
+flawed_said number {x = x} {e = e} h = rw h.says refl
 
 -- A sheet's refusal is about no item.
 pub said_item : {A : Type 0} (number : Fault → ℕ) (x : A × Scan) {item n place : ℕ} → said number x ≡ refused_in item n place → item ≡ 0

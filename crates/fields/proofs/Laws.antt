@@ -3,7 +3,7 @@ use mathlib.Core.Path.{◌≡◌, refl, sym, ap, subst, ◌∙◌}
 use mathlib.Core.Logic.{⊎_elim}
 use mathlib.Core.List.Memᴰ
 use mathlib.Core.List.{List, ◌∷◌, [], ◌++◌, Memᴰ}
-use mathlib.Core.Bool.{Bool, true, cond, and-false}
+use mathlib.Core.Bool.{Bool, true, false, cond, and-false}
 use Prim.Native.Nat.{ℕ, zero, suc, ◌+◌, ◌-◌, ◌*◌, ◌≤◌, ◌<◌, ◌^◌}
 use native.Mathlib.Omega.{arith}
 use lib.Pow.{pow_pos}
@@ -15,16 +15,16 @@ use borrow.Table.Steps.{cases}
 use Rattle.bits.specs.Bits.{place_of, field_at, value_at, cursor_at}
 use Rattle.bits.proofs.Laws.{value_lt, place_at}
 use Rattle.bits.specs.declared.Cursor.{Cursor}
-use Rattle.bits.specs.declared.FieldRead as FieldRead
-use Rattle.fields.specs.declared.Got.{Got}
-use Rattle.fields.specs.declared.Scan.{Scan}
-use Rattle.fields.specs.declared.Scan.TheVariants.{At, Refused}
+use Rattle.std.specs.Prelude.{Option, Some, None, Result, Ok, Err}
+use Rattle.fields.specs.declared.Flaw.{Flaw}
+use Rattle.fields.specs.Reading.{Scan}
+use Rattle.fields.specs.Reading.{At, Refused}
 use Rattle.fields.specs.declared.Fault.{Fault}
 use Rattle.fields.specs.declared.Fault.TheVariants.{Truncated, Tail}
-use Rattle.fields.specs.declared.Verdict.{Verdict}
-use Rattle.fields.specs.declared.Verdict.TheVariants.{Sound, Faulty}
+use Rattle.fields.specs.Reading.{Verdict}
+use Rattle.fields.specs.Reading.{Sound, Faulty}
 use Rattle.fields.specs.Reading.{Reader, times, start, place, free, within, field, scanned, settled, tailed, Live}
-use Rattle.fields.specs.Inside.Promises.{Reads, settling, settling_at}
+use Rattle.fields.specs.Inside.Promises.{Took, Flawed, UpTo, verdict_of}
 
 pub start_place : place start ≡ 0
 start_place = place_at 0
@@ -32,12 +32,17 @@ start_place = place_at 0
 -- ---- a field of any value
 
 -- What was found is the value there, which has w bits, and the cursor after it.
-pub found_is : (s : List ℕ) (i w x : ℕ) (n : Cursor) (f : FieldRead.FieldRead) → f ≡ field_at s i w → f ≡ FieldRead.TheVariants.Value x n →
+pub found_is : (s : List ℕ) (i w x : ℕ) (n : Cursor) (f : Option (ℕ × Cursor)) → f ≡ field_at s i w → f ≡ Some (x, n) →
     (x ≡ value_at s i w) × (n ≡ cursor_at (i + w))
 unfolding field_at
-found_is s i w x n f e q = cases (leb (i + w) (8 * length s)) (λ t. let g = rw t at e in ((cc), (cc))) (λ t. let g = rw t at e in ((cc), (cc)))
+found_is s i w x n f e q = cases (leb (i + w) (8 * length s))
+    (λ t.
+    let g : Some (x, n) ≡ Some (value_at s i w, cursor_at (i + w)) = sym q ∙ rw t at e in
+    let p : ◌≡◌ {A = ℕ × Cursor} (x, n) (value_at s i w, cursor_at (i + w)) = cc in
+    (ap (λ (y : ℕ × Cursor). y.0) p, ap (λ (y : ℕ × Cursor). y.1) p))
+    (λ t. let g : Some (x, n) ≡ None = sym q ∙ rw t at e in absurd (cc))
 
-pub found_fits : (s : List ℕ) (i w x : ℕ) (n : Cursor) (f : FieldRead.FieldRead) → f ≡ field_at s i w → f ≡ FieldRead.TheVariants.Value x n → x < 2 ^ w
+pub found_fits : (s : List ℕ) (i w x : ℕ) (n : Cursor) (f : Option (ℕ × Cursor)) → f ≡ field_at s i w → f ≡ Some (x, n) → x < 2 ^ w
 found_fits s i w x n f e q = omega (arith, (found_is s i w x n f e q).0, value_lt s i w)
 
 -- The greatest value that a verdict lets pass.
@@ -62,12 +67,6 @@ module _ (s : List ℕ) (w : ℕ) (verdict : ℕ → Verdict) where
   pub field_near : (scan : Scan) → place (field s w verdict scan).1 ≤ place scan + w
   field_near scan = field_ways (λ x. place x.1 ≤ place scan + w) scan (λ f. omega arith) (λ l g e. omega (arith, place_at (place scan + w)))
 
-  -- What has a field's value and scan reads it.
-  pub reads_field : (scan : Scan) (r : Got) (most : ℕ) → (r.value, r.scan) ≡ field s w verdict scan → Passes verdict w most →
-      Reads r (field s w verdict scan) (place scan + w) most
-  reads_field scan r most e h =
-      search (arith, ap (λ (x : ℕ × Scan). x.0) e, ap (λ (x : ℕ × Scan). x.1) e, ap (λ (x : ℕ × Scan). place x.1) e, field_near scan, field_small scan most h)
-
   -- After a field that was not refused the verdict on its value is sound, and the scan was not refused before.
   pub live_sound : (scan : Scan) → Live (field s w verdict scan).1 → (verdict (field s w verdict scan).0 ≡ Sound) × Live scan
   live_sound scan = field_ways (λ x. Live x.1 → (verdict x.0 ≡ Sound) × Live scan) scan (λ f h. absurd h) (λ l g e h. (e, l))
@@ -80,28 +79,6 @@ module _ (s : List ℕ) (w : ℕ) (verdict : ℕ → Verdict) where
   pub dead_stays : (scan : Scan) → (Live (field s w verdict scan).1 → ⊥) → place (field s w verdict scan).1 ≤ place scan
   dead_stays scan = field_ways (λ x. (Live x.1 → ⊥) → place x.1 ≤ place scan) scan (λ f h. omega arith) (λ l g e h. absurd (h tt))
 
-  -- The value and the scan x, read at `scan`, after a verdict.
-  abbrev after : Scan → ℕ × Scan → ℕ × Scan
-  after scan x = let r = settling scan (record { value = x.0; scan = x.1 }) (verdict x.0) in (r.value, r.scan)
-
-  after_field : (scan : Scan) → after scan (field s w free scan) ≡ field s w verdict scan
-  after_field (Refused f p) = refl
-  after_field (At c) = elim (field_at s (place_of c) w) as (λ f. after (At c) (scanned (place_of c) free f) ≡ scanned (place_of c) verdict f) [
-    | FieldRead.TheVariants.Truncated ↦ refl
-    | FieldRead.TheVariants.Value x n ↦
-        elim (verdict x) as (λ v. let r = settling_at (At c) (record { value = x; scan = At n }) (At n) v in (r.value, r.scan) ≡ settled (place_of c) v x (At n)) [
-          | Sound ↦ refl
-          | Faulty f ↦ refl
-        ]
-  ]
-
-  -- A verdict on what was read as a field of any value makes the field with that verdict.
-  pub settled_field : (scan : Scan) (got r : Got) (v : Verdict) (most : ℕ) → (got.value, got.scan) ≡ field s w free scan →
-      v ≡ verdict got.value → r ≡ settling scan got v → Passes verdict w most → Reads r (field s w verdict scan) (place scan + w) most
-  settled_field scan got r v most e ev er h =
-      reads_field scan r most
-      (ap (λ (g : Got). (g.value, g.scan)) (er ∙ ap (settling scan got) ev) ∙ ap (after scan) e ∙ after_field scan) h
-
 -- A field of any value has w bits.
 free_passes : (w : ℕ) → Passes free w (2 ^ w - 1)
 free_passes w x l e = omega arith
@@ -109,22 +86,52 @@ free_passes w x l e = omega arith
 pub free_small : (s : List ℕ) (w : ℕ) (c : Scan) → (field s w free c).0 < 2 ^ w
 free_small s w c = omega (arith, field_small s w free c (2 ^ w - 1) (free_passes w), pow_pos w)
 
-pub both : {r : Got} {x : ℕ × Scan} {reach most : ℕ} → Reads r x reach most → (r.value, r.scan) ≡ x
-both h = λ i. (h.value i, h.scan i)
+-- ---- what a reader of one field answers
 
--- A field read at a scan that is known.
-module _ (s : List ℕ) (w : ℕ) (verdict : ℕ → Verdict) (c : Scan) {c' : Scan} {r : Got} {reach most : ℕ} (h : Reads r (field s w verdict c) reach most) (e : c ≡ c') where
-  pub value_at_lem : r.value ≡ (field s w verdict c').0
-  value_at_lem = h.value ∙ ap (λ (k : Scan). (field s w verdict k).0) e
+module _ (s : List ℕ) (w : ℕ) (c : Cursor) where
+  -- The bytes end before or inside it.
+  pub field_flawed : (verdict : ℕ → Verdict) (p : ℕ) → None ≡ field_at s (place_of c) w → p ≡ place_of c →
+      Flawed (field s w verdict (At c)) (place_of c + w) (record { fault = Truncated; place = p })
+  field_flawed verdict p e q = record {
+    says = ap (λ f. (scanned (place_of c) verdict f).1) (sym e) ∙ ap (Refused Truncated) (sym q);
+    near = omega arith;
+  }
 
-  pub scan_at : r.scan ≡ (field s w verdict c').1
-  scan_at = h.scan ∙ ap (λ (k : Scan). (field s w verdict k).1) e
+  pub field_took : (x : ℕ) (n : Cursor) → Some (x, n) ≡ field_at s (place_of c) w → Took (UpTo (2 ^ w - 1)) (field s w free (At c)) (place_of c + w) n x
+  field_took x n e = record {
+    at = ap (λ f. (scanned (place_of c) free f).1) (sym e);
+    holds = (ap (λ f. (scanned (place_of c) free f).0) e, omega (arith, found_fits s (place_of c) w x n (Some (x, n)) e refl));
+    near = omega (arith, ap place_of (found_is s (place_of c) w x n (Some (x, n)) e refl).1, place_at (place_of c + w));
+  }
 
--- A field of any value, by what was found at the cursor.
-pub reads_scanned : (s : List ℕ) (w : ℕ) (scan : Scan) (c : Cursor) (f : FieldRead.FieldRead) (r : Got) → scan ≡ At c → f ≡ field_at s (place_of c) w →
-    (r.value, r.scan) ≡ scanned (place_of c) free f → Reads r (field s w free scan) (place scan + w) (2 ^ w - 1)
-reads_scanned s w scan c f r e ef er =
-    reads_field s w free scan r (2 ^ w - 1) (er ∙ ap (scanned (place_of c) free) ef ∙ sym (ap (field s w free) e)) (free_passes w)
+  -- A verdict on the value of a field that was read as one of any value.
+  module _ (verdict : ℕ → Verdict) (reach : ℕ) where
+    pub still_flawed : (e : Flaw) → Flawed (field s w free (At c)) reach e → Flawed (field s w verdict (At c)) reach e
+    still_flawed e h = record { says = same (field_at s (place_of c) w) h.says; near = h.near }
+      where
+        same : (f : Option (ℕ × Cursor)) → (scanned (place_of c) free f).1 ≡ Refused e.fault e.place → (scanned (place_of c) verdict f).1 ≡ Refused e.fault e.place
+        same None q = q
+        same (Some (x, n)) q = absurd (subst Live q tt)
+
+    module _ (most : ℕ) (after : Cursor) (x : ℕ) (h : Took (UpTo most) (field s w free (At c)) reach after x) where
+      -- As a field with that verdict.
+      judged : field s w verdict (At c) ≡ settled (place_of c) (verdict x) x (At after)
+      judged = same (field_at s (place_of c) w) h.at h.holds.0
+        where
+          same : (f : Option (ℕ × Cursor)) → (scanned (place_of c) free f).1 ≡ At after → x ≡ (scanned (place_of c) free f).0 →
+              scanned (place_of c) verdict f ≡ settled (place_of c) (verdict x) x (At after)
+          same None q e = absurd (subst Live (sym q) tt)
+          same (Some (y, n)) q e = rw (q, ← e) refl
+
+      pub judged_sound : (top : ℕ) → verdict x ≡ Sound → x ≤ top → Took (UpTo top) (field s w verdict (At c)) reach after x
+      judged_sound top e l =
+          let same : field s w verdict (At c) ≡ (x, At after) = judged ∙ ap (λ v. settled (place_of c) v x (At after)) e in
+          record { at = ap (λ (y : ℕ × Scan). y.1) same; holds = (sym (ap (λ (y : ℕ × Scan). y.0) same), l); near = h.near }
+
+      pub judged_faulty : (e : Flaw) → verdict x ≡ Faulty e.fault → e.place ≡ place_of c → place_of c ≤ reach → Flawed (field s w verdict (At c)) reach e
+      judged_faulty e q p l =
+          let same : field s w verdict (At c) ≡ (0, Refused e.fault (place_of c)) = judged ∙ ap (λ v. settled (place_of c) v x (At after)) q in
+          record { says = ap (λ (y : ℕ × Scan). y.1) same ∙ ap (Refused e.fault) (sym p); near = omega arith }
 
 -- What a range lets pass.
 pub range_least : (least most x : ℕ) → within least most x ≡ Sound → least ≤ x
@@ -138,12 +145,7 @@ range_passes least most x e = cases (leb x most) (leb-true x most) (λ l. let g 
 pub within_passes : (least most w : ℕ) → Passes (within least most) w most
 within_passes least most w x l e = range_passes least most x e
 
--- ---- a verdict, and the end
-
-pub settling_faulty : (before : Scan) (got : Got) (v : Verdict) (c : Cursor) (f : Fault) (p : ℕ) → got.scan ≡ At c → v ≡ Faulty f → p ≡ place before →
-    ◌≡◌ {A = Got} (record { value = 0; scan = Refused f p }) (settling before got v)
-settling_faulty before got v c f p e ev ep =
-    ap (λ (q : ℕ). record { value = 0; scan = Refused f q }) ep ∙ ap (settling_at before got (At c)) (sym ev) ∙ ap (λ (k : Scan). settling_at before got k v) (sym e)
+-- ---- the end
 
 -- A scan that was not refused at the end was not refused before, and it stands where it stood.
 module _ (wanted : ℕ → Bool) where
@@ -159,8 +161,12 @@ module _ (wanted : ℕ → Bool) where
   tailed_wanted (At d) c e = cases (wanted (place_of d)) (λ t. ap wanted (sym (ap place (rw t at e))) ∙ t) (λ t. absurd (subst Live (sym (rw t at e)) tt))
   tailed_wanted (Refused f p) c e = absurd (subst Live (sym e) tt)
 
-  pub tailed_at : (scan : Scan) (c : Cursor) (b : Bool) → scan ≡ At c → b ≡ wanted (place_of c) → cond b (At c) (Refused Tail (place_of c)) ≡ tailed wanted scan
-  tailed_at scan c b e eb = ap (λ (t : Bool). cond t (At c) (Refused Tail (place_of c))) eb ∙ sym (ap (tailed wanted) e)
+  -- What a reader that closes a sheet answers.
+  pub tailed_true : (c : Cursor) (b : Bool) → b ≡ wanted (place_of c) → b ≡ true → tailed wanted (At c) ≡ At c
+  tailed_true c b e t = ap (λ (x : Bool). cond x (At c) (Refused Tail (place_of c))) (sym e ∙ t)
+
+  pub tailed_false : (c : Cursor) (b : Bool) → b ≡ wanted (place_of c) → b ≡ false → tailed wanted (At c) ≡ Refused Tail (place_of c)
+  tailed_false c b e t = ap (λ (x : Bool). cond x (At c) (Refused Tail (place_of c))) (sym e ∙ t)
 
 -- ---- n times
 
@@ -200,3 +206,13 @@ times_more {A} n r c {q} {q'} {xs} {x} e e' =
 pub live? : (c : Scan) → Dec (Live c)
 live? (At c) = yes tt
 live? (Refused f p) = no (λ x. x)
+
+-- ---- a verdict that a caller found
+
+pub verdict_sound : (r : Result (Unit {0}) Fault) → verdict_of r ≡ Sound → r ≡ Ok tt
+verdict_sound (Ok tt) e = refl
+verdict_sound (Err f) e = absurd (cc)
+
+pub verdict_faulty : (r : Result (Unit {0}) Fault) (f : Fault) → verdict_of r ≡ Faulty f → r ≡ Err f
+verdict_faulty (Ok u) f e = absurd (cc)
+verdict_faulty (Err g) f e = let same : g ≡ f = cc in ap Err same

@@ -12,9 +12,9 @@ use borrow.Table.Steps.{cases}
 use Rattle.bits.specs.Bits.{cursor_at, bytes_to, rest_of, bit_at, value_at, ends_at, with_field}
 use Rattle.bits.proofs.Laws.{value_lt, place_at}
 use Rattle.bits.proofs.Whole.{Bytes, bits_whole, value_bits, ends_says, bytes_field}
-use Rattle.fields.specs.declared.Scan.{Scan}
-use Rattle.fields.specs.declared.Scan.TheVariants.{At}
-use Rattle.fields.specs.declared.Verdict.{Verdict}
+use Rattle.fields.specs.Reading.{Scan}
+use Rattle.fields.specs.Reading.{At}
+use Rattle.fields.specs.Reading.{Verdict}
 use Rattle.fields.specs.Reading.{Reader, times, start, place, field, ended, Live}
 use Rattle.fields.specs.Written.{Field, widths, written, packed}
 use Rattle.bits.proofs.Words.{zeros_at}

@@ -12,10 +12,10 @@ use lib.ListN.{length, replicate, length-replicate, length-append}
 use lib.Pow.{pow_pos}
 use Rattle.bits.specs.Bits.{after, bytes_to, rest_of, bit_at, value_at, cursor_at, field_at, ends_at, with_field}
 use Rattle.bits.proofs.Laws.{length_field, value_field, value_beside, place_at}
-use Rattle.fields.specs.declared.Scan.{Scan}
-use Rattle.fields.specs.declared.Scan.TheVariants.{At}
-use Rattle.fields.specs.declared.Verdict.{Verdict}
-use Rattle.fields.specs.declared.Verdict.TheVariants.{Sound}
+use Rattle.fields.specs.Reading.{Scan}
+use Rattle.fields.specs.Reading.{At}
+use Rattle.fields.specs.Reading.{Verdict}
+use Rattle.fields.specs.Reading.{Sound}
 use Rattle.fields.specs.Reading.{Reader, done, ◌>>=◌, times, start, free, field, ended}
 use Rattle.fields.specs.Written.{Field, widths, written, packed}
 use Rattle.bits.proofs.Words.{zeros_at}

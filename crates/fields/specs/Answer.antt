@@ -1,8 +1,7 @@
 -- What every operation answers: refused, with document 01's number and place and the item that the refusal is about; or a success of its own kind.
 use Rattle.std.specs.Prelude.{ℕ, ◌+◌, ◌*◌, ◌/◌, ◌%◌, ◌^◌, ◌≤◌, ◌<◌, ◌≡◌, cond, ltb}
 use Rattle.fields.specs.declared.Fault.{Fault}
-use Rattle.fields.specs.declared.Scan.{Scan}
-use Rattle.fields.specs.declared.Scan.TheVariants.{At, Refused}
+use Rattle.fields.specs.Reading.{Scan, At, Refused}
 
 -- The item is the number of a tree, where an operation takes several; 0 where there is none.
 pub data Answer (A : Type 0) : Type 0 where

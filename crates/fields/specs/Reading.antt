@@ -1,14 +1,21 @@
 -- The words in which a sheet is defined: a field, its verdict, then, n times, the end.
 -- A scan stands at a place of the bytes, or was refused: a fault at a place. A refused scan stays as it is, so the first field at fault decides;
 -- what is read after a refusal is 0 and means nothing.
-use Rattle.std.specs.Prelude.{ℕ, zero, suc, List, [], ◌∷◌, ◌++◌, Bool, cond, ◌&&◌, leb}
+use Rattle.std.specs.Prelude.{ℕ, zero, suc, List, [], ◌∷◌, ◌++◌, Bool, cond, ◌&&◌, leb, Option, Some, None}
 use Rattle.bits.specs.Bits.{place_of, cursor_at, field_at, filled_at, ends_at}
-use Rattle.bits.specs.declared.FieldRead as FieldRead
+use Rattle.bits.specs.declared.Cursor.{Cursor}
+use Rattle.fields.specs.declared.Fault.{Fault}
 use Rattle.fields.specs.declared.Fault.TheVariants.{Truncated, Tail, Range}
-use Rattle.fields.specs.declared.Scan.{Scan}
-use Rattle.fields.specs.declared.Scan.TheVariants.{At, Refused}
-use Rattle.fields.specs.declared.Verdict.{Verdict}
-use Rattle.fields.specs.declared.Verdict.TheVariants.{Sound, Faulty}
+
+-- A scan of a sheet: at a place, or refused for good.
+pub data Scan : Type 0 where
+  At : Cursor → Scan
+  Refused : Fault → ℕ → Scan
+
+-- What is to be said of a field's value.
+pub data Verdict : Type 0 where
+  Sound : Verdict
+  Faulty : Fault → Verdict
 
 -- Where a scan stands, or was refused.
 abbrev pub place : Scan → ℕ
@@ -51,9 +58,9 @@ abbrev pub settled : ℕ → Verdict → ℕ → Scan → ℕ × Scan
 settled p Sound x c = (x, c)
 settled p (Faulty f) x c = (0, Refused f p)
 
-abbrev pub scanned : ℕ → (ℕ → Verdict) → FieldRead.FieldRead → ℕ × Scan
-scanned p verdict FieldRead.TheVariants.Truncated = (0, Refused Truncated p)
-scanned p verdict (FieldRead.TheVariants.Value x c) = settled p (verdict x) x (At c)
+abbrev pub scanned : ℕ → (ℕ → Verdict) → Option (ℕ × Cursor) → ℕ × Scan
+scanned p verdict None = (0, Refused Truncated p)
+scanned p verdict (Some (x, c)) = settled p (verdict x) x (At c)
 
 -- What follows the last field is refused there if it is not as wanted.
 abbrev pub tailed : (ℕ → Bool) → Scan → Scan

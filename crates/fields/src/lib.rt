@@ -1,18 +1,17 @@
-// What a sheet is read with: a scan that goes through its fields, and a verdict on each.
+// What a sheet is read with: a reader that goes through its fields, and the flaw that stops it.
 #![tactic(auto)]
 
-ghost use Rattle.std.specs.Prelude.{◌≡◌, cond, ◌+◌, ◌-◌, ◌<◌, ◌≤◌, ◌^◌};
+ghost use Rattle.std.specs.Prelude.{◌≡◌, ◌-◌, ◌<◌, ◌≤◌, ◌^◌, MatchResult, true, false};
 ghost use Rattle.bits.specs.Bits.{place_of};
 ghost use Rattle.fields.specs.declared.Fault.TheVariants.{Tail};
-ghost use Rattle.fields.specs.declared.Scan.TheVariants.{At, Refused};
-ghost use Rattle.fields.specs.Reading.{start, place, free, within, field, filled, ended};
-ghost use Rattle.fields.specs.Inside.Promises.{ReadsWide, Reads, settling};
+ghost use Rattle.fields.specs.Reading.{free, within, field, filled, ended};
+ghost use Rattle.fields.specs.Inside.Promises.{Opens, Reads, UpTo, Closes, Settles, verdict_of};
 
-use bits::{Cursor, FieldRead};
+use bits::Cursor;
 
 // What can be wrong with a sheet: its bytes end in a field ("torn"), go on after the last ("loose tail"), a value is out of range
 // ("off the scale"), a pattern is wrongly drawn ("misdrawn"), or there is one node or pattern too many ("overgrown").
-#[derive(Clone, Copy)]
+#[derive(Clone, Copy, Debug, PartialEq, Eq)]
 pub enum Fault {
     Truncated,
     Tail,
@@ -21,161 +20,124 @@ pub enum Fault {
     Size,
 }
 
-// A scan of a sheet: at a place, or refused for good.
+// What is wrong with a sheet, and where: the number of a bit.
+#[derive(Clone, Copy, Debug, PartialEq, Eq)]
+pub struct Flaw {
+    pub fault: Fault,
+    pub place: usize,
+}
+
+// A sheet that is being read: its bytes, and where the next field starts.
 #[derive(Clone, Copy)]
-pub enum Scan {
-    At(Cursor),
-    Refused(Fault, usize),
+pub struct Sheet<'a> {
+    pub bytes: &'a [u8],
+    pub at: Cursor,
 }
 
-// What is to be said of a field's value.
-#[derive(Clone, Copy)]
-pub enum Verdict {
-    Sound,
-    Faulty(Fault),
-}
-
-// A field's value, 0 after a refusal, and the scan after it.
-#[derive(Clone, Copy)]
-pub struct Got {
-    pub value: u32,
-    pub scan: Scan,
-}
-
-// The same of a field of up to 64 bits.
-#[derive(Clone, Copy)]
-pub struct GotWide {
-    pub value: u64,
-    pub scan: Scan,
-}
-
-// The scan of a whole sheet: at its first bit.
-pub fn begin() -> Scan
-    ensures { (result ≡ start) × (place result ≡ 0) }
-{
-    Scan::At(Cursor::new())
-}
-
-// Where a scan stands, or was refused.
-pub fn place_of(scan: Scan) -> usize
-    requires { place scan < 2 ^ 32 }
-    ensures { result ≡ place scan }
-{
-    match scan {
-        Scan::At(c) => c.place(),
-        Scan::Refused(_, at) => at,
+impl<'a> Sheet<'a> {
+    // The sheet, at its first bit.
+    pub fn open(bytes: &'a [u8]) -> Self
+        ensures { Opens bytes.now result }
+    {
+        Sheet {
+            bytes,
+            at: Cursor::new(),
+        }
     }
-}
 
-// A field of up to 24 bits, of any value.
-pub fn raw(scan: Scan, s: &[u8], width: usize) -> Got
-    requires { (place scan < 2 ^ 32) × (width ≤ 24) }
-    ensures { Reads result (field s.now width free scan) (place scan + width) (2 ^ width - 1) }
-{
-    let Scan::At(c) = scan else {
-        return Got { value: 0, scan };
-    };
-    let FieldRead::Value(value, next) = c.field(s, width) else {
-        return Got {
-            value: 0,
-            scan: Scan::Refused(Fault::Truncated, c.place()),
+    // A field of up to 24 bits, of any value.
+    pub fn raw(&mut self, width: usize) -> Result<u32, Flaw>
+        requires { (place_of self.old.at < 2 ^ 32) × (width ≤ 24) }
+        ensures { Reads self.old self.new (λ s. field s width free) (UpTo (2 ^ width - 1)) width result }
+    {
+        let Some((value, next)) = self.at.field(self.bytes, width) else {
+            return Err(Flaw::at(self.at, Fault::Truncated));
         };
-    };
-    Got {
-        value: value as u32,
-        scan: Scan::At(next),
+        self.at = next;
+        Ok(value as u32)
     }
-}
 
-// The same of a field of up to 64 bits. A field of up to 24 is not read through it: that made the judges of sheets slower.
-pub fn raw_wide(scan: Scan, s: &[u8], width: usize) -> GotWide
-    requires { (place scan < 2 ^ 32) × (width ≤ 64) }
-    ensures { ReadsWide result (field s.now width free scan) (place scan + width) (2 ^ width - 1) }
-{
-    let Scan::At(c) = scan else {
-        return GotWide { value: 0, scan };
-    };
-    let FieldRead::Value(value, next) = c.field(s, width) else {
-        return GotWide {
-            value: 0,
-            scan: Scan::Refused(Fault::Truncated, c.place()),
+    // The same of a field of up to 64 bits. A field of up to 24 is not read through it: that made the judges of sheets slower.
+    pub fn raw_wide(&mut self, width: usize) -> Result<u64, Flaw>
+        requires { (place_of self.old.at < 2 ^ 32) × (width ≤ 64) }
+        ensures { Reads self.old self.new (λ s. field s width free) (UpTo (2 ^ width - 1)) width result }
+    {
+        let Some((value, next)) = self.at.field(self.bytes, width) else {
+            return Err(Flaw::at(self.at, Fault::Truncated));
         };
-    };
-    GotWide {
-        value,
-        scan: Scan::At(next),
+        self.at = next;
+        Ok(value)
+    }
+
+    // A field with a range.
+    pub fn ranged(&mut self, width: usize, least: u32, most: u32) -> Result<u32, Flaw>
+        requires { (place_of self.old.at < 2 ^ 32) × (width ≤ 24) }
+        ensures { Reads self.old self.new (λ s. field s width (within least most)) (UpTo most) width result }
+    {
+        let before = self.at;
+        let value = self.raw(width)?;
+        settle(before, in_range(least, most, value))?;
+        Ok(value)
+    }
+
+    // The rest of the byte after a sheet's last field: zero bits.
+    pub fn fill(&self) -> Result<(), Flaw>
+        requires { place_of self.now.at < 2 ^ 32 }
+        ensures { Closes (filled self.now.bytes.now) self.now.at result }
+    {
+        tail(self.at, self.at.fills(self.bytes))
+    }
+
+    // The end of a sheet: zero bits to the byte, and no byte more.
+    pub fn end(&self) -> Result<(), Flaw>
+        requires { place_of self.now.at < 2 ^ 32 }
+        ensures { Closes (ended self.now.bytes.now) self.now.at result }
+    {
+        tail(self.at, self.at.ends(self.bytes))
     }
 }
 
-// The field `got`, read at `before`, with a verdict on its value.
-pub fn settle(before: Scan, got: Got, verdict: Verdict) -> Got
-    requires { place before < 2 ^ 32 }
-    ensures { result ≡ settling before got verdict }
-{
-    let after = got.scan;
-    let Scan::At(_) = after else {
-        return got;
-    };
-    let Verdict::Faulty(fault) = verdict else {
-        return got;
-    };
-    Got {
-        value: 0,
-        scan: Scan::Refused(fault, place_of(before)),
+impl Flaw {
+    // What is wrong at a cursor.
+    pub fn at(at: Cursor, fault: Fault) -> Self
+        requires { place_of at < 2 ^ 32 }
+        ensures { result ≡ record { fault = fault; place = place_of at } }
+    {
+        Flaw {
+            fault,
+            place: at.place(),
+        }
     }
 }
 
 // Whether a value lies between two bounds.
-pub fn in_range(least: u32, most: u32, value: u32) -> Verdict
-    ensures { result ≡ within least most value }
+pub fn in_range(least: u32, most: u32, value: u32) -> Result<(), Fault>
+    ensures { verdict_of result ≡ within least most value }
 {
-    if value < least {
-        return Verdict::Faulty(Fault::Range);
+    if value < least || most < value {
+        return Err(Fault::Range);
     }
-    if most < value {
-        return Verdict::Faulty(Fault::Range);
-    }
-    Verdict::Sound
+    Ok(())
 }
 
-// A field with a range.
-pub fn ranged(scan: Scan, s: &[u8], width: usize, least: u32, most: u32) -> Got
-    requires { (place scan < 2 ^ 32) × (width ≤ 24) }
-    ensures { Reads result (field s.now width (within least most) scan) (place scan + width) most }
+// A verdict on the value of a field that was read at `before`.
+pub fn settle(before: Cursor, verdict: Result<(), Fault>) -> Result<(), Flaw>
+    requires { place_of before < 2 ^ 32 }
+    ensures { Settles before (verdict_of verdict) result }
 {
-    let got = raw(scan, s, width);
-    settle(scan, got, in_range(least, most, got.value))
+    match verdict {
+        Ok(()) => Ok(()),
+        Err(fault) => Err(Flaw::at(before, fault)),
+    }
 }
 
-// What follows a sheet's last field, at `c`, if it is as wanted.
-fn tail(c: Cursor, wanted: bool) -> Scan
-    requires { place_of c < 2 ^ 32 }
-    ensures { result ≡ cond wanted (At c) (Refused Tail (place_of c)) }
+// What follows a sheet's last field, at a cursor, if it is as wanted.
+fn tail(at: Cursor, wanted: bool) -> Result<(), Flaw>
+    requires { place_of at < 2 ^ 32 }
+    ensures { MatchResult result (λ _. wanted ≡ true) (λ e. (wanted ≡ false) × (e ≡ record { fault = Tail; place = place_of at })) }
 {
     if wanted {
-        return Scan::At(c);
+        return Ok(());
     }
-    Scan::Refused(Fault::Tail, c.place())
-}
-
-// The rest of the byte after a sheet's last field.
-pub fn fill(scan: Scan, s: &[u8]) -> Scan
-    requires { place scan < 2 ^ 32 }
-    ensures { result ≡ filled s.now scan }
-{
-    let Scan::At(c) = scan else {
-        return scan;
-    };
-    tail(c, c.fills(s))
-}
-
-// The end of a sheet.
-pub fn end(scan: Scan, s: &[u8]) -> Scan
-    requires { place scan < 2 ^ 32 }
-    ensures { result ≡ ended s.now scan }
-{
-    let Scan::At(c) = scan else {
-        return scan;
-    };
-    tail(c, c.ends(s))
+    Err(Flaw::at(at, Fault::Tail))
 }

@@ -11,7 +11,7 @@ use lib.Seq.{take-add}
 use borrow.Table.Steps.{cases}
 use borrow.Author.Tests.{eqb-true, eq-eqb}
 use Rattle.bits.specs.Bits.{bit_at, value_at, ends_at}
-use Rattle.fields.specs.declared.Scan.TheVariants.{At, Refused}
+use Rattle.fields.specs.Reading.{At, Refused}
 use Rattle.fields.specs.Reading.{start, Live}
 use Rattle.fields.specs.Answer.{Answer, refused, refused_in, success, said, ◌>>=◌, on_success}
 use Rattle.sheets_rules.specs.Model.{Library, Pattern, patterns}

@@ -16,8 +16,8 @@ use Rattle.bits.proofs.Laws.{place_at}
 use Rattle.bits.proofs.Words.{found, none}
 use Rattle.bits.proofs.Whole.{ends_says}
 use Rattle.fields.specs.declared.Fault.TheVariants.{Truncated, Tail}
-use Rattle.fields.specs.declared.Scan.{Scan}
-use Rattle.fields.specs.declared.Scan.TheVariants.{At, Refused}
+use Rattle.fields.specs.Reading.{Scan}
+use Rattle.fields.specs.Reading.{At, Refused}
 use Rattle.fields.specs.Reading.{start, times, free, scanned, field, ended}
 use Rattle.functions_rules.specs.Function.{settings}
 use Rattle.functions_rules.specs.FunctionSheet.{function_sheet}

@@ -7,7 +7,7 @@ use native.Mathlib.Nat.{eq-or-lt_of_le}
 use native.Mathlib.Omega.{arith}
 use lib.ListN.{length, get_or, take, get_or-append}
 use lib.Seq.{get_or-take, get_or_at}
-use Rattle.fields.specs.declared.Scan.{Scan}
+use Rattle.fields.specs.Reading.{Scan}
 use Rattle.fields.specs.Reading.{times, field, free}
 use Rattle.fields.proofs.Laws.{length_times, free_small}
 use Rattle.functions_rules.specs.Function.{settings}

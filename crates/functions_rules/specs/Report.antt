@@ -1,7 +1,7 @@
 -- What the judge of functions answers, from the bytes of a library and of a function sheet.
 use Rattle.std.specs.Prelude.{ℕ, suc, ◌+◌, Bool, cond, List, [], ◌∷◌, length, get_or}
 use Rattle.fields.specs.declared.Fault.{Fault}
-use Rattle.fields.specs.declared.Scan.{Scan}
+use Rattle.fields.specs.Reading.{Scan}
 use Rattle.fields.specs.Reading.{start}
 use Rattle.fields.specs.Answer.{Answer, refused, success, said, ◌>>=◌}
 use Rattle.sheets_rules.specs.Model.{Library, Pattern, patterns}

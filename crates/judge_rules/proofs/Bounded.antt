@@ -5,8 +5,8 @@ use mathlib.Core.List.{List}
 use native.Mathlib.Omega.{arith}
 use borrow.Table.Steps.{cases}
 use Rattle.bits.specs.Bits.{ends_at}
-use Rattle.fields.specs.declared.Scan.{Scan}
-use Rattle.fields.specs.declared.Scan.TheVariants.{At, Refused}
+use Rattle.fields.specs.Reading.{Scan}
+use Rattle.fields.specs.Reading.{At, Refused}
 use Rattle.fields.specs.Reading.{start, place, times, free, field}
 use Rattle.fields.specs.Answer.{Answer, refused_in, success, ◌>>=◌, Bounded}
 use Rattle.fields.proofs.Answer.{answer-cases, after_success, after_refused, said_item}

@@ -11,8 +11,8 @@ use lib.Seq.{length-take-le}
 use borrow.Table.Steps.{cases}
 use borrow.Author.Tests.{lt-ltb, le-ltb}
 use Rattle.fields.specs.declared.Fault.{Fault}
-use Rattle.fields.specs.declared.Scan.{Scan}
-use Rattle.fields.specs.declared.Scan.TheVariants.{At, Refused}
+use Rattle.fields.specs.Reading.{Scan}
+use Rattle.fields.specs.Reading.{At, Refused}
 use Rattle.fields.specs.Reading.{Live, start}
 use Rattle.fields.specs.Answer.{Answer, refused, refused_in, success, ◌>>=◌, places, numbers}
 use Rattle.fields.proofs.Answer.{answer-cases, after_success}

@@ -14,8 +14,8 @@ use Rattle.bits.proofs.Laws.{place_at}
 use Rattle.bits.proofs.Words.{found, none}
 use Rattle.fields.specs.declared.Fault.{Fault}
 use Rattle.fields.specs.declared.Fault.TheVariants.{Truncated, Tail}
-use Rattle.fields.specs.declared.Scan.{Scan}
-use Rattle.fields.specs.declared.Scan.TheVariants.{At, Refused}
+use Rattle.fields.specs.Reading.{Scan}
+use Rattle.fields.specs.Reading.{At, Refused}
 use Rattle.fields.specs.Reading.{start, place, times, free, scanned, field, ended, Live}
 use Rattle.covers.specs.CoverSheet.{area_width, arrival_width, match_count_width, node_width, pattern_width, crossing_width, placed_read, cover_read}
 use Rattle.judge_rules.specs.Places.{match_widths, field_widths, first_after, TornFrom, Torn, BadTail}

@@ -6,8 +6,8 @@ use mathlib.Core.List.{List, [], ◌∷◌}
 use lib.ListN.{get_or}
 use Rattle.bits.specs.Bits.{cursor_at, ends_at}
 use Rattle.bits.specs.declared.Cursor.{Cursor}
-use Rattle.fields.specs.declared.Scan.{Scan}
-use Rattle.fields.specs.declared.Scan.TheVariants.{At}
+use Rattle.fields.specs.Reading.{Scan}
+use Rattle.fields.specs.Reading.{At}
 use Rattle.fields.specs.Reading.{Live, times, start, free, field}
 use Rattle.fields.specs.Written.{widths}
 use Rattle.fields.proofs.Laws.{length_times, tailed_live}

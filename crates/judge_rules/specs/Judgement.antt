@@ -1,6 +1,6 @@
 -- The whole answer of the judge of covers, from the bytes of a library, a tree and a cover sheet: read, walk, figures.
 use Rattle.std.specs.Prelude.{ℕ, ◌+◌, ◌*◌, ◌-◌, ◌/◌, ◌%◌, ◌^◌, ◌≤◌, ◌<◌, ◌≡◌, cond, List, ltb}
-use Rattle.fields.specs.declared.Scan.{Scan}
+use Rattle.fields.specs.Reading.{Scan}
 use Rattle.fields.specs.Reading.{start}
 use Rattle.fields.specs.Answer.{Answer, refused, refused_in, success, said, ◌>>=◌, places, numbers, word}
 use Rattle.sheets_rules.specs.Model.{Library, Tree}

@@ -12,8 +12,8 @@ use lib.Seq.{length-take-le, take-append_seam, drop-append_seam}
 use borrow.Rule.Slice.PartMut.{mid_of, put_mid, mid_len, drop_put}
 use Rattle.fields.specs.declared.Fault.{Fault}
 use Rattle.fields.specs.declared.Fault.TheVariants.{Truncated, Tail, Range, Drawing, Size}
-use Rattle.fields.specs.declared.Scan.{Scan}
-use Rattle.fields.specs.declared.Scan.TheVariants.{At, Refused}
+use Rattle.fields.specs.Reading.{Scan}
+use Rattle.fields.specs.Reading.{At, Refused}
 use Rattle.fields.specs.Reading.{start}
 use Rattle.fields.specs.Answer.{Answer, refused_in, success, said, in_item, ◌>>=◌, on_success, Bounded}
 use Rattle.fields.proofs.Answer.{after_success, after_refused}

@@ -9,8 +9,8 @@ use lib.Dec.{eqb, ltb}
 use lib.ListN.{length, take, drop, get_elem?}
 use Rattle.fields.specs.declared.Fault.{Fault}
 use Rattle.fields.specs.declared.Refusal.{Refusal}
-use Rattle.fields.specs.declared.Scan.{Scan}
-use Rattle.fields.specs.declared.Scan.TheVariants.{At, Refused}
+use Rattle.fields.specs.Reading.{Scan}
+use Rattle.fields.specs.Reading.{At, Refused}
 use Rattle.fields.specs.Reading.{start}
 use Rattle.fields.specs.Answer.{Answer, refused_in, refusal, success, in_item, ◌>>=◌, on_success, Bounded}
 use Rattle.sheets_rules.specs.declared.LibraryRecord.{LibraryRecord}

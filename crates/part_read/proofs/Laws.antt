@@ -12,8 +12,8 @@ use lib.Seq.{get_or-set_same, get_or-set_other, set_out}
 use Rattle.bits.specs.declared.Cursor.{Cursor}
 use Rattle.bits.specs.Bits.{place_of, bytes_to, filled_at}
 use Rattle.fields.specs.declared.Fault.{Fault}
-use Rattle.fields.specs.declared.Scan.{Scan}
-use Rattle.fields.specs.declared.Scan.TheVariants.{At, Refused}
+use Rattle.fields.specs.Reading.{Scan}
+use Rattle.fields.specs.Reading.{At, Refused}
 use Rattle.fields.specs.declared.Got.{Got}
 use Rattle.fields.specs.Reading.{start, place, times, free, within, field, filled}
 use Rattle.fields.specs.Inside.Promises.{Reads}

@@ -11,8 +11,8 @@ use lib.Seq.{drop-append_seam}
 use Rattle.bits.specs.Bits.{place_of, ends_at}
 use Rattle.bits.proofs.Whole.{ends_says}
 use Rattle.fields.specs.declared.Fault.{Fault}
-use Rattle.fields.specs.declared.Scan.{Scan}
-use Rattle.fields.specs.declared.Scan.TheVariants.{At, Refused}
+use Rattle.fields.specs.Reading.{Scan}
+use Rattle.fields.specs.Reading.{At, Refused}
 use Rattle.fields.specs.Reading.{start, within, field, Live}
 use Rattle.fields.specs.Answer.{Answer, success, said, in_item, ◌>>=◌}
 use Rattle.fields.proofs.Answer.{answer_apart, after_success, said_read}

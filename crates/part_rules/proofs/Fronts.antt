@@ -10,9 +10,9 @@ use borrow.Table.Steps.{cases}
 use borrow.Author.Tests.{le-leb, leb-true, eqb-true}
 use Rattle.bits.specs.Bits.{bit_at, value_at, place_of, field_at, bytes_to, rest_of, filled_at, ends_at}
 use Rattle.bits.proofs.Whole.{ends_says}
-use Rattle.fields.specs.declared.Scan.{Scan}
-use Rattle.fields.specs.declared.Scan.TheVariants.{At, Refused}
-use Rattle.fields.specs.declared.Verdict.{Verdict}
+use Rattle.fields.specs.Reading.{Scan}
+use Rattle.fields.specs.Reading.{At, Refused}
+use Rattle.fields.specs.Reading.{Verdict}
 use Rattle.fields.specs.Reading.{Reader, done, ◌>>=◌, times, within, free, field, scanned, tailed, Live}
 use Rattle.shapes_rules.specs.declared.Rules.{Rules}
 use Rattle.shapes_rules.specs.Shape.{plain_leaf, Shape, leaf, inv, nand, symbols, inv_symbol, nand_symbol}

@@ -7,10 +7,9 @@ use native.Mathlib.Omega.{arith}
 use native.Mathlib.Numerals.{add-one}
 use lib.ListN.{length, take, set, length-append}
 use lib.Seq.{length-take-le, take-suc-set}
-use Rattle.fields.specs.declared.Got.{Got}
 use Rattle.shapes_rules.specs.declared.Rules.{Rules}
-use Rattle.fields.specs.declared.Scan.{Scan}
-use Rattle.fields.specs.declared.Scan.TheVariants.{At, Refused}
+use Rattle.fields.specs.Reading.{Scan}
+use Rattle.fields.specs.Reading.{At, Refused}
 use Rattle.fields.specs.Reading.{Reader, place, field, Live}
 use Rattle.shapes_rules.specs.Shape.{Shape, symbols}
 use Rattle.shapes_rules.specs.Drawing.{leaf_verdict, leaf_node, driven_node, pair, branch, node}
@@ -41,21 +40,21 @@ leaf_refused s rules scan n l r h e = rw (← e) (record { scan = refl; symbols 
 gate_laid : {n v : ℕ} {l l' ss : List ℕ} {r : Reached} {after : Scan} → Laid (n + 1) (set l n v) l' r after ss → Laid n l l' r after (v ∷ ss)
 gate_laid {n} h = record { scan = h.scan; symbols = λ x. rw (add-one n) at (h.symbols x); next = λ x. omega (arith, h.next x) }
 
-module _ (s : List ℕ) (rules : Rules) (scan : Scan) (n : ℕ) (l : List ℕ) (few : n ≤ rules.nodes) (long : rules.nodes ≤ length l) (got : Got) (code : Coded s rules scan n got) where
+module _ (s : List ℕ) (rules : Rules) (scan : Scan) (n : ℕ) (l : List ℕ) (few : n ≤ rules.nodes) (long : rules.nodes ≤ length l) (code : ℕ) (after : Scan) (read : Coded s rules scan n code after) where
   -- A node is its code and what follows it, at every depth that is enough.
   deep : (l' : List ℕ) (r : Reached) →
-      ((d : ℕ) → rules.nodes - n < suc d → let x = branch s rules (node s rules d) (take n l) got.value got.scan in Laid n l l' r x.1 (symbols x.0)) →
+      ((d : ℕ) → rules.nodes - n < suc d → let x = branch s rules (node s rules d) (take n l) code after in Laid n l l' r x.1 (symbols x.0)) →
       (depth : ℕ) → rules.nodes - n < depth → let x = node s rules depth (take n l) scan in Laid n l l' r x.1 (symbols x.0)
   unfolding node
   deep l' r below zero k = absurd (omega arith)
-  deep l' r below (suc d) k = rw (length-take-le n l (omega arith), ← code.reads.value, ← code.reads.scan) (below d k)
+  deep l' r below (suc d) k = rw (length-take-le n l (omega arith), ← (ap (λ (x : ℕ × Scan). x.0) read.reads), ← (ap (λ (x : ℕ × Scan). x.1) read.reads)) (below d k)
 
   -- A code that was refused.
-  pub node_refused : (Live got.scan → ⊥) → NodeRead s rules scan n l l (record { scan = got.scan; next = n })
+  pub node_refused : (Live after → ⊥) → NodeRead s rules scan n l l (record { scan = after; next = n })
   unfolding branch leaf_node
   node_refused h = record {
-    laid = deep l (record { scan = got.scan; next = n }) (λ d k. rw none (record { scan = sym (refused got.scan h); symbols = λ x. absurd (h x); next = λ x. absurd (h x) }));
-    went = record { from = omega arith; upto = few; far = omega (arith, code.stays h); near = λ x. absurd (h x) };
+    laid = deep l (record { scan = after; next = n }) (λ d k. rw none (record { scan = sym (refused after h); symbols = λ x. absurd (h x); next = λ x. absurd (h x) }));
+    went = record { from = omega arith; upto = few; far = omega (arith, read.stays h); near = λ x. absurd (h x) };
   }
     where
       refused : (c : Scan) → (Live c → ⊥) → (leaf_node s rules (take n l) c).1 ≡ c
@@ -63,48 +62,48 @@ module _ (s : List ℕ) (rules : Rules) (scan : Scan) (n : ℕ) (l : List ℕ) (
       refused (Refused f p) z = refl
 
       -- a code that is not 0 was not refused
-      none : got.value ≡ 0
-      none = elim (dec_lt 0 got.value) [ yes g ↦ absurd (h (code.gate g)) | no g ↦ omega arith ]
+      none : code ≡ 0
+      none = elim (dec_lt 0 code) [ yes g ↦ absurd (h (read.gate g)) | no g ↦ omega arith ]
 
   -- A leaf, driven or not, by what follows its code k.
-  leaf_node_lem : (k bits : ℕ) (read : List ℕ → Reader Shape) → ((d : ℕ) → branch s rules (node s rules d) (take n l) k got.scan ≡ read (take n l) got.scan) → bits ≤ 28 →
-      (l' : List ℕ) (r : Reached) → got.value ≡ k → Live got.scan → LeafRead s rules got.scan n l l' r bits read → NodeRead s rules scan n l l' r
-  leaf_node_lem k bits read eb few_bits l' r e a h =
-      let room : n < rules.nodes = code.room a in record {
+  leaf_node_lem : (k bits : ℕ) (reads : List ℕ → Reader Shape) → ((d : ℕ) → branch s rules (node s rules d) (take n l) k after ≡ reads (take n l) after) → bits ≤ 28 →
+      (l' : List ℕ) (r : Reached) → code ≡ k → Live after → LeafRead s rules after n l l' r bits reads → NodeRead s rules scan n l l' r
+  leaf_node_lem k bits reads eb few_bits l' r e a h =
+      let room : n < rules.nodes = read.room a in record {
         laid = deep l' r (λ d j. rw (e, eb d) h.laid);
         went = record { from = h.from; upto = omega arith; far = omega arith; near = λ z. omega (arith, h.went z) };
       }
 
   module _ (l' : List ℕ) (r : Reached) where
-    pub node_leaf : got.value ≡ 0 → Live got.scan → LeafRead s rules got.scan n l l' r 20 (leaf_node s rules) → NodeRead s rules scan n l l' r
+    pub node_leaf : code ≡ 0 → Live after → LeafRead s rules after n l l' r 20 (leaf_node s rules) → NodeRead s rules scan n l l' r
     unfolding branch
     node_leaf = leaf_node_lem 0 20 (leaf_node s rules) (λ d. refl) (omega arith) l' r
 
-    pub node_driven : got.value ≡ 3 → Live got.scan → LeafRead s rules got.scan n l l' r 28 (driven_node s rules) → NodeRead s rules scan n l l' r
+    pub node_driven : code ≡ 3 → Live after → LeafRead s rules after n l l' r 28 (driven_node s rules) → NodeRead s rules scan n l l' r
     unfolding branch
     node_driven = leaf_node_lem 3 28 (driven_node s rules) (λ d. refl) (omega arith) l' r
 
   -- A gate and what is below it, which was read from the scan after the code.
-  gate_went : (r : Reached) → 0 < got.value → Went rules got.scan (n + 1) r → Went rules scan n r
+  gate_went : (r : Reached) → 0 < code → Went rules after (n + 1) r → Went rules scan n r
   gate_went r g h =
-      let in_room : n < rules.nodes = code.room (code.gate g) in record { from = omega arith; upto = h.upto; far = omega arith; near = λ x. omega (arith, h.near x) }
+      let in_room : n < rules.nodes = read.room (read.gate g) in record { from = omega arith; upto = h.upto; far = omega arith; near = λ x. omega (arith, h.near x) }
 
   -- The symbols before what is below a gate.
-  gate_seen : (v : ℕ) → 0 < got.value → take (n + 1) (set l n v) ≡ take n l ++ (v ∷ [])
-  gate_seen v g = rw add-one (take-suc-set l n v (omega (arith, code.room (code.gate g))))
+  gate_seen : (v : ℕ) → 0 < code → take (n + 1) (set l n v) ≡ take n l ++ (v ∷ [])
+  gate_seen v g = rw add-one (take-suc-set l n v (omega (arith, read.room (read.gate g))))
 
   module _ (l' : List ℕ) (r : Reached) where
-    pub node_inv : got.value ≡ 1 → NodeRead s rules got.scan (n + 1) (set l n 0) l' r → NodeRead s rules scan n l l' r
+    pub node_inv : code ≡ 1 → NodeRead s rules after (n + 1) (set l n 0) l' r → NodeRead s rules scan n l l' r
     unfolding branch symbols
     node_inv e h = record {
-      laid = deep l' r (λ d k. rw e (gate_laid (rw (gate_seen 0 (omega arith)) at (h.laid d (omega (arith, code.room (code.gate (omega arith))))))));
+      laid = deep l' r (λ d k. rw e (gate_laid (rw (gate_seen 0 (omega arith)) at (h.laid d (omega (arith, read.room (read.gate (omega arith))))))));
       went = gate_went r (omega arith) h.went;
     }
 
-    pub node_nand : got.value ≡ 2 → PairRead s rules got.scan (n + 1) (set l n 1) l' r → NodeRead s rules scan n l l' r
+    pub node_nand : code ≡ 2 → PairRead s rules after (n + 1) (set l n 1) l' r → NodeRead s rules scan n l l' r
     unfolding branch symbols
     node_nand e h = record {
-      laid = deep l' r (λ d k. rw e (gate_laid (rw (gate_seen 1 (omega arith)) at (h.laid d (omega (arith, code.room (code.gate (omega arith))))))));
+      laid = deep l' r (λ d k. rw e (gate_laid (rw (gate_seen 1 (omega arith)) at (h.laid d (omega (arith, read.room (read.gate (omega arith))))))));
       went = gate_went r (omega arith) h.went;
     }
 

@@ -8,10 +8,10 @@ use lib.ListN.{length, length-append}
 use lib.Dec.{leb, eqb}
 use borrow.Author.Tests.{leb-true, leb-false}
 use Rattle.shapes_rules.specs.declared.Rules.{Rules}
-use Rattle.fields.specs.declared.Scan.{Scan}
-use Rattle.fields.specs.declared.Scan.TheVariants.{At, Refused}
+use Rattle.fields.specs.Reading.{Scan}
+use Rattle.fields.specs.Reading.{At, Refused}
 use Rattle.fields.specs.declared.Fault.TheVariants.{Range, Drawing, Size}
-use Rattle.fields.specs.declared.Verdict.TheVariants.{Sound, Faulty}
+use Rattle.fields.specs.Reading.{Sound, Faulty}
 use Rattle.shapes_rules.specs.Shape.{Shape, leaf, inv, nand, size, leaves, nands, symbols, sizes, leaf_symbol, pin_symbol, plain}
 use Rattle.shapes_rules.specs.Drawing.{elem, leaf_verdict, leaf_node, branch, node, code_verdict}
 use Rattle.fields.specs.Reading.{Live}

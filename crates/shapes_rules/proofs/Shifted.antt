@@ -8,15 +8,15 @@ use lib.ListN.{length, drop}
 use lib.Dec.{leb}
 use borrow.Author.Tests.{lt-leb}
 use Rattle.bits.specs.declared.Cursor.{Cursor}
-use Rattle.bits.specs.declared.FieldRead.TheVariants.{Value, Truncated}
+use Rattle.std.specs.Prelude.{Some, None}
 use Rattle.bits.specs.Bits.{place_of, cursor_at, value_at, field_at}
 use Rattle.bits.proofs.Laws.{place_at}
 use Rattle.bits.proofs.Words.{value_drop, fits_drop}
 use Rattle.fields.specs.declared.Fault.TheVariants.{Truncated as TruncatedFault}
-use Rattle.fields.specs.declared.Scan.{Scan}
-use Rattle.fields.specs.declared.Scan.TheVariants.{At, Refused}
-use Rattle.fields.specs.declared.Verdict.{Verdict}
-use Rattle.fields.specs.declared.Verdict.TheVariants.{Sound, Faulty}
+use Rattle.fields.specs.Reading.{Scan}
+use Rattle.fields.specs.Reading.{At, Refused}
+use Rattle.fields.specs.Reading.{Verdict}
+use Rattle.fields.specs.Reading.{Sound, Faulty}
 use Rattle.fields.specs.Reading.{Reader, field, free, scanned, settled}
 use Rattle.shapes_rules.specs.declared.Rules.{Rules}
 use Rattle.shapes_rules.specs.Shape.{plain, Shape, leaf, inv, nand, symbols}
@@ -47,13 +47,13 @@ module _ (s : List ℕ) (b : ℕ) (few : b ≤ length s) where
           ap (λ (i : ℕ). (x, At (cursor_at i))) there
       settle (Faulty f) x = refl
 
-      found : scanned (8 * b + p) v (cond (leb (8 * b + p + w) (8 * length s)) (Value (value_at s (8 * b + p) w) (cursor_at (8 * b + p + w))) Truncated)
-          ≡ scanned (8 * b + p) v (cond (leb (p + w) (8 * length t)) (Value (value_at t p w) (cursor_at (8 * b + p + w))) Truncated)
+      found : scanned (8 * b + p) v (cond (leb (8 * b + p + w) (8 * length s)) (Some (value_at s (8 * b + p) w, cursor_at (8 * b + p + w))) None)
+          ≡ scanned (8 * b + p) v (cond (leb (p + w) (8 * length t)) (Some (value_at t p w, cursor_at (8 * b + p + w))) None)
       found =
           let reach : leb (8 * b + p + w) (8 * length s) ≡ leb (p + w) (8 * length t) = ap (λ (i : ℕ). leb i (8 * length s)) (omega arith) ∙ fits_drop s b (p + w) few in
-          ap₂ (λ (q : Bool) (x : ℕ). scanned (8 * b + p) v (cond q (Value x (cursor_at (8 * b + p + w))) Truncated)) reach (value_drop s b p w)
+          ap₂ (λ (q : Bool) (x : ℕ). scanned (8 * b + p) v (cond q (Some (x, cursor_at (8 * b + p + w))) None)) reach (value_drop s b p w)
 
-      go : (q : Bool) → scanned (8 * b + p) v (cond q (Value (value_at t p w) (cursor_at (8 * b + p + w))) Truncated) ≡ shifted b (scanned p v (cond q (Value (value_at t p w) (cursor_at (p + w))) Truncated))
+      go : (q : Bool) → scanned (8 * b + p) v (cond q (Some (value_at t p w, cursor_at (8 * b + p + w))) None) ≡ shifted b (scanned p v (cond q (Some (value_at t p w, cursor_at (p + w))) None))
       go true = settle (v (value_at t p w)) (value_at t p w)
       go false = refl
 

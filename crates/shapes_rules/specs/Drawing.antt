@@ -4,8 +4,8 @@
 use Rattle.std.specs.Prelude.{ℕ, zero, suc, ◌+◌, List, [], ◌∷◌, ◌++◌, Bool, true, false, cond, ◌&&◌, ◌||◌, length, leb, eqb}
 use Rattle.fields.specs.declared.Fault.TheVariants.{Range, Drawing, Size}
 use Rattle.shapes_rules.specs.declared.Rules.{Rules}
-use Rattle.fields.specs.declared.Verdict.{Verdict}
-use Rattle.fields.specs.declared.Verdict.TheVariants.{Sound, Faulty}
+use Rattle.fields.specs.Reading.{Verdict}
+use Rattle.fields.specs.Reading.{Sound, Faulty}
 use Rattle.fields.specs.Reading.{Reader, done, ◌>>=◌, field, free}
 use Rattle.shapes_rules.specs.Shape.{plain_leaf, Shape, leaf, inv, nand, symbols, inv_symbol, nand_symbol, pin_symbol}
 

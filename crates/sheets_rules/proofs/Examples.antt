@@ -3,7 +3,7 @@ use Prim.Native.Nat.{ℕ}
 use mathlib.Core.Path.{refl}
 use mathlib.Core.List.{List}
 use Rattle.bits.specs.Bits.{after, bit_at, value_at, place_of, cursor_at, field_at, bytes_to, rest_of, ends_at}
-use Rattle.fields.specs.declared.Scan.{Scan}
+use Rattle.fields.specs.Reading.{Scan}
 use Rattle.fields.specs.Reading.{times, within, start}
 use Rattle.fields.specs.Written.{packed}
 use Rattle.shapes_rules.specs.Shape.{symbols}

@@ -6,7 +6,7 @@ use native.Mathlib.Nat.{zero-add, add-zero, add-suc, suc-add}
 use native.Mathlib.Omega.{arith}
 use lib.ListN.{length, get_or, drop, set, replicate, length-map, length-replicate}
 use lib.Seq.{sets, sets-eq, get_or-drop}
-use Rattle.fields.specs.declared.Scan.{Scan}
+use Rattle.fields.specs.Reading.{Scan}
 use Rattle.fields.specs.Reading.{Reader, times}
 use Rattle.fields.proofs.Laws.{length_times, times_value}
 use Rattle.fields.proofs.Lists.{sets_append, front_sets}

@@ -9,12 +9,12 @@ use borrow.Author.Tests.{leb-true}
 use lib.Dec.{leb}
 use native.Mathlib.Nat.{add-zero, add-suc, suc-add}
 use lib.ListN.{length}
-use Rattle.fields.specs.declared.Scan.{Scan}
+use Rattle.fields.specs.Reading.{Scan}
 use Rattle.fields.specs.Reading.{place, field, Live, Reader, times}
-use Rattle.fields.specs.declared.Verdict.TheVariants.{Sound}
+use Rattle.fields.specs.Reading.{Sound}
 use Rattle.fields.proofs.Laws.{positive_live, live_sound, range_least, range_passes}
 use Rattle.shapes_rules.proofs.Drawing.{node_live}
-use Rattle.fields.specs.declared.Scan.TheVariants.{At, Refused}
+use Rattle.fields.specs.Reading.{At, Refused}
 use Rattle.shapes_rules.specs.Shape.{Shape, symbols}
 use Rattle.shapes_rules.specs.Drawing.{has_all, shape}
 use Rattle.sheets_rules.specs.LibrarySheet.{complete, pattern, pattern_rules, count_verdict, head, pin, drawings, cell}

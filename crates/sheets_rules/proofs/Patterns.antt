@@ -13,7 +13,8 @@ use Rattle.fields.proofs.Lists.{at_mem, at_map}
 use Rattle.shapes_rules.specs.Shape.{plain_leaf, Shape, size, symbols}
 use Rattle.sheets_rules.specs.Model.{Pin, bin_load_of, Cell, Library, Pattern, drawn, patterns_from, patterns, cell_of, area_of, pins_most}
 use Rattle.sheets_rules.specs.Inside.Sound.{SoundDrawing, SoundCell, SoundLibrary}
-use Rattle.sheets_rules.specs.Inside.Layout.{padded, cell_laid, number_at, area_at, pin_words, figures_at, size_at, symbols_at, row_words, table_words, pin_figures, pattern_row, pattern_rows, library_laid, pattern_table}
+use Rattle.sheets_rules.specs.declared.PinRecord.{PinRecord}
+use Rattle.sheets_rules.specs.Inside.Layout.{padded, pin_record, no_pin, cell_laid, number_at, area_at, pin_words, figures_at, size_at, symbols_at, row_words, table_words, pin_figures, pattern_row, pattern_rows, library_laid, pattern_table}
 use Rattle.sheets_rules.proofs.Rows.{length_row, row_cell, row_held, row_area_lem, row_highest, row_pins, row_figure, row_size_lem, row_symbol}
 use Rattle.sheets_rules.proofs.Tables.{length_table, row_at}
 use Rattle.sheets_rules.proofs.Laid.{in_padded}
@@ -90,9 +91,10 @@ pub pin_laid : (bins : List ℕ) (c : Cell) (d : Pin) (k : ℕ) → length c.pin
     let p = get_or c.pins k d in pin_figures (cell_laid bins c) k ≡ (p.bin ∷ (bin_load_of bins p ∷ (p.intrinsic ∷ (p.drive ∷ []))))
 unfolding pin_figures cell_laid
 pin_laid bins c d k few h =
-    let at : (f : Pin → ℕ) → get_or (padded pins_most 0 (map f c.pins)) k 0 ≡ f (get_or c.pins k d) = λ f. (
-    in_padded pins_most 0 0 (map f c.pins) k (omega (arith, length-map c.pins f)) (omega (arith, length-map c.pins f)) ∙ at_map f c.pins k d 0 h) in
-    λ i. at (λ p. p.bin) i ∷ (at (bin_load_of bins) i ∷ (at (λ p. p.intrinsic) i ∷ (at (λ p. p.drive) i ∷ [])))
+    let f = pin_record bins in
+    let at : get_or (padded pins_most no_pin (map f c.pins)) k no_pin ≡ f (get_or c.pins k d) =
+    in_padded pins_most no_pin no_pin (map f c.pins) k (omega (arith, length-map c.pins f)) (omega (arith, length-map c.pins f)) ∙ at_map f c.pins k d no_pin h in
+    ap (λ (q : PinRecord). q.bin ∷ (q.load ∷ (q.intrinsic ∷ (q.drive ∷ [])))) at
 
 -- ---- the table
 

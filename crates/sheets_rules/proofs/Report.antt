@@ -7,16 +7,16 @@ use lib.ListN.{length}
 use mathlib.Core.Bool.{Bool, true, false, cond, ◌&&◌}
 use lib.Dec.{leb}
 use Rattle.bits.specs.declared.Cursor.{Cursor}
-use Rattle.bits.specs.declared.FieldRead as FieldRead
+use Rattle.std.specs.Prelude.{Some, None}
 use Rattle.bits.specs.Bits.{place_of, field_at, bytes_to}
 use Rattle.bits.proofs.Whole.{ends_says, fills_says}
 use Rattle.fields.specs.declared.Fault.{Fault}
 use Rattle.fields.specs.declared.Fault.TheVariants.{Truncated, Tail, Range, Drawing, Size}
 use Rattle.fields.specs.Answer.{Answer, refused_in, success, on_success, numbers, word, of_word, Bounded}
-use Rattle.fields.specs.declared.Scan.{Scan}
-use Rattle.fields.specs.declared.Scan.TheVariants.{At, Refused}
-use Rattle.fields.specs.declared.Verdict.{Verdict}
-use Rattle.fields.specs.declared.Verdict.TheVariants.{Sound, Faulty}
+use Rattle.fields.specs.Reading.{Scan}
+use Rattle.fields.specs.Reading.{At, Refused}
+use Rattle.fields.specs.Reading.{Verdict}
+use Rattle.fields.specs.Reading.{Sound, Faulty}
 use Rattle.fields.specs.Reading.{start, place, free, within, settled, scanned, tailed, field}
 use Rattle.shapes_rules.specs.Shape.{symbols, inv_symbol, nand_symbol}
 use Rattle.shapes_rules.specs.Drawing.{code_verdict, leaf_verdict, leaf_node, driven_node, pair, branch, node, shape}
@@ -81,8 +81,8 @@ module _ (s : List ℕ) where
   unfolding tree_number library_number
   field_of_tree w verdict h (Refused f p) g = g
   field_of_tree w verdict h (At c) g = elim (field_at s (place_of c) w) as (λ r. OfTree (scanned (place_of c) verdict r).1) [
-    | FieldRead.TheVariants.Truncated ↦ torn
-    | FieldRead.TheVariants.Value x n ↦
+    | None ↦ torn
+    | Some (x, n) ↦
         (elim (verdict x) as (λ v. VerdictOfTree v → OfTree (settled (place_of c) v x (At n)).1) [ Sound ↦ λ k. tt | Faulty f ↦ λ k. k ]) (h x)
   ]
 

@@ -4,8 +4,8 @@ use mathlib.Core.Path.{◌≡◌, sym, ap, subst, ◌∙◌}
 use native.Mathlib.Omega.{arith}
 use Rattle.std.specs.Prelude.{Result, Ok, Err}
 use Rattle.fields.specs.declared.Fault.{Fault}
-use Rattle.fields.specs.declared.Scan.{Scan}
-use Rattle.fields.specs.declared.Scan.TheVariants.{Refused}
+use Rattle.fields.specs.Reading.{Scan}
+use Rattle.fields.specs.Reading.{Refused}
 use Rattle.fields.specs.Reading.{Live}
 use Rattle.fields.specs.Answer.{Answer, refused_in, success, said, places, numbers, Bounded}
 use Rattle.fields.proofs.Answer.{answer_apart, read_said}

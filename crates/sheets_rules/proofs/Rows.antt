@@ -31,7 +31,7 @@ figures_turn cell k l l₁ l₂ e₁ e₂ = rw (add-one, e₂, e₁, ← length_
 
 -- A cell's number, its first four words, then its pins' figures.
 pub cell_written : (number mark : ℕ) (cell : CellRecord) (l l₁ l₂ : List ℕ) → mark ≡ cond cell.held 1 0 →
-    l₁ ≡ sets (set l 0 number) 1 (mark ∷ (cell.area ∷ (cell.highest ∷ (cell.pins ∷ [])))) →
+    l₁ ≡ sets (set l 0 number) 1 (mark ∷ (cell.area ∷ (cell.highest ∷ (cell.count ∷ [])))) →
     l₂ ≡ sets l₁ figures_at (figures cell pins_most) → l₂ ≡ sets l 0 (number ∷ cell_words cell)
 unfolding cell_words
 cell_written number mark cell l l₁ l₂ em e₁ e₂ = rw (e₂, e₁, em)
@@ -83,7 +83,7 @@ module _ (number : ℕ) (cell : CellRecord) (x : Shape) where
   unfolding row cell_words
   row_highest = refl
 
-  pub row_pins : get_or (row number cell x) 4 0 ≡ cell.pins
+  pub row_pins : get_or (row number cell x) 4 0 ≡ cell.count
   unfolding row cell_words
   row_pins = refl
 

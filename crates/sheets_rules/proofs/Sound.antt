@@ -9,8 +9,8 @@ use native.Mathlib.Omega.{arith}
 use lib.ListN.{length, length-append}
 use Rattle.bits.specs.Bits.{ends_at}
 use Rattle.shapes_rules.specs.declared.Rules.{Rules}
-use Rattle.fields.specs.declared.Scan.{Scan}
-use Rattle.fields.specs.declared.Verdict.TheVariants.{Sound}
+use Rattle.fields.specs.Reading.{Scan}
+use Rattle.fields.specs.Reading.{Sound}
 use Rattle.fields.specs.Reading.{Reader, place, times, within, free, field, start, Live}
 use Rattle.shapes_rules.specs.Shape.{symbols}
 use Rattle.shapes_rules.specs.Drawing.{has_all, code_verdict, leaf_verdict, leaf_node, driven_node, pair, branch, node, shape}

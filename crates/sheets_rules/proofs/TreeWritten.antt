@@ -8,8 +8,8 @@ use borrow.Author.Tests.{le-leb, lt-leb}
 use Rattle.bits.specs.Bits.{cursor_at}
 use Rattle.fields.specs.Answer.{success, said}
 use Rattle.sheets_rules.specs.Report.{tree_number, tree_said}
-use Rattle.fields.specs.declared.Scan.TheVariants.{At}
-use Rattle.fields.specs.declared.Verdict.TheVariants.{Sound}
+use Rattle.fields.specs.Reading.{At}
+use Rattle.fields.specs.Reading.{Sound}
 use Rattle.fields.specs.Reading.{Reader, done, ◌>>=◌, within, free, field, ended, start}
 use Rattle.fields.specs.Written.{Field, widths, packed}
 use Rattle.fields.proofs.Written.{Says, says_sound, says_field, says_done, says_then, says_end, says_all}

@@ -2,10 +2,10 @@
 use Rattle.std.specs.Prelude.{ℕ, suc, ◌+◌, ◌-◌, List, [], ◌∷◌, Bool, true, cond, length, leb, eqb}
 use Rattle.fields.specs.declared.Fault.TheVariants.{Drawing, Size}
 use Rattle.shapes_rules.specs.declared.Rules.{Rules}
-use Rattle.fields.specs.declared.Scan.{Scan}
-use Rattle.fields.specs.declared.Scan.TheVariants.{At, Refused}
-use Rattle.fields.specs.declared.Verdict.{Verdict}
-use Rattle.fields.specs.declared.Verdict.TheVariants.{Faulty}
+use Rattle.fields.specs.Reading.{Scan}
+use Rattle.fields.specs.Reading.{At, Refused}
+use Rattle.fields.specs.Reading.{Verdict}
+use Rattle.fields.specs.Reading.{Faulty}
 use Rattle.fields.specs.Reading.{Reader, done, ◌>>=◌, times, within, field, ended, place}
 use Rattle.shapes_rules.specs.Shape.{symbols}
 use Rattle.shapes_rules.specs.Drawing.{has_all, shape}

@@ -1,7 +1,7 @@
 // The library sheet and the tree sheet: the limits, and the types that their definitions and the promises of their readers speak of.
 #![tactic(auto)]
 
-use fields::{Fault, Scan};
+use fields::Fault;
 
 // Why a call is refused: each reason has its number in the papers.
 #[derive(Clone, Copy)]
@@ -147,17 +147,33 @@ pub struct Bins {
     pub loads: [u8; Slots::BINS],
 }
 
-// A cell as decoded. Its pins are the first `pins` places of the four arrays: load bins, those bins' loads, intrinsic delays and drives.
+// A pin as decoded: its load bin, that bin's load, its intrinsic delay and its drive.
+#[derive(Clone, Copy)]
+pub struct PinRecord {
+    pub bin: u8,
+    pub load: u8,
+    pub intrinsic: u16,
+    pub drive: u8,
+}
+
+impl PinRecord {
+    // What stands where there is no pin.
+    pub const NONE: PinRecord = PinRecord {
+        bin: 0,
+        load: 0,
+        intrinsic: 0,
+        drive: 0,
+    };
+}
+
+// A cell as decoded: its first `count` pins are there.
 #[derive(Clone, Copy)]
 pub struct CellRecord {
     pub held: bool,
     pub area: u16,
     pub highest: u8,
-    pub pins: u8,
-    pub bins: [u8; Slots::PINS],
-    pub loads: [u8; Slots::PINS],
-    pub intrinsics: [u16; Slots::PINS],
-    pub drives: [u8; Slots::PINS],
+    pub count: u8,
+    pub pins: [PinRecord; Slots::PINS],
 }
 
 // A library as decoded: the bin loads, how many cells there are, and a row for each of the `total` patterns.
@@ -184,11 +200,4 @@ pub struct TreeRecord {
     pub count: usize,
     pub symbols: [u32; Limits::TREE_NODES],
     pub sizes: [u8; Limits::TREE_NODES],
-}
-
-// The whole tree, and the scan after it.
-#[derive(Clone, Copy)]
-pub struct TreeScanned {
-    pub scan: Scan,
-    pub tree: TreeRecord,
 }

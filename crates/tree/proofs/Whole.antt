@@ -13,8 +13,8 @@ use Rattle.fields.specs.Answer.{success, on_success, said, Bounded}
 use Rattle.sheets_rules.specs.declared.Reason.TheVariants.{Tree as TreeFault}
 use Rattle.sheets_rules.specs.declared.Refusal.{Refusal}
 use Rattle.fields.specs.declared.Got.{Got}
-use Rattle.fields.specs.declared.Scan.{Scan}
-use Rattle.fields.specs.declared.Scan.TheVariants.{At, Refused}
+use Rattle.fields.specs.Reading.{Scan}
+use Rattle.fields.specs.Reading.{At, Refused}
 use Rattle.fields.specs.Reading.{start, place, field, within, tailed, Live}
 use Rattle.shapes_rules.specs.Drawing.{shape}
 use Rattle.fields.specs.Inside.Promises.{Reads}

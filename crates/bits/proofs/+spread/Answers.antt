@@ -26,8 +26,8 @@ returns-then-used-ge-BYTE_BITS t c =
 pub returns-then-width-left : goal.returns-then-width-left
 returns-then-width-left t c =
     let a = c.args in
-    let here = c.octet-here in
-    let e = c.cut.ensures ∙ value_part a.s.now a.byte a.used a.width here.result here.ensures.0 here.ensures.1 (omega arith) in
+    let here = c.from-here in
+    let e = c.cut.ensures ∙ value_part a.s.now a.byte a.used a.width here.result here.ensures (omega (arith, here.ensures, c.type_inv.s a.byte)) (omega arith) in
     (e, omega (arith, e, value_lt a.s.now (8 * a.byte + a.used) a.width))
 
 -- the whole field, from the part that stands in its first byte and the rest
@@ -36,16 +36,16 @@ whole : (t : ℕ) (c : goal.After-spread-2 t) →
     c.cut-high.result * c.power.result + c.spread-2.result ≡ value_at a.s.now (8 * a.byte + a.used) a.width
 whole t c =
     let a = c.args in
-    let here = c.octet-here in
-    let first : c.cut-high.result ≡ value_at a.s.now (8 * a.byte + a.used) (8 - a.used) = c.cut-high.ensures ∙ value_part a.s.now a.byte a.used (8 - a.used) here.result here.ensures.0 here.ensures.1 (omega arith) in
+    let here = c.from-here in
+    let first : c.cut-high.result ≡ value_at a.s.now (8 * a.byte + a.used) (8 - a.used) = c.cut-high.ensures ∙ value_part a.s.now a.byte a.used (8 - a.used) here.result here.ensures (omega (arith, here.ensures, c.type_inv.s a.byte)) (omega arith) in
     rw c.power.ensures.0
     (value_straddle a.s.now a.byte a.used a.width c.cut-high.result c.spread-2.result (omega arith) (omega arith) first c.spread-2.ensures.0)
 
 pub overflow_mul-result : goal.overflow_mul-result
 overflow_mul-result t c =
     let a = c.args in
-    let here = c.octet-here in
-    let first : c.cut-high.result ≡ value_at a.s.now (8 * a.byte + a.used) (8 - a.used) = c.cut-high.ensures ∙ value_part a.s.now a.byte a.used (8 - a.used) here.result here.ensures.0 here.ensures.1 (omega arith) in
+    let here = c.from-here in
+    let first : c.cut-high.result ≡ value_at a.s.now (8 * a.byte + a.used) (8 - a.used) = c.cut-high.ensures ∙ value_part a.s.now a.byte a.used (8 - a.used) here.result here.ensures (omega (arith, here.ensures, c.type_inv.s a.byte)) (omega arith) in
     record { fits = rw c.power.ensures.0 (straddle_fits a.s.now a.byte a.used a.width c.cut-high.result (omega arith) (omega arith) (omega arith) first) }
 
 pub spread-requires-2 : goal.spread-requires-2

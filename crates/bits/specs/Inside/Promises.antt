@@ -1,6 +1,6 @@
 -- What functions inside promise, beside the definitions of Bits.
-use Rattle.std.specs.Prelude.{ℕ, ◌^◌, ◌≤◌, ◌<◌, ◌≡◌, List, length, get_or}
-use Rattle.bits.specs.declared.FieldRead.{FieldRead}
+use Rattle.std.specs.Prelude.{ℕ, Option, ◌^◌, ◌≤◌, ◌<◌, ◌≡◌, List, length, get_or}
+use Rattle.bits.specs.declared.Cursor.{Cursor}
 use Rattle.bits.specs.Bits.{after, field_at}
 
 -- s has `bytes` bytes, and e the first of them: as many as e is long, with zeros after the last.
@@ -14,7 +14,7 @@ pub record Opened (e : List ℕ) (bytes : ℕ) : Type 0 where
   pub opens : Opens e sheet bytes
 
 -- The field of w bits at place i of all such bytes.
-abbrev pub FieldOf : List ℕ → ℕ → ℕ → ℕ → FieldRead → Type 0
+abbrev pub FieldOf : List ℕ → ℕ → ℕ → ℕ → Option (ℕ × Cursor) → Type 0
 FieldOf e bytes i w r = (s : List ℕ) → Opens e s bytes → r ≡ field_at s i w
 
 -- r is what the bit at place i is worth in its byte.

@@ -10,7 +10,7 @@ use lib.Seq.{take_all, drop-drop}
 use Rattle.bits.specs.declared.Cursor.{Cursor}
 use Rattle.bits.specs.Bits.{place_of, bytes_to}
 use Rattle.fields.specs.declared.Fault.{Fault}
-use Rattle.fields.specs.declared.Scan.TheVariants.{At}
+use Rattle.fields.specs.Reading.{At}
 use Rattle.fields.specs.Reading.{place, start, Live}
 use Rattle.sheets_rules.specs.declared.TreeScanned.{TreeScanned}
 use Rattle.sheets_rules.specs.declared.TreeRecord.{TreeRecord}

@@ -5,7 +5,7 @@ use Rattle.std.proofs.Math.Option.{Option, none, some}
 use Rattle.std.proofs.Math.ListN.{get_elem?}
 use Rattle.fields.specs.declared.Finding.{Finding}
 use Rattle.fields.specs.declared.Finding.TheVariants.{Refused, Found}
-use Rattle.fields.specs.declared.Scan.{Scan}
+use Rattle.fields.specs.Reading.{Scan}
 use Rattle.fields.specs.Answer.{Answer, refused_in, refusal, success, Bounded}
 use Rattle.fields.specs.Reading.{place, times, start}
 use Rattle.sheets_rules.specs.declared.TreeRecord.{TreeRecord}

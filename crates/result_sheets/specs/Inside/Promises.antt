@@ -1,6 +1,6 @@
 -- What the functions inside promise each other.
 use Rattle.std.specs.Prelude.{ℕ, ◌+◌, ◌*◌, ◌^◌, ◌≤◌, ◌<◌, ◌≡◌, List, [], map, reverse, length, take, get_or}
-use Rattle.fields.specs.declared.Scan.{Scan}
+use Rattle.fields.specs.Reading.{Scan}
 use Rattle.fields.specs.Reading.{place, times}
 use Rattle.covers.specs.Cover.{Point}
 use Rattle.covers.specs.CoverSheet.{placed_read, area_width, arrival_width, point_count_width}

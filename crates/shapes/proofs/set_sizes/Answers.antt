@@ -17,29 +17,28 @@ turn n l m m' k many room pos h d laid e =
     one_set n l m many room d laid (k - 1) m' (omega arith) (rw after e)
 
 pub loop-k-init : goal.loop-k-init
-loop-k-init c = (omega arith, refl, none_set c.args.n c.args.symbols.now c.args.sizes.now c.requires.0.many (omega arith))
+loop-k-init c = (refl, none_set c.args.n c.args.symbols.now c.args.sizes.now c.requires.0.many (omega arith))
 
 pub bounds-sizes-k : goal.bounds-sizes-k
-bounds-sizes-k c = omega (arith, (turn c.args.n c.args.symbols.now c.args.sizes.now c.loop-k.sizes c.loop-k.k c.requires.0.many (omega arith) (omega arith) (omega arith) c.requires.0.shape c.requires.0.laid (c.loop-k.invariant.2 c.requires.0.shape c.requires.0.laid)).0.gate c.if-symbol-lt-LEAF.true)
+bounds-sizes-k c = omega (arith, (turn c.args.n c.args.symbols.now c.args.sizes.now c.loop-k.sizes c.loop-k.k c.requires.0.many (omega arith) (omega arith) (omega arith) c.requires.0.shape c.requires.0.laid (c.loop-k.invariant.1 c.requires.0.shape c.requires.0.laid)).0.gate c.if-symbol-lt-LEAF.true)
 
 pub overflow_add-size : goal.overflow_add-size
-overflow_add-size c = let z = (turn c.args.n c.args.symbols.now c.args.sizes.now c.loop-k.sizes c.loop-k.k c.requires.0.many (omega arith) (omega arith) (omega arith) c.requires.0.shape c.requires.0.laid (c.loop-k.invariant.2 c.requires.0.shape c.requires.0.laid)).0 in omega (arith, z.gate c.if-symbol-lt-LEAF.true, z.few)
+overflow_add-size c = let z = (turn c.args.n c.args.symbols.now c.args.sizes.now c.loop-k.sizes c.loop-k.k c.requires.0.many (omega arith) (omega arith) (omega arith) c.requires.0.shape c.requires.0.laid (c.loop-k.invariant.1 c.requires.0.shape c.requires.0.laid)).0 in omega (arith, z.gate c.if-symbol-lt-LEAF.true, z.few)
 
 pub overflow_add-size-then-symbol-eq-NAND-2 : goal.overflow_add-size-then-symbol-eq-NAND-2
-overflow_add-size-then-symbol-eq-NAND-2 c = omega (arith, (turn c.args.n c.args.symbols.now c.args.sizes.now c.loop-k.sizes c.loop-k.k c.requires.0.many (omega arith) (omega arith) (omega arith) c.requires.0.shape c.requires.0.laid (c.loop-k.invariant.2 c.requires.0.shape c.requires.0.laid)).0.nand c.if-symbol-eq-NAND.true)
+overflow_add-size-then-symbol-eq-NAND-2 c = omega (arith, (turn c.args.n c.args.symbols.now c.args.sizes.now c.loop-k.sizes c.loop-k.k c.requires.0.many (omega arith) (omega arith) (omega arith) c.requires.0.shape c.requires.0.laid (c.loop-k.invariant.1 c.requires.0.shape c.requires.0.laid)).0.nand c.if-symbol-eq-NAND.true)
 
 pub bounds-sizes-k-then-symbol-eq-NAND : goal.bounds-sizes-k-then-symbol-eq-NAND
-bounds-sizes-k-then-symbol-eq-NAND c = omega (arith, (turn c.args.n c.args.symbols.now c.args.sizes.now c.loop-k.sizes c.loop-k.k c.requires.0.many (omega arith) (omega arith) (omega arith) c.requires.0.shape c.requires.0.laid (c.loop-k.invariant.2 c.requires.0.shape c.requires.0.laid)).0.nand c.if-symbol-eq-NAND.true)
+bounds-sizes-k-then-symbol-eq-NAND c = omega (arith, (turn c.args.n c.args.symbols.now c.args.sizes.now c.loop-k.sizes c.loop-k.k c.requires.0.many (omega arith) (omega arith) (omega arith) c.requires.0.shape c.requires.0.laid (c.loop-k.invariant.1 c.requires.0.shape c.requires.0.laid)).0.nand c.if-symbol-eq-NAND.true)
 
 pub overflow_add-size-then-symbol-eq-NAND-3 : goal.overflow_add-size-then-symbol-eq-NAND-3
-overflow_add-size-then-symbol-eq-NAND-3 c = let z = (turn c.args.n c.args.symbols.now c.args.sizes.now c.loop-k.sizes c.loop-k.k c.requires.0.many (omega arith) (omega arith) (omega arith) c.requires.0.shape c.requires.0.laid (c.loop-k.invariant.2 c.requires.0.shape c.requires.0.laid)).0 in omega (arith, z.nand c.if-symbol-eq-NAND.true, z.few)
+overflow_add-size-then-symbol-eq-NAND-3 c = let z = (turn c.args.n c.args.symbols.now c.args.sizes.now c.loop-k.sizes c.loop-k.k c.requires.0.many (omega arith) (omega arith) (omega arith) c.requires.0.shape c.requires.0.laid (c.loop-k.invariant.1 c.requires.0.shape c.requires.0.laid)).0 in omega (arith, z.nand c.if-symbol-eq-NAND.true, z.few)
 
 pub loop-k-preserved : goal.loop-k-preserved
 loop-k-preserved c = (
-  omega arith,
   simp length-set (omega arith),
   λ d laid.
-      let t = turn c.args.n c.args.symbols.now c.args.sizes.now c.loop-k.sizes c.loop-k.k c.requires.0.many (omega arith) (omega arith) (omega arith) d laid (c.loop-k.invariant.2 d laid) in
+      let t = turn c.args.n c.args.symbols.now c.args.sizes.now c.loop-k.sizes c.loop-k.k c.requires.0.many (omega arith) (omega arith) (omega arith) d laid (c.loop-k.invariant.1 d laid) in
       let whole : c.if-symbol-lt-LEAF.size ≡ get_or (sizes d) (c.loop-k.k - 1) 0 =
       elim c.if-symbol-lt-LEAF.branch [
         | then-symbol-lt-LEAF+then-symbol-eq-NAND w ↦ omega (arith, t.0.nand w.if-symbol-eq-NAND.true)
@@ -50,4 +49,4 @@ loop-k-preserved c = (
 )
 
 pub returns : goal.returns
-returns c d laid = let done : c.loop-k.k ≡ 0 = omega arith in rw done at (c.loop-k.invariant.2 d laid)
+returns c d laid = let done : c.loop-k.k ≡ 0 = omega arith in rw done at (c.loop-k.invariant.1 d laid)

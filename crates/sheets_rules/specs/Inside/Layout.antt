@@ -2,6 +2,7 @@
 use Rattle.std.specs.Prelude.{ℕ, zero, suc, ◌+◌, ◌*◌, List, [], ◌∷◌, ◌++◌, map, cond, length, get_or, take, replicate}
 use Rattle.std.proofs.lemmas.List.Edits.{sets}
 use Rattle.shapes_rules.specs.Shape.{symbols, sizes}
+use Rattle.sheets_rules.specs.declared.PinRecord.{PinRecord}
 use Rattle.sheets_rules.specs.declared.CellRecord.{CellRecord}
 use Rattle.sheets_rules.specs.declared.LibraryRecord.{LibraryRecord}
 use Rattle.sheets_rules.specs.declared.TreeRecord.{TreeRecord}
@@ -11,17 +12,20 @@ use Rattle.sheets_rules.specs.Model.{Shape, size, Pin, bin_load_of, Cell, Librar
 abbrev pub padded : {A : Type 0} → ℕ → A → List A → List A
 padded n blank xs = sets (replicate n blank) 0 xs
 
--- A cell of a library with these bin loads.
+-- A pin of a library with these bin loads, what stands where there is no pin, and a cell.
+abbrev pub pin_record : List ℕ → Pin → PinRecord
+pin_record bins p = record { bin = p.bin; load = bin_load_of bins p; intrinsic = p.intrinsic; drive = p.drive }
+
+abbrev pub no_pin : PinRecord
+no_pin = record { bin = 0; load = 0; intrinsic = 0; drive = 0 }
+
 unfoldable pub cell_laid : List ℕ → Cell → CellRecord
 cell_laid bins c = record {
   held = c.held;
   area = c.area;
   highest = c.highest;
-  pins = length c.pins;
-  bins = padded pins_most 0 (map (λ (p : Pin). p.bin) c.pins);
-  loads = padded pins_most 0 (map (bin_load_of bins) c.pins);
-  intrinsics = padded pins_most 0 (map (λ (p : Pin). p.intrinsic) c.pins);
-  drives = padded pins_most 0 (map (λ (p : Pin). p.drive) c.pins);
+  count = length c.pins;
+  pins = padded pins_most no_pin (map (pin_record bins) c.pins);
 }
 
 -- A pattern's row: the number of its cell and the cell's words, then how many nodes the pattern has, and their symbols in preorder. Where
@@ -61,14 +65,14 @@ table_words = row_words * 128
 
 -- A pin's load bin, that bin's load, its intrinsic delay and its drive; those of the first pins; all words of a cell.
 unfoldable pub pin_figures : CellRecord → ℕ → List ℕ
-pin_figures cell p = get_or cell.bins p 0 ∷ (get_or cell.loads p 0 ∷ (get_or cell.intrinsics p 0 ∷ (get_or cell.drives p 0 ∷ [])))
+pin_figures cell p = let q = get_or cell.pins p no_pin in q.bin ∷ (q.load ∷ (q.intrinsic ∷ (q.drive ∷ [])))
 
 unfoldable pub figures : CellRecord → ℕ → List ℕ
 figures cell zero = []
 figures cell (suc p) = figures cell p ++ pin_figures cell p
 
 unfoldable pub cell_words : CellRecord → List ℕ
-cell_words cell = cond cell.held 1 0 ∷ (cell.area ∷ (cell.highest ∷ (cell.pins ∷ figures cell pins_most)))
+cell_words cell = cond cell.held 1 0 ∷ (cell.area ∷ (cell.highest ∷ (cell.count ∷ figures cell pins_most)))
 
 unfoldable pub row : ℕ → CellRecord → Shape → List ℕ
 row number cell x = number ∷ (cell_words cell ++ (size x ∷ symbols x))

@@ -1,15 +1,16 @@
 -- What the readers of whole sheets promise.
-use Rattle.std.specs.Prelude.{ℕ, ◌≤◌, ◌≡◌, List, Bool, Result, Ok, Err, IfErr}
-use Rattle.fields.specs.Reading.{place, start, Live}
+use Rattle.std.specs.Prelude.{ℕ, ◌≤◌, ◌≡◌, List, Bool, Result, Ok, Err, IfErr, MatchResult}
+use Rattle.bits.specs.declared.Cursor.{Cursor}
+use Rattle.fields.specs.declared.Flaw.{Flaw}
+use Rattle.fields.specs.Reading.{start}
+use Rattle.fields.specs.Inside.Promises.{Took, Flawed}
 use Rattle.fields.specs.Answer.{Answer, success, Bounded}
 use Rattle.sheets_rules.specs.declared.LibraryRecord.{LibraryRecord}
 use Rattle.sheets_rules.specs.declared.TreeRecord.{TreeRecord}
 use Rattle.sheets_rules.specs.declared.Refusal.{Refusal}
-use Rattle.sheets_rules.specs.declared.TreeScanned.{TreeScanned}
 use Rattle.sheets_rules.specs.TreeSheet.{tree_to}
 use Rattle.sheets_rules.specs.Reach.{library_bits, tree_bits}
 use Rattle.sheets_rules.specs.Report.{refusal, library_said, tree_said}
-use Rattle.sheets_rules.specs.Inside.Layout.{tree_laid}
 use Rattle.sheets_rules.specs.Inside.Sound.{LibraryStored, TreeStored}
 
 -- What a result says of an answer: its refusal, which fits a word; or that it is a success, and what the result hands over holds it.
@@ -26,9 +27,6 @@ module _ (s : List ℕ) where
   abbrev pub TreeIs : Result TreeRecord Refusal → Type 0
   TreeIs = Says TreeStored (tree_said s)
 
-  -- A tree, before another of a part or not: the sheet's scan and, if it was not refused, the record that lays out its value. The nodes keep their limit either way.
-  pub record TreeToIs (last : Bool) (r : TreeScanned) : Type 0 where
-    pub scan_is : r.scan ≡ (tree_to last s start).1
-    pub laid : Live r.scan → r.tree ≡ tree_laid (tree_to last s start).0
-    pub nodes_few : r.tree.count ≤ 64
-    pub near : place r.scan ≤ tree_bits
+  -- A tree, before another of a part or not, with the cursor after its sheet; or the sheet's flaw.
+  abbrev pub TreeToIs : (last : Bool) → Result (TreeRecord × Cursor) Flaw → Type 0
+  TreeToIs last r = MatchResult r (λ x. Took TreeStored (tree_to last s start) tree_bits x.1 x.0) (Flawed (tree_to last s start) tree_bits)
