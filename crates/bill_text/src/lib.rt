@@ -99,7 +99,7 @@ fn put_margin(text: &mut Text, margin: i32)
     text.put_word(b"\n");
 }
 
-// The required time minus the arrival: negative for a late cover.
+// The required time minus the arrival: negative for a late cover. Both fit, so `try_from` would add an error that cannot happen.
 fn margin_of(required: u32, arrival: u32) -> i32
     requires { (required < 2 ^ 31) × (arrival < 2 ^ 31) }
     ensures { result ≡ marginOf required arrival }

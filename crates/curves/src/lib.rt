@@ -22,7 +22,7 @@ pub struct Words {}
 
 impl Words {
     // A kept word that says that there is no point: it is above every point's word, so that the least of kept words is found by `min` alone.
-    const ABSENT: u64 = 9223372036854775808;
+    const ABSENT: u64 = 1 << 63;
 
     pub const BINS: usize = Slots::BINS;
 

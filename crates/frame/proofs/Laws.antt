@@ -19,7 +19,7 @@ use Rattle.text.specs.Inside.Promises.{Appended}
 use Rattle.text.proofs.Laws.{length_line, length_last, decimal_fits}
 use Rattle.frame.specs.declared.Sheets.{Sheets}
 use Rattle.frame.specs.Inside.Promises.{IsSpoiled, Taken}
-use Rattle.frame.specs.Framed.{input_limit, stated_length, sheet_at, sheet, rest, spoiled, refused_word, refusal_line, spoiled_line, outcome_text, framed, within}
+use Rattle.frame.specs.Framed.{input_limit, stated_length, sheet_at, sheet, rest, spoiled, refused_word, refusal_line, outcome_text, framed, within}
 
 -- ---- lines
 

@@ -1,13 +1,14 @@
-// The frame of the programs: an input that holds several sheets with their lengths in front, and the two lines by which any input may be refused.
+// The frame of the programs: an input that holds several sheets with their lengths in front, the two lines by which any input may be refused, and a
+// run from standard input to standard output.
 #![tactic(auto)]
 
 ghost use Rattle.std.specs.Prelude.{◌≡◌, ◌+◌, ◌*◌, ◌<◌, ◌≤◌, length, MatchOption};
+ghost use Rattle.sheets_rules.specs.Report.{number_of};
 ghost use Rattle.text.specs.Inside.Promises.{Appended, HasRoom};
 ghost use Rattle.frame.specs.Framed.{refusal_line, spoiled_line};
 ghost use Rattle.frame.specs.Inside.Promises.{most_lengths, IsSpoiled, Taken, TakesNext, PutsFront};
 
-use fields::Refusal;
-use sheets_rules::Limits;
+use sheets_rules::{Limits, Refusal};
 use text::Text;
 
 // The bytes of one length, the descriptors that standard input and the output go by, and what the input is read into.
@@ -79,11 +80,12 @@ pub fn run<F: Fn(&[u8], &mut [u8]) -> usize>(text: &mut [u8], print: F) -> usize
 
 // Puts the line of a refusal.
 pub fn put_refusal(text: &mut Text, refusal: Refusal)
-    requires { HasRoom (refusal_line refusal.number refusal.place) text.old }
-    ensures { Appended (refusal_line refusal.number refusal.place) text.old text.new }
+    requires { HasRoom (refusal_line (number_of refusal.reason) refusal.place) text.old }
+    ensures { Appended (refusal_line (number_of refusal.reason) refusal.place) text.old text.new }
 {
+    let number = refusals::number(refusal.reason);
     text.put_word(b"refused");
-    text.put_last(u64::from(refusal.number), refusal.place as u64);
+    text.put_last(u64::from(number), refusal.place as u64);
 }
 
 // Puts the line of an input that is not what its lengths say.

@@ -1,16 +1,20 @@
 // The judge of functions: whether each drawing of a library computes what the function sheet states of its cell. 64 settings are worked out at once, one in each bit of a word.
 #![tactic(auto)]
 
-ghost use Rattle.std.specs.Prelude.{◌≡◌, ◌≤◌, ◌<◌, length, take};
+ghost use Rattle.std.specs.Prelude.{◌≡◌, ◌*◌, ◌≤◌, ◌<◌, length};
+ghost use Rattle.bits.specs.Bits.{place_of};
+ghost use Rattle.fields.specs.Reading.{start, times};
+ghost use Rattle.fields.specs.Inside.Promises.{Reads, Tells};
+ghost use Rattle.functions_rules.specs.FunctionSheet.{function, function_sheet};
 ghost use Rattle.sheets_rules.specs.Model.{Shape, Library, Pattern};
 ghost use Rattle.sheets_rules.specs.Inside.Sound.{LibraryStored};
 ghost use Rattle.sheets_rules.specs.Report.{of_library_judged, LibraryBounded};
 ghost use Rattle.functions_rules.specs.Function.{settings as settingsOf, pin_in};
 ghost use Rattle.functions_rules.specs.Report.{functions_report};
 ghost use Rattle.functions_rules.specs.Demands.{FunctionDemands};
-ghost use Rattle.functions.specs.Inside.Promises.{Tabulates, Standing, ShapeEvaluated, RowHolds, DrawingJudged, RowsHold, PinsCounted, PinsFew, FunctionsAre, DrawingsJudged, SheetJudged};
+ghost use Rattle.functions.specs.Inside.Promises.{Tabulates, Standing, ShapeEvaluated, RowHolds, DrawingJudged, RowsHold, PinsCounted, PinsFew, FieldsLaid, FunctionsAre, DrawingsJudged, SheetJudged};
 
-use fields::Scan;
+use fields::{Flaw, Sheet};
 use shapes_rules::Packed;
 use sheets_rules::{Counts, LibraryRecord, Limits, PatternRow, Reason, Refusal, Slots};
 
@@ -99,24 +103,40 @@ fn pin_counts(rows: &[u32]) -> [u8; Limits::CELLS as usize]
     counts
 }
 
+// The functions of cells with these pin counts.
+fn read_fields(sheet: &mut Sheet, pins: &[u8]) -> Result<[u64; Limits::CELLS as usize], Flaw>
+    requires { PinsFew pins.now × (place_of sheet.old.at ≡ 0) }
+    ensures { Reads sheet.old sheet.new (λ s. times (length pins.now) (function s pins.now)) FieldsLaid (64 * length pins.now) result }
+{
+    let mut functions = [0u64; Limits::CELLS as usize];
+    for (k, count) in pins.iter().enumerate() {
+        functions[k] = sheet.raw_wide(settings(u32::from(*count)))?;
+    }
+    Ok(functions)
+}
+
 // The function sheet of cells with these pin counts.
+fn read_sheet(s: &[u8], pins: &[u8]) -> Result<[u64; Limits::CELLS as usize], Flaw>
+    requires { PinsFew pins.now }
+    ensures { Tells FieldsLaid (function_sheet s.now pins.now start) (64 * length pins.now) result }
+{
+    let mut sheet = Sheet::open(s);
+    let functions = read_fields(&mut sheet, pins)?;
+    sheet.end()?;
+    Ok(functions)
+}
+
+// The same, or its refusal.
 fn read_functions(s: &[u8], pins: &[u8]) -> Result<[u64; Limits::CELLS as usize], Refusal>
     requires { PinsFew pins.now }
     ensures { FunctionsAre s.now pins.now result }
 {
-    let mut functions = [0u64; Limits::CELLS as usize];
-    let mut at = fields::begin();
-    for (k, count) in pins.iter().enumerate() {
-        let got = fields::raw_wide(at, s, settings(u32::from(*count)));
-        at = got.scan;
-        functions[k] = got.value;
-    }
-    match fields::end(at, s) {
-        Scan::At(_) => Ok(functions),
-        Scan::Refused(fault, place) => Err(Refusal {
+    match read_sheet(s, pins) {
+        Ok(functions) => Ok(functions),
+        Err(flaw) => Err(Refusal {
             item: 0,
-            reason: Reason::FunctionSheet(fault),
-            place,
+            reason: Reason::FunctionSheet(flaw.fault),
+            place: flaw.place,
         }),
     }
 }

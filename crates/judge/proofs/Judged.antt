@@ -7,9 +7,9 @@ use Rattle.fields.specs.declared.Fault.{Fault}
 use Rattle.fields.specs.Reading.{Scan}
 use Rattle.fields.specs.Reading.{At, Refused}
 use Rattle.fields.specs.Reading.{start}
-use Rattle.fields.specs.Answer.{Answer, success}
+use Rattle.fields.specs.Answer.{Answer, refused, success}
 use Rattle.sheets_rules.specs.Model.{Library, Tree}
-use Rattle.sheets_rules.specs.Report.{library_said, tree_said}
+use Rattle.sheets_rules.specs.Report.{library_said, tree_said, number_of, refusal}
 use Rattle.covers.specs.Cover.{Point, Cover}
 use Rattle.covers.specs.CoverSheet.{cover_read}
 use Rattle.result_sheets.specs.declared.CoverRead.{CoverRead}
@@ -17,21 +17,33 @@ use Rattle.result_sheets.specs.Public.{cover_of, CoverIs}
 use Rattle.judge_rules.specs.Walk.{started, walk}
 use Rattle.judge_rules.specs.Judgement.{sheet_number, figures, cover_judged, judgement}
 use Rattle.judge_rules.specs.Public.{of_cover_judged, Judges}
-use Rattle.judge_rules.specs.declared.CoverJudged.{CoverJudged}
-use Rattle.judge_rules.specs.declared.CoverJudged.TheVariants as Judged
+use Rattle.judge_rules.specs.declared.Figures.{Figures}
+use Rattle.sheets_rules.specs.declared.Reason.{Reason}
+use Rattle.sheets_rules.specs.declared.Refusal.{Refusal}
+use Rattle.std.specs.Prelude.{Result, Err}
 use Rattle.judge_rules.proofs.Demands.{judge_demands}
 use Rattle.judge_rules.proofs.Bounded.{judgement_bounded}
 use Rattle.judge.specs.Inside.Promises.{Fitting}
 
+-- What a refusal that is about no item says.
+pub refused_told : {o : Answer Point} (reason : Reason) (place : ℕ) (q : Refusal) → q ≡ record { item = 0; reason = reason; place = place } → refused (number_of reason) place ≡ o → of_cover_judged (Err q) ≡ o
+unfolding of_cover_judged
+refused_told reason place q e h = ap refusal e ∙ h
+
+-- A refusal of the walk is the answer, whatever figures are stated.
+pub figures_refused : (stated : Point) (q : Refusal) {o : Answer Point} → of_cover_judged (Err q) ≡ o → of_cover_judged (Err q) ≡ figures stated o
+unfolding of_cover_judged figures
+figures_refused stated q e = ap (figures stated) e
+
 -- ---- a cover sheet
 
 module _ (cs : List ℕ) (read : CoverRead) (h : CoverIs cs read) where
-  pub cover_answered : (l : Library) (t : Tree) (r : CoverJudged) (q : Cursor) → read.scan ≡ At q → of_cover_judged r ≡ figures (cover_of read.cover).point (walk l 0 (cover_of read.cover).placed (started t)) → of_cover_judged r ≡ cover_judged (cover_read cs start) l t
+  pub cover_answered : (l : Library) (t : Tree) (r : Result Figures Refusal) (q : Cursor) → read.scan ≡ At q → of_cover_judged r ≡ figures (cover_of read.cover).point (walk l 0 (cover_of read.cover).placed (started t)) → of_cover_judged r ≡ cover_judged (cover_read cs start) l t
   unfolding cover_judged
   cover_answered l t r q e said = said ∙ ap₂ (λ (c : Cover) (z : Scan). cover_judged (c, z) l t) h.cover_is (sym e ∙ h.scan_is)
 
-  pub cover_not_read : (l : Library) (t : Tree) (f : Fault) (p : ℕ) → read.scan ≡ Refused f p → of_cover_judged (Judged.Refused (record { item = 0; number = sheet_number; place = p })) ≡ cover_judged (cover_read cs start) l t
-  unfolding cover_judged of_cover_judged
+  pub cover_not_read : (l : Library) (t : Tree) (f : Fault) (p : ℕ) → read.scan ≡ Refused f p → refused sheet_number p ≡ cover_judged (cover_read cs start) l t
+  unfolding cover_judged
   cover_not_read l t f p e = ap (λ (z : Scan). cover_judged ((cover_read cs start).0, z) l t) (sym e ∙ h.scan_is)
 
 -- ---- the whole answer

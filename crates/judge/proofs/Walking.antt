@@ -1,13 +1,14 @@
 -- The walk over all listed matches: after each step it is again a walk over the tree.
-use Prim.Native.Nat.{ℕ, zero, suc, ◌+◌, ◌*◌, ◌≤◌, ◌<◌}
+use Prim.Native.Nat.{ℕ, suc, ◌+◌, ◌*◌, ◌≤◌, ◌<◌}
 use mathlib.Core.Path.{◌≡◌, refl, sym, ap, subst, ◌∙◌}
-use mathlib.Core.Bool.{true, false, false≢true}
 use mathlib.Core.List.Memᴰ
-use mathlib.Core.List.{List, [], ◌∷◌, Memᴰ}
+use mathlib.Core.List.{List, [], ◌∷◌, map, Memᴰ}
 use mathlib.Core.Option.{Option, none, some, none-ne-some, some-injective}
 use native.Mathlib.Numerals.{add-one}
 use native.Mathlib.Omega.{arith}
-use lib.ListN.{length, get_or, take, drop}
+use lib.ListN.{length, get_or, drop, length-map, drop_of_length-le}
+use lib.Seq.{drop-cons}
+use Rattle.fields.proofs.Lists.{at_map}
 use Rattle.fields.specs.Answer.{refused, success}
 use Rattle.sheets_rules.specs.Model.{Shape, leaf, inv, nand, size, Cell, Library, Tree}
 use Rattle.sheets_rules.specs.Inside.Sound.{SoundLibrary, SoundTree}
@@ -16,12 +17,13 @@ use Rattle.covers.specs.Cover.{Point, Placed, raised, beside, late, leaf_point, 
 use Rattle.covers.specs.Tradeoff.{nodes}
 use Rattle.covers.proofs.Basics.{each}
 use Rattle.covers.proofs.Points.{point_path}
+use Rattle.result_sheets.specs.declared.MatchRecord.{MatchRecord}
 use Rattle.result_sheets.specs.Public.{placed_of}
 use Rattle.covers.proofs.Nodes.{node_of, root_in, input_in, nodes_within}
 use Rattle.covers.proofs.Bounds.{match_cell}
 use Rattle.sheets_rules.specs.declared.TreeRecord.{TreeRecord}
 use Rattle.sheets_rules.specs.Inside.Layout.{tree_laid}
-use Rattle.leaves.specs.Inside.Leaf.{symbol_limit, Heads}
+use Rattle.leaves.specs.Inside.Leaf.{symbol_limit}
 use Rattle.cells.specs.Inside.Cell.{slowest, figures_of}
 use Rattle.cells.proofs.Laws.{delay_is, pin_safe, delay_small}
 use Rattle.overlay.specs.Inside.Standing.{Subject}
@@ -32,8 +34,8 @@ use Rattle.judge_rules.specs.Inside.Order.{Apart}
 use Rattle.judge_rules.proofs.Order.{after, StepIs, wrong, right, step_is, step_past}
 use Rattle.judge_rules.proofs.Walking.{after_apart, started_apart}
 use Rattle.judge.specs.declared.WalkRecord.{WalkRecord}
-use Rattle.judge.specs.declared.Stepped.{Stepped}
-use Rattle.judge.specs.Inside.Promises.{nothing_yet, WalkStored, SteppedIs, Within, Walking, Judging}
+use Rattle.judge.specs.declared.Waiting.{Waiting}
+use Rattle.judge.specs.Inside.Promises.{nothing_yet, WalkStored, Reached, Within, Walking, Stepping, Judging}
 use Rattle.judge.proofs.Stored.{kept_nothing}
 
 -- ---- what is to be covered stays within bounds
@@ -114,32 +116,14 @@ module _ {l : Library} (sound : SoundLibrary l) where
 
 -- ---- the list
 
--- What the first nodes, patterns and crossings list.
-abbrev pub listing : ℕ → (ns ps xs : List ℕ) → List Placed
-listing count ns ps xs = placed_of (take count ns) (take count ps) (take count xs)
-
--- Each of the three lists is so long.
-abbrev pub Roomy : ℕ → (ns ps xs : List ℕ) → Type 0
-Roomy count ns ps xs = (count ≤ length ns) × (count ≤ length ps) × (count ≤ length xs)
-
 -- What is listed from position k on.
-pub placed_drop : (ns ps xs : List ℕ) (count k : ℕ) → k < count → Roomy count ns ps xs →
-    drop k (listing count ns ps xs) ≡ record { node = get_or ns k 0; pattern = get_or ps k 0; crossing = get_or xs k 0 } ∷ drop (suc k) (listing count ns ps xs)
-unfolding placed_of
-placed_drop ns ps xs zero k h r = absurd (omega arith)
-placed_drop [] ps xs (suc c) k h r = absurd (omega arith)
-placed_drop (n ∷ ns) [] xs (suc c) k h r = absurd (omega arith)
-placed_drop (n ∷ ns) (p ∷ ps) [] (suc c) k h r = absurd (omega arith)
-placed_drop (n ∷ ns) (p ∷ ps) (x ∷ xs) (suc c) zero h r = refl
-placed_drop (n ∷ ns) (p ∷ ps) (x ∷ xs) (suc c) (suc k) h r = placed_drop ns ps xs c k (omega arith) (omega arith, omega arith, omega arith)
+pub placed_drop : (ms : List MatchRecord) (k : ℕ) {m : MatchRecord} (d : MatchRecord) → k < length ms → m ≡ get_or ms k d → drop k (map placed_of ms) ≡ placed_of m ∷ drop (suc k) (map placed_of ms)
+placed_drop ms k {m} d h e =
+    drop-cons (map placed_of ms) k (placed_of d) (omega (arith, length-map ms placed_of))
+    ∙ ap (λ (x : Placed). x ∷ drop (suc k) (map placed_of ms)) (at_map placed_of ms k d (placed_of d) h ∙ ap placed_of (sym e))
 
-pub placed_end : (ns ps xs : List ℕ) (count : ℕ) → Roomy count ns ps xs → drop count (listing count ns ps xs) ≡ []
-unfolding placed_of
-placed_end ns ps xs zero r = refl
-placed_end [] ps xs (suc c) r = absurd (omega arith)
-placed_end (n ∷ ns) [] xs (suc c) r = absurd (omega arith)
-placed_end (n ∷ ns) (p ∷ ps) [] (suc c) r = absurd (omega arith)
-placed_end (n ∷ ns) (p ∷ ps) (x ∷ xs) (suc c) r = placed_end ns ps xs c (omega arith, omega arith, omega arith)
+pub placed_end : (ms : List MatchRecord) (k : ℕ) → length ms ≤ k → drop k (map placed_of ms) ≡ []
+placed_end ms k h = drop_of_length-le (map placed_of ms) (omega (arith, length-map ms placed_of))
 
 module _ (l : Library) (t : Tree) (xs : List Placed) where
   -- The walk after k matches, as it is kept: what it will answer is what the whole walk answers.
@@ -176,24 +160,16 @@ module _ (l : Library) (t : Tree) (xs : List Placed) where
       unfolding walk
       turn = sym (ap (λ (ys : List Placed). walk l k ys g.w) here) ∙ g.rest
 
-      pub gone_wrong : (q : Stepped) → SteppedIs (step l g.w x) q → q.right ≡ false → refused match_number k ≡ walk l 0 xs (started t)
-      gone_wrong q h e = go (step l g.w x) refl h ∙ turn
-        where
-          go : (v : Option Walk) → step l g.w x ≡ v → SteppedIs v q → refused match_number k ≡ onward k (walk l (suc k) (drop (suc k) xs)) (step l g.w x)
-          go none f m = unfold onward in rw f
-          go (some v) f m = absurd (false≢true (sym e ∙ m.0))
+      pub gone_wrong : step l g.w x ≡ none → refused match_number k ≡ walk l 0 xs (started t)
+      gone_wrong e = unfold onward in sym (ap (onward k (walk l (suc k) (drop (suc k) xs))) e) ∙ turn
 
-      pub gone_next : SoundLibrary l → (q : Stepped) → SteppedIs (step l g.w x) q → q.right ≡ true → Gone (k + 1) q.walk
-      gone_next sound q h e = go (step l g.w x) refl h
-        where
-          go : (v : Option Walk) → step l g.w x ≡ v → SteppedIs v q → Gone (k + 1) q.walk
-          go none f m = absurd (false≢true (sym m ∙ e))
-          go (some v) f m = record {
-            w = v;
-            walking = step_walking sound g.w v x g.walking f;
-            kept = m.1;
-            rest = unfold onward in ap (λ (j : ℕ). walk l j (drop j xs) v) (add-one k) ∙ sym (ap (onward k (walk l (suc k) (drop (suc k) xs))) f) ∙ turn;
-          }
+      pub gone_next : SoundLibrary l → {v : Walk} {q : WalkRecord} → step l g.w x ≡ some v → WalkStored v q → Gone (k + 1) q
+      gone_next sound {v} {q} f kept = record {
+        w = v;
+        walking = step_walking sound g.w v x g.walking f;
+        kept = kept;
+        rest = unfold onward in ap (λ (j : ℕ). walk l j (drop j xs) v) (add-one k) ∙ sym (ap (onward k (walk l (suc k) (drop (suc k) xs))) f) ∙ turn;
+      }
 
 -- The walk at the root, as the code begins it.
 module _ {l : Library} {t : Tree} {rows : List ℕ} {tree : TreeRecord} (h : Judging l t rows tree) where
@@ -216,9 +192,16 @@ module _ {l : Library} {t : Tree} {rows : List ℕ} {tree : TreeRecord} (h : Jud
   pub load_small : tree.load ≤ 255
   load_small = omega (arith, load_is, h.decoded.tree.load)
 
-  pub started_kept : (b r : WalkRecord) → b ≡ nothing_yet → ((w : Walk) (s : Shape) → WalkStored w b → Heads (get_or tree.symbols 0 0) s → WalkStored (visited tree.load 0 0 s w) r) → WalkStored (started t) r
+  -- The root, as it is first reached.
+  abbrev pub root : Waiting
+  root = record { node = 0; load = tree.load; delay = 0 }
+
+  pub started_kept : (r : WalkRecord) → Reached nothing_yet (get_or tree.symbols 0 0) root r → WalkStored (started t) r
   unfolding started
-  started_kept b r e f =
+  started_kept r f =
       let none : Walk = record { left = []; point = record { area = 0; arrival = 0 } } in
       subst (λ (load : ℕ). WalkStored (visited load 0 0 t.shape none) r) load_is
-      (f none t.shape (subst (WalkStored none) (sym e) kept_nothing) (heads_everywhere h.decoded (record { number = 0; shape = t.shape }) (root_in 0 t.shape)))
+      (f none t.shape kept_nothing (heads_everywhere h.decoded (record { number = 0; shape = t.shape }) (root_in 0 t.shape)))
+
+  pub stepping : {xs : List Placed} {k : ℕ} {r : WalkRecord} (g : Gone l t xs k r) → k ≤ 62 → Stepping l t rows tree.symbols tree.sizes k g.w r
+  stepping g few = record { decoded = h.decoded; walking = g.walking; kept = g.kept; few = few }

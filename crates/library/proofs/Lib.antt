@@ -1,4 +1,3 @@
 -- The laws of `library`, in reading order.
 pub mod Laws
-pub mod Cells
 pub mod Whole

@@ -1,39 +1,36 @@
--- Laws about the whole of each sheet.
+-- Laws about the whole sheet.
 use mathlib.Core.Path.{◌≡◌, refl, sym, ap, ap₂, subst, ◌∙◌}
 use mathlib.Core.List.{List, map}
-use Prim.Native.Nat.{ℕ, ◌+◌, ◌≤◌}
+use Prim.Native.Nat.{ℕ, ◌+◌, ◌*◌, ◌≤◌}
 use native.Mathlib.Omega.{arith}
 use lib.ListN.{length, replicate}
-use Rattle.bits.specs.Bits.{ends_at}
-use Rattle.std.specs.Prelude.{Result, Ok, Err}
-use Rattle.bits.specs.declared.Cursor.{Cursor}
-use Rattle.fields.specs.declared.Fault.{Fault}
-use Rattle.fields.specs.Answer.{success, on_success, said, Bounded}
-use Rattle.sheets_rules.specs.declared.Counts.{Counts}
-use Rattle.sheets_rules.specs.declared.Reason.TheVariants.{Library}
-use Rattle.sheets_rules.specs.declared.Refusal.{Refusal}
-use Rattle.fields.specs.declared.Got.{Got}
-use Rattle.fields.specs.Reading.{Scan}
-use Rattle.fields.specs.Reading.{At, Refused}
-use Rattle.fields.specs.Reading.{start, place, times, field, within, ended, Live}
-use Rattle.fields.specs.Inside.Promises.{Reads}
-use Rattle.sheets_rules.proofs.Results.{sound_says, refused_says}
-use Rattle.fields.proofs.Laws.{start_place, value_at_lem, scan_at, length_times, tailed_live, tailed_place}
+use Rattle.std.specs.Prelude.{Result, Ok, Err, MatchResult, IsErrAnd}
+use Rattle.std.proofs.lemmas.Result.{err_from_is_err_and}
+use Rattle.fields.specs.declared.Flaw.{Flaw}
+use Rattle.fields.specs.declared.Sheet.{Sheet}
+use Rattle.fields.specs.Answer.{success, on_success, Bounded}
+use Rattle.fields.specs.Reading.{At, Reader, done, ◌>>=◌, start, times, field, within, ended, Live}
+use Rattle.fields.specs.Inside.Promises.{Reads, Opens, Closes, Told, Flawed}
+use Rattle.fields.proofs.Answer.{told_said, flawed_said}
+use Rattle.fields.proofs.Readers.{Keeps, keeps_then, keeps_times, first_stops, then_reads, from_start}
 use Rattle.sheets_rules.specs.declared.Bins.{Bins}
-use Rattle.library.specs.declared.BinsRead.{BinsRead}
-use Rattle.library.specs.declared.CellsRead.{CellsRead}
-use Rattle.sheets_rules.specs.Model.{Pin, bin_load_of, Cell, Pattern, patterns, patterns_from, pins_most}
-use Rattle.sheets_rules.specs.LibrarySheet.{bin_load, bins, cells, library, cell_after}
+use Rattle.sheets_rules.specs.declared.Counts.{Counts}
+use Rattle.sheets_rules.specs.declared.Reason.TheVariants as Reason
+use Rattle.sheets_rules.specs.declared.Refusal.{Refusal}
+use Rattle.sheets_rules.specs.Model.{Library, Pin, bin_load_of, Cell, Pattern, patterns, patterns_from, pins_most}
+use Rattle.sheets_rules.specs.LibrarySheet.{bins, cells, library, cell_after}
+use Rattle.sheets_rules.specs.Reach.{bin_bits, cell_bits, library_bits}
 use Rattle.sheets_rules.specs.Report.{LibraryLimits, LibraryBounded, library_number, counts_of, library_word, library_said, library_report, of_library_judged}
-use Rattle.library.specs.declared.SheetRead.{SheetRead}
-use Rattle.sheets_rules.specs.Inside.Layout.{padded, cell_laid, row_words, table_words, row, table_from, pattern_row, pattern_rows, library_laid}
+use Rattle.sheets_rules.specs.Inside.Layout.{padded, no_pin, cell_laid, row_words, table_words, row, table_from, pattern_row, pattern_rows, library_laid}
 use Rattle.sheets_rules.specs.Inside.Readers.{LibraryIs}
-use Rattle.library.specs.Inside.Promises.{BinsAre, CellsAre, SheetIs}
-use Rattle.sheets_rules.proofs.Laid.{padded_at}
 use Rattle.sheets_rules.specs.Inside.Sound.{LibraryStored}
-use Rattle.sheets_rules.specs.Reach.{library_bits}
+use Rattle.sheets_rules.proofs.Laid.{padded_at}
 use Rattle.sheets_rules.proofs.Report.{number_bounds, library_number_fits}
+use Rattle.sheets_rules.proofs.Results.{sound_says, refused_says}
 use Rattle.sheets_rules.proofs.Sound.{library_limits}
+use Rattle.library.specs.declared.Contents.{Contents}
+use Rattle.library.specs.Inside.Promises.{BinsHold, CellsHold, ContentsHold}
+use Rattle.library.proofs.Laws.{ok_done, stops_done, cell_keeps}
 
 -- The bin loads in their array, and in the rows of patterns.
 bins_padded : (xs : List ℕ) → length xs ≤ 4 → bin_load_of (padded 4 0 xs) ≡ bin_load_of xs
@@ -45,90 +42,129 @@ rows_padded xs h ps = ap (λ (f : Pin → ℕ). map (λ (p : Pattern). row p.cel
   held = p.cell.held;
   area = p.cell.area;
   highest = p.cell.highest;
-  pins = length p.cell.pins;
-  bins = padded pins_most 0 (map (λ (q : Pin). q.bin) p.cell.pins);
-  loads = padded pins_most 0 (map f p.cell.pins);
-  intrinsics = padded pins_most 0 (map (λ (q : Pin). q.intrinsic) p.cell.pins);
-  drives = padded pins_most 0 (map (λ (q : Pin). q.drive) p.cell.pins);
+  count = length p.cell.pins;
+  pins = padded pins_most no_pin (map (λ (q : Pin). record { bin = q.bin; load = f q; intrinsic = q.intrinsic; drive = q.drive }) p.cell.pins);
 }) p.drawing) ps) (bins_padded xs h)
 
-pub sheet_is : (s : List ℕ) (c : Scan) (nb : Got) (lb : BinsRead) (nc : Got) (rc : CellsRead) (l l' : List ℕ) (res : Scan) → c ≡ start →
-    Reads nb (field s 3 (within 1 4) c) (place c + 3) 4 → BinsAre s nb.value nb.scan lb →
-    Reads nc (field s 7 (within 1 64) lb.scan) (place lb.scan + 7) 64 →
-    let bins : Bins = record { count = nb.value; loads = lb.loads } in
-    CellsAre s bins nc.value nc.scan l l' rc → res ≡ ended s rc.scan →
-    SheetIs s l l' (record { scan = res; bins = bins; count = nc.value; total = rc.total })
-unfolding library bins cells library_laid patterns
-sheet_is s c nb lb nc rc l l' res ec hnb hlb hnc hrc er =
-    let N = field s 3 (within 1 4) start in
-    let B = times N.0 (bin_load s) N.1 in
-    let C = field s 7 (within 1 64) B.1 in
-    let X = times C.0 (cell_after s (length B.0)) C.1 in
-    let counted-bins = value_at_lem s 3 (within 1 4) c hnb ec in
-    let at-bins = scan_at s 3 (within 1 4) c hnb ec in
-    let same-bins : times nb.value (bin_load s) nb.scan ≡ B = ap₂ (λ (n : ℕ) (q : Scan). times n (bin_load s) q) counted-bins at-bins in
-    let at_count : lb.scan ≡ B.1 = hlb.scan_is ∙ ap (λ (x : List ℕ × Scan). x.1) same-bins in
-    let counted = value_at_lem s 7 (within 1 64) lb.scan hnc at_count in
-    let at_cells = scan_at s 7 (within 1 64) lb.scan hnc at_count in
-    let all-bins : nb.value ≡ length B.0 = sym (length_times nb.value (bin_load s) nb.scan) ∙ ap (λ (x : List ℕ × Scan). length x.0) same-bins in
-    let same : times nc.value (cell_after s nb.value) nc.scan ≡ X =
-    ap₂ (λ (n : ℕ) (q : Scan). times n (cell_after s nb.value) q) counted at_cells ∙ ap (λ (b : ℕ). times C.0 (cell_after s b) C.1) all-bins in
-    let all-cells : nc.value ≡ length X.0 = counted ∙ sym (length_times C.0 (cell_after s (length B.0)) C.1) in
-    let loads : lb.loads ≡ padded 4 0 B.0 = hlb.loads ∙ ap (λ (x : List ℕ × Scan). padded 4 0 x.0) same-bins in
-    let total = hrc.total_is ∙ ap (λ (x : List Cell × Scan). length (patterns_from 0 x.0)) same in
-    record {
-      scan_is = er ∙ ap (ended s) (hrc.scan_is ∙ ap (λ (x : List Cell × Scan). x.1) same);
-      bins_are = λ q i. record { count = all-bins i; loads = loads i };
-      counted = λ q. all-cells;
-      totalled = λ q. total;
-      laid = λ q.
-          hrc.laid (tailed_live (ends_at s) rc.scan (subst Live er q))
-          ∙ ap₂ (λ (bs : List ℕ) (x : List Cell × Scan). table_from row_words l 0 (pattern_rows bs (patterns_from 0 x.0))) loads same
-          ∙ ap (table_from row_words l 0) (rows_padded B.0 (omega (arith, hnb.small)) (patterns_from 0 X.0));
-      bins_few = hnb.small;
-      cells_few = hnc.small;
-      patterns_few = hrc.fits;
-      near = omega (arith, ap place er, tailed_place (ends_at s) rc.scan, hnb.near, hnb.small, hlb.near, hnc.near, hnc.small, hrc.near, ap place ec, start_place);
-    }
+-- ---- the sheet, but for its end
+
+abbrev of_cells : List ℕ → List Cell → Library
+of_cells xs cs = record { bins = xs; cells = cs }
+
+abbrev after_bins : List ℕ → List ℕ → Reader Library
+after_bins s xs = cells s (length xs) >>= λ cs. done (of_cells xs cs)
+
+bins_keep : (s xs : List ℕ) → Keeps (after_bins s xs)
+unfolding cells
+bins_keep s xs f p =
+    keeps_then (field s 7 (within 1 64)) (λ n. times n (cell_after s (length xs))) (λ f p. refl)
+    (λ n. keeps_times (cell_after s (length xs)) (λ cs. cell_keeps (record { count = length xs; loads = xs }) _ s) n) f p
+
+module _ (s : List ℕ) {sheet mid : Sheet} (o : Opens s sheet) where
+  pub bins_stop : {Holds : List ℕ → Bins → Type 0} {e : Flaw} → Reads sheet mid bins Holds (3 + bin_bits * 4) (Err e) → Flawed (library s start) library_bits e
+  unfolding library
+  bins_stop h =
+      let all : Reads sheet mid (λ s. bins s >>= after_bins s) (ContentsHold s s) library_bits (Err _) = first_stops bins after_bins h (omega arith) bins_keep in
+      let t = from_start s o all in
+      record { says = ap (ended s) t.says; near = t.near }
+
+  module _ {b : Bins} (hb : Reads sheet mid bins BinsHold (3 + bin_bits * 4) (Ok b)) (l l' : List ℕ) (new : Sheet) where
+    abbrev OfCells : Result Counts Flaw → Type 0
+    OfCells = Reads mid new (λ s. cells s b.count) (CellsHold b l l') (7 + cell_bits * 64)
+
+    abbrev xs : List ℕ
+    xs = (bins sheet.bytes.now (At sheet.at)).0
+
+    -- By as many bins as were read.
+    counted : (r : Result Counts Flaw) → OfCells r → Reads mid new (λ s. cells s (length xs)) (CellsHold b l l') (7 + cell_bits * 64) r
+    counted r = subst (λ (n : ℕ). Reads mid new (λ s. cells s n) (CellsHold b l l') (7 + cell_bits * 64) r) hb.takes.holds.counted
+
+    pub cells_stop : {e : Flaw} → OfCells (Err e) → Flawed (library s start) library_bits e
+    unfolding library
+    cells_stop {e} h =
+        let all : Reads sheet new (λ s. bins s >>= after_bins s) (ContentsHold l l') library_bits (Err e) =
+        then_reads bins after_bins {more = 7 + cell_bits * 64} _ hb (stops_done (of_cells xs) (counted (Err e) h)) (omega arith) in
+        let t = from_start s o all in
+        record { says = ap (ended s) t.says; near = t.near }
+
+    module _ {n : Counts} (h : OfCells (Ok n)) where
+      all : Reads sheet new (λ s. bins s >>= after_bins s) (ContentsHold l l') library_bits (Ok (record { bins = b; counts = n }))
+      unfolding library_laid patterns
+      all =
+          let t = hb.takes.holds in
+          let cs = (cells mid.bytes.now (length xs) (At mid.at)).0 in
+          then_reads bins after_bins {more = 7 + cell_bits * 64} _ hb
+          (ok_done (of_cells xs) (counted (Ok n) h) (λ g. record {
+            bins_are = λ i. record { count = t.counted i; loads = t.loads i };
+            counted = g.counted;
+            totalled = g.patterns_are.totalled;
+            cells_few = g.cells_few;
+            patterns_few = g.patterns_are.few;
+            laid =
+                g.patterns_are.laid
+                ∙ ap (λ (loads : List ℕ). table_from row_words l 0 (pattern_rows loads (patterns_from 0 cs))) t.loads
+                ∙ ap (table_from row_words l 0) (rows_padded xs (omega (arith, t.counted, t.few)) (patterns_from 0 cs));
+          }))
+          (omega arith)
+
+      ends : (library s start).1 ≡ ended new.bytes.now (At new.at)
+      unfolding library
+      ends = ap (ended s) (from_start s o all).at ∙ ap (λ (bytes : List ℕ). ended bytes (At new.at)) (sym (all.same ∙ o.bytes_are))
+
+      pub sheet_told : Closes (ended new.bytes.now) new.at (Ok tt) → Told (ContentsHold l l') (library s start) (record { bins = b; counts = n })
+      unfolding library
+      sheet_told closed = record { live = subst Live (sym (ends ∙ closed)) tt; holds = (from_start s o all).holds }
+
+      pub end_flawed : {e : Flaw} → Closes (ended new.bytes.now) new.at (Err e) → Flawed (library s start) library_bits e
+      end_flawed closed = record { says = ends ∙ closed.0; near = omega (arith, closed.1, (from_start s o all).near) }
+
+-- ---- what its readers say
 
 -- A library's refusal.
-abbrev pub refused_at : Fault → ℕ → Refusal
-refused_at f p = record { item = 0; reason = Library f; place = p }
+abbrev pub refused_at : Flaw → Refusal
+refused_at e = record { item = 0; reason = Reason.Library e.fault; place = e.place }
+
+-- What an error was made of, and a value that was none.
+module _ {A E F : Type 0} (P : E → F → Type 0) (m : Result A F) where
+  pub mapped_ok : (r : Result A E) (x : A) → MatchResult r (λ y. m ≡ Ok y) (λ e. IsErrAnd m (P e)) → m ≡ Ok x → r ≡ Ok x
+  mapped_ok (Ok y) x h e = let both : ◌≡◌ {A = Result A F} (Ok y) (Ok x) = sym h ∙ e in let same : y ≡ x = cc in ap Ok same
+  mapped_ok (Err f) x h e = let p = err_from_is_err_and m h in let both : ◌≡◌ {A = Result A F} (Err p.0) (Ok x) = sym p.1 ∙ e in absurd (cc)
+
+  pub mapped_err : (r : Result A E) (q : F) → MatchResult r (λ y. m ≡ Ok y) (λ e. IsErrAnd m (P e)) → m ≡ Err q → (e : E) × (r ≡ Err e) × P e q
+  mapped_err (Ok y) q h e = let both : ◌≡◌ {A = Result A F} (Ok y) (Err q) = sym h ∙ e in absurd (cc)
+  mapped_err (Err f) q h e =
+      let p = err_from_is_err_and m h in
+      let both : ◌≡◌ {A = Result A F} (Err p.0) (Err q) = sym p.1 ∙ e in
+      let same : p.0 ≡ q = cc in
+      (f, refl, subst (P f) same p.2)
 
 -- With its rows laid out in a table of zeros the library is whole; or the sheet is refused.
-module _ (s l' : List ℕ) (r : SheetRead) (h : SheetIs s (replicate table_words 0) l' r) where
-  pub library_is : Live r.scan → LibraryIs s (Ok (record { bins = r.bins; count = r.count; total = r.total; rows = l' }))
-  unfolding library_laid library_said
-  library_is q =
-      let live : Live (library s start).1 = subst Live h.scan_is q in
-      record {
-        said = sound_says LibraryStored library_number (library s start) _ live
-            (record { sound = library_limits s live; library_is = λ i. record { bins = h.bins_are q i; count = h.counted q i; total = h.totalled q i; rows = h.laid q i } });
-        near = tt;
-      }
+pub library_is : (s l' : List ℕ) (r : Contents) → Told (ContentsHold (replicate table_words 0) l') (library s start) r →
+    LibraryIs s (Ok (record { bins = r.bins; count = r.counts.cells; total = r.counts.patterns; rows = l' }))
+unfolding library_laid library_said
+library_is s l' r h =
+    let x = h.holds in
+    record {
+      said = sound_says LibraryStored library_number (library s start) _ h.live
+          (record { sound = library_limits s h.live; library_is = λ i. record { bins = x.bins_are i; count = x.counted i; total = x.totalled i; rows = x.laid i } });
+      near = tt;
+    }
 
-  pub library_refused : {f : Fault} {p : ℕ} → r.scan ≡ Refused f p → LibraryIs s (Err (refused_at f p))
-  unfolding library_said
-  library_refused {f} {p} e =
-      let near : p ≤ library_bits = omega (arith, h.near, ap place e) in
-      record { said = refused_says LibraryStored library_number (library s start) (refused_at f p) (sym h.scan_is ∙ e) refl refl (library_number_fits f) (omega (arith, near)); near = near }
+pub library_refused : (s : List ℕ) (e : Flaw) → Flawed (library s start) library_bits e → LibraryIs s (Err (refused_at e))
+unfolding library_said
+library_refused s e h = record { said = refused_says LibraryStored library_number (library s start) (refused_at e) h.says refl refl (library_number_fits e.fault) (omega (arith, h.near)); near = h.near }
 
--- ---- what the judge says
+-- What the judge says.
+abbrev pub Judged : List ℕ → Result Counts Refusal → Type 0
+Judged s j = (of_library_judged j ≡ library_report s) × LibraryBounded (of_library_judged j)
 
-module _ (s l l' : List ℕ) (r : SheetRead) (h : SheetIs s l l' r) where
-  abbrev pub Judged : Result Counts Refusal → Type 0
-  Judged j = (of_library_judged j ≡ library_report s) × LibraryBounded (of_library_judged j)
+pub library_judged : (s l l' : List ℕ) (r : Contents) → Told (ContentsHold l l') (library s start) r → Judged s (Ok r.counts)
+unfolding of_library_judged library_report library_laid library_word Bounded LibraryLimits on_success
+library_judged s l l' r h =
+    let x = h.holds in
+    let report = ap (on_success counts_of) (told_said library_number h) in
+    (ap₂ (λ (n m : ℕ). success (record { cells = n; patterns = m })) x.counted x.totalled ∙ sym report, (omega (arith, x.cells_few, x.patterns_few), (x.cells_few, x.patterns_few)))
 
-  report : (q : Scan) → r.scan ≡ q → on_success counts_of (said library_number ((library s start).0, q)) ≡ library_report s
-  unfolding library_report
-  report q e = ap (λ (z : Scan). on_success counts_of (said library_number ((library s start).0, z))) (sym e ∙ h.scan_is)
-
-  pub library_judged : {c : Cursor} → r.scan ≡ At c → Judged (Ok (record { cells = r.count; patterns = r.total }))
-  unfolding of_library_judged library_report library_laid library_word Bounded LibraryLimits on_success said
-  library_judged {c} e =
-      let live : Live r.scan = subst Live (sym e) tt in
-      (ap₂ (λ (n m : ℕ). success (record { cells = n; patterns = m })) (h.counted live) (h.totalled live) ∙ report (At c) e, (omega (arith, h.cells_few, h.patterns_few), (h.cells_few, h.patterns_few)))
-
-  pub library_judged_refused : {f : Fault} {p : ℕ} → r.scan ≡ Refused f p → Judged (Err (refused_at f p))
-  unfolding of_library_judged library_report Bounded LibraryLimits on_success said
-  library_judged_refused {f} {p} e = (report (Refused f p) e, (omega (arith, h.near, ap place e, number_bounds f), omega (arith, h.near, ap place e)))
+pub judged_refused : (s : List ℕ) (e : Flaw) → Flawed (library s start) library_bits e → Judged s (Err (refused_at e))
+unfolding of_library_judged library_report Bounded LibraryLimits on_success
+judged_refused s e h = (sym (ap (on_success counts_of) (flawed_said library_number h)), (omega (arith, h.near, number_bounds e.fault), h.near))

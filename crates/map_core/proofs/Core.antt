@@ -5,7 +5,8 @@ use mathlib.Core.List.{List}
 use mathlib.Core.Option.{Option, some}
 use native.Mathlib.Omega.{arith}
 use lib.ListN.{length, get_or, length-replicate}
-use Rattle.std.specs.Prelude.{Err}
+use Rattle.std.specs.Prelude.{Result, Ok, Err, MatchResult, IsErrAnd}
+use Rattle.std.proofs.lemmas.Result.{err_from_is_err_and}
 use Rattle.fields.proofs.Lists.{zeros_at}
 use Rattle.sheets_rules.specs.declared.LibraryRecord.{LibraryRecord}
 use Rattle.sheets_rules.specs.declared.Refusal.{Refusal}
@@ -16,30 +17,27 @@ use Rattle.covers.specs.Capacity.{work_words}
 use Rattle.covers.specs.Choice.{choice}
 use Rattle.covers.specs.Tradeoff.{tradeoffs, overfull_node}
 use Rattle.overlay.proofs.Sheets.{decoded_of}
-use Rattle.matching.specs.Inside.Found.{match_table}
-use Rattle.filling.specs.declared.Filling.TheVariants.{Whole}
 use Rattle.filling.specs.Inside.Promises.{FillStart, FillingIs}
 use Rattle.map_core.specs.Inside.Found.{crowded}
-use Rattle.map_core.specs.Inside.Promises.{rows_of, Started, Curved, MappedIs, ListedIs}
+use Rattle.map_core.specs.Inside.Promises.{rows_of, Started, Curved, FilledIs, MappedIs, ListedIs}
 
 module _ {most : ℕ} {l : Library} {t : Tree} {library : LibraryRecord} {tree : TreeRecord} {work : List ℕ} (start : Started most l t library tree work) where
   pub work_long : length work ≡ work_words most
   work_long = ap length start.zeros ∙ length-replicate {A = ℕ} (work_words most) 0
 
   -- What the curves are filled from, and the curves.
-  pub fill_start : (found : List ℕ) → length found ≡ match_table → FillStart l t (rows_of library) library.bins tree most found work
-  fill_start found room = record {
+  pub fill_start : FillStart l t (rows_of library) library.bins tree most work
+  fill_start = record {
     decoded = decoded_of start.sheets;
     bins_are = ap (λ (r : LibraryRecord). r.bins) start.sheets.read.library_is;
     tree_is = start.sheets.tree_is;
-    room = room;
     work_length = work_long;
     zero = λ k. ap (λ (ws : List ℕ). get_or ws k 0) start.zeros ∙ zeros_at (work_words most) k;
     some_most = start.allowed.some;
     bounded = start.allowed.bounded;
   }
 
-  pub curved : (work' : List ℕ) → length work' ≡ length work → FillingIs most l t work' Whole → Curved most l t library tree work'
+  pub curved : (work' : List ℕ) → length work' ≡ length work → FillingIs most l t work' (Ok tt) → Curved most l t library tree work'
   curved work' e w = record {
     sheets = start.sheets;
     prepared = record {
@@ -51,6 +49,12 @@ module _ {most : ℕ} {l : Library} {t : Tree} {library : LibraryRecord} {tree :
     some_most = start.allowed.some;
     not_overfull = w.0;
   }
+
+  -- The overfull node that was named becomes a refusal.
+  pub filled : (work' : List ℕ) → length work' ≡ length work → (r : Result (Unit {0}) ℕ) → FillingIs most l t work' r → (m : Result (Unit {0}) Refusal) {Becomes : ℕ → Refusal → Type 0} →
+      MatchResult r (λ u. m ≡ Ok u) (λ n. IsErrAnd m (Becomes n)) → ((n : ℕ) (q : Refusal) → Becomes n q → q ≡ crowded n) → FilledIs most l t library tree work' m
+  filled work' e (Ok tt) w m is become = rw is (curved work' e w)
+  filled work' e (Err n) w m is become = let (q, said, h) = err_from_is_err_and m is in rw said (n, become n q h, w)
 
 module _ (most : ℕ) (l : Library) (t : Tree) {q : Refusal} (n : ℕ) (is : q ≡ crowded n) (e : overfull_node most l t ≡ some n) where
   pub map_crowded : MappedIs most l t (Err q)

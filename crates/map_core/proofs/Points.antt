@@ -12,8 +12,7 @@ use lib.ListN.{length, get_or, take, drop, set, length-map, length-reverse}
 use lib.Seq.{take-take, length-take-le, get_or-set_same}
 use Rattle.std.specs.List.{position, position_or_len}
 use Rattle.std.specs.Option.{unwrap_or}
-use Rattle.std.specs.Prelude.{Ok, Err}
-use Rattle.std.specs.declared.option.Option as Std
+use Rattle.std.specs.Prelude.{Option as Maybe, Ok, Err}
 use Rattle.std.proofs.lemmas.List.Sums.{prefix_len-le-length}
 use borrow.Table.Steps.{cases}
 use borrow.Author.Tests.{ltb-false}
@@ -52,7 +51,7 @@ points_before (w ∷ ws) =
     let more : 1 + words_before ws ≡ suc (words_before ws) = omega arith in
     cases (eqb w 0) (λ e. rw e refl) (λ e. rw e (ap (λ (ps : List Point). point_of w ∷ ps) (points_before ws) ∙ ap (λ (k : ℕ). map point_of (take k (w ∷ ws))) (sym more)))
 
-pub counted : (ws : List ℕ) (o : Std.Option ℕ) (n : ℕ) → o ≡ position (λ (w : ℕ). eqb w 0) ws → n ≡ unwrap_or o (length ws) → (n ≤ length ws) × (stored ws ≡ map point_of (take n ws))
+pub counted : (ws : List ℕ) (o : Maybe ℕ) (n : ℕ) → o ≡ position (λ (w : ℕ). eqb w 0) ws → n ≡ unwrap_or o (length ws) → (n ≤ length ws) × (stored ws ≡ map point_of (take n ws))
 counted ws o n e f = rw all (within, points_before ws)
   where
     within : words_before ws ≤ length ws

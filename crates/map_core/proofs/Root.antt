@@ -8,7 +8,8 @@ use native.Mathlib.Numerals.{add-one}
 use native.Mathlib.Omega.{arith}
 use borrow.Author.Tests.{le-leb, lt-leb}
 use lib.ListN.{length, get_or}
-use Rattle.std.specs.Prelude.{Result, Ok, Err}
+use Rattle.std.specs.Option.{ok_or}
+use Rattle.std.specs.Prelude.{Option as Maybe, None, Result, Ok, Err}
 use Rattle.fields.specs.Answer.{success}
 use Rattle.sheets_rules.specs.declared.LibraryRecord.{LibraryRecord}
 use Rattle.sheets_rules.specs.declared.Refusal.{Refusal}
@@ -27,11 +28,12 @@ use Rattle.covers.proofs.Matching.{gates_lt_size}
 use Rattle.covers.proofs.Nodes.{root_in}
 use Rattle.covers.proofs.Unroll.{choice_unroll}
 use Rattle.leaves.specs.Inside.Leaf.{Heads, leaf_of, symbol_limit}
-use Rattle.matching.specs.Inside.Found.{match_table}
+use Rattle.matching.specs.declared.Hit.{Hit}
+use Rattle.matching.specs.Inside.Found.{match_most}
 use Rattle.overlay.specs.Inside.Standing.{Stands}
 use Rattle.overlay.proofs.Standing.{heads_everywhere, stands_everywhere, subject_everywhere}
-use Rattle.curves.specs.Inside.Words.{absent, point_limit, stored, curve_at}
-use Rattle.curves.specs.Inside.Promises.{Worth}
+use Rattle.curves.specs.Inside.Words.{point_limit, stored, curve_at}
+use Rattle.curves.specs.Inside.Promises.{PointWord}
 use Rattle.choosing.specs.declared.Goal.{Goal}
 use Rattle.choosing.specs.Inside.Promises.{at_root, Chooses, CoverChosen}
 use Rattle.choosing.proofs.Gate.{chosen_there}
@@ -45,6 +47,10 @@ use Rattle.leaves.proofs.Symbols.{symbols_small, leaf_told}
 -- What is asked of the root.
 abbrev pub root_goal : (load time : ℕ) → Goal
 root_goal load time = record { node = 0; load = load; bin = 0; time = time }
+
+-- What is refused where nothing was looked up.
+pub nothing_looked : {q : Refusal} {o : Maybe ℕ} → ◌≡◌ {A = Result ℕ Refusal} (Err q) (ok_or o no_cover) → o ≡ None → q ≡ no_cover
+nothing_looked {q} e f = let same : ◌≡◌ {A = Result ℕ Refusal} (Err q) (Err no_cover) = rw f at e in cc
 
 -- ---- a leaf
 
@@ -121,16 +127,19 @@ module _ {most : ℕ} {l : Library} {t : Tree} {library : LibraryRecord} {tree :
     few = e.few;
   }
 
-  module _ (gate : first < 2) (w : ℕ) (worth : Worth point_limit (tree.required + 1) w (lookup (tree.required + 1) (stored (curve_at most work 0)))) where
-    looked : lookup (tree.required + 1) (stored (curve_at most work 0)) ≡ least (suc tree.required) (covers l tree.load 0 t.shape)
-    looked =
+  abbrev looked : Option Point
+  looked = lookup (tree.required + 1) (stored (curve_at most work 0))
+
+  module _ (gate : first < 2) where
+    looked_is : looked ≡ least (suc tree.required) (covers l tree.load 0 t.shape)
+    looked_is =
         ap (lookup (tree.required + 1)) (given.prepared.curves.root (gate_root gate)) ∙ lookup_is_least (tree.required + 1) (curve_is (covers l t.load 0 t.shape))
         ∙ ap₂ (λ (k a : ℕ). least k (covers l a 0 t.shape)) (add-one tree.required) (sym load_is)
 
-    pub gate_none : w ≡ absent → MappedIs most l t (Err no_cover)
+    pub gate_none : looked ≡ none → MappedIs most l t (Err no_cover)
     unfolding answered
     gate_none e = record {
-      answer_is = chosen_is none (go (choice l tree.load 0 t.shape tree.required) (choice_point l tree.load 0 t.shape tree.required ∙ sym looked ∙ worth.missing e));
+      answer_is = chosen_is none (go (choice l tree.load 0 t.shape tree.required) (choice_point l tree.load 0 t.shape tree.required ∙ sym looked_is ∙ e));
       few = tt;
     }
       where
@@ -138,12 +147,9 @@ module _ {most : ℕ} {l : Library} {t : Tree} {library : LibraryRecord} {tree :
         go none e = refl
         go (some c) e = absurd (none-ne-some c.point (sym e))
 
-    module _ (there : w ≡ absent → ⊥) where
+    module _ (w : ℕ) (worth : PointWord point_limit (tree.required + 1) w looked) where
       least_here : least (suc tree.required) (covers l tree.load 0 t.shape) ≡ some (point_of w)
-      least_here = sym looked ∙ worth.point there
-
-      pub gate_small : w < point_limit
-      gate_small = worth.small there
+      least_here = sym looked_is ∙ worth.point
 
       chosen : (c : Cover) × (choice l tree.load 0 t.shape tree.required ≡ some c)
       chosen = chosen_there l tree.load 0 t.shape tree.required least_here
@@ -151,7 +157,7 @@ module _ {most : ℕ} {l : Library} {t : Tree} {library : LibraryRecord} {tree :
       few_placed : length chosen.0.placed ≤ 63
       few_placed = omega (arith, few_matches (choice_handed l tree.load 0 t.shape tree.required chosen.1).legal, gates_lt_size t.shape, given.prepared.decoded.tree.size)
 
-      module _ (goal : Goal) (goal_is : goal ≡ root_goal tree.load tree.required) (begun : CoverRecord) (begun_is : begun ≡ bare_cover (w / base) (w % base)) (rows : List ℕ) (rows_are : rows ≡ rows_of library) (found : List ℕ) (room : length found ≡ match_table) where
+      module _ (goal : Goal) (goal_is : goal ≡ root_goal tree.load tree.required) (begun : CoverRecord) (begun_is : begun ≡ bare_cover (w / base) (w % base)) (rows : List ℕ) (rows_are : rows ≡ rows_of library) (found : List Hit) (room : length found ≡ match_most) where
         -- What the choice is lent.
         pub gate_chooses : Chooses most l t rows tree.symbols tree.sizes (length found) work goal begun t.shape
         gate_chooses = rw (goal_is, begun_is, rows_are, room) (record {

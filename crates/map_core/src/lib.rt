@@ -8,13 +8,12 @@ ghost use Rattle.sheets_rules.specs.Inside.Sound.{LibraryStored};
 ghost use Rattle.sheets_rules.specs.declared.LibraryRecord.{LibraryRecord};
 ghost use Rattle.covers.specs.Inside.Curve.{point_of};
 ghost use Rattle.leaves.specs.Inside.Leaf.{symbol_limit};
-ghost use Rattle.matching.specs.Inside.Found.{match_table};
+ghost use Rattle.matching.specs.Inside.Found.{match_most};
 ghost use Rattle.curves.specs.Inside.Words.{stored};
 ghost use Rattle.map_core.specs.Inside.Promises.{rows_of, Started, Curved, Fills, MapsLeaf, MapsCurved, MapsTree, ListsCurved, ListsTree};
 
 use choosing::Goal;
-use curves::Words;
-use filling::Filling;
+use curves::Curves;
 use matching::Hit;
 use result_sheets::CoverRecord;
 use shapes_rules::Packed;
@@ -41,30 +40,19 @@ fn fill(
     library: &LibraryRecord,
     tree: &TreeRecord,
     most: usize,
-    found: &mut [u8],
+    found: &mut [Hit],
     work: &mut [u64],
 ) -> Result<(), Refusal>
     requires started { (l : Library) × ((t : Tree) × Started most l t library.now tree.now work.old) }
-    requires room { length found.old ≡ match_table }
+    requires room { length found.old ≡ match_most }
     ensures { Fills most library.now tree.now work.old work.new result }
 {
     let mut kept = [0u64; Hit::MATCHES];
-    match filling::fill(
-        rows(library),
-        library.bins,
-        *tree,
-        most,
-        found,
-        work,
-        &mut kept,
-    ) {
-        Filling::Overfull(node) => Err(Refusal {
-            item: 0,
-            reason: Reason::Crowded,
-            place: node,
-        }),
-        Filling::Whole => Ok(()),
-    }
+    filling::fill(rows(library), library.bins, tree, most, found, work, &mut kept).map_err(|place| Refusal {
+        item: 0,
+        reason: Reason::Crowded,
+        place,
+    })
 }
 
 // A leaf's own cover, which has no match, if it arrives in time.
@@ -84,11 +72,11 @@ fn map_root(
     library: &LibraryRecord,
     tree: &TreeRecord,
     most: usize,
-    found: &mut [u8],
+    found: &mut [Hit],
     work: &[u64],
 ) -> Result<CoverRecord, Refusal>
     requires curved { (l : Library) × ((t : Tree) × Curved most l t library.now tree.now work.now) }
-    requires room { length found.old ≡ match_table }
+    requires room { length found.old ≡ match_most }
     ensures { MapsCurved most library.now tree.now work.now result }
 {
     let load = u32::from(tree.load);
@@ -97,10 +85,8 @@ fn map_root(
     if Packed::LEAF <= symbol {
         return map_leaf(symbol, load, time);
     }
-    let w = curves::look_up(work, most, 0, u64::from(time) + 1);
-    if w == Words::ABSENT {
-        return Err(NO_COVER);
-    }
+    let curves = Curves { work, most };
+    let w = curves.look_up(0, u64::from(time) + 1).ok_or(NO_COVER)?;
     let goal = Goal {
         node: 0,
         load,
@@ -108,7 +94,7 @@ fn map_root(
         time,
     };
     let mut cover = CoverRecord::bare((w / Limits::TIMES) as u32, (w % Limits::TIMES) as u32);
-    choosing::choose(rows(library), tree, found, work, most, goal, &mut cover);
+    choosing::choose(rows(library), tree, found, &curves, goal, &mut cover);
     Ok(cover)
 }
 
@@ -123,7 +109,7 @@ pub fn map_tree(
     requires { (l : Library) × ((t : Tree) × Started most l t library.now tree.now work.old) }
     ensures { MapsTree most library.now tree.now work.old result }
 {
-    let mut found = [0u8; Hit::TABLE];
+    let mut found = [Hit::NONE; Hit::MATCHES];
     fill(library, tree, most, &mut found, work)?;
     map_root(library, tree, most, &mut found, work)
 }
@@ -163,7 +149,7 @@ pub fn list_tree(
     requires { (l : Library) × ((t : Tree) × Started most l t library.now tree.now work.old) }
     ensures { ListsTree most library.now tree.now work.old work.new result }
 {
-    let mut found = [0u8; Hit::TABLE];
+    let mut found = [Hit::NONE; Hit::MATCHES];
     fill(library, tree, most, &mut found, work)?;
     list_root(tree, most, work)
 }

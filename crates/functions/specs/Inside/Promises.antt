@@ -79,6 +79,10 @@ pub record PinsFew (pins : List ℕ) : Type 0 where
   pub few_cells : length pins ≤ 64
   pub few_pins : (k : ℕ) → k < length pins → get_or pins k 0 ≤ 6
 
+-- The functions read, at the front of an array of 64.
+abbrev pub FieldsLaid : List ℕ → List ℕ → Type 0
+FieldsLaid xs r = r ≡ padded 64 0 xs
+
 module _ (s pins : List ℕ) where
   -- The functions that a sheet states, in the order of the cells.
   pub record FunctionsRead (functions : List ℕ) : Type 0 where

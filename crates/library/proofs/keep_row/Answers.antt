@@ -1,19 +1,23 @@
-use Prim.Native.Nat.{◌+◌, ◌-◌, ◌*◌}
-use Rattle.sheets_rules.specs.Inside.Layout.{row_words}
 use native.Mathlib.Omega.{arith}
-use Rattle.library.proofs.Laws.{row_unkept, row_kept, table_whole}
+use Prim.Native.Nat.{◌+◌, ◌*◌, ◌-◌}
+use mathlib.Core.Path.{◌≡◌, sym}
+use lib.ListN.{length}
+use Rattle.std.proofs.lemmas.Grind.{common_steps}
+use Rattle.sheets_rules.specs.Inside.Layout.{row_words}
+use Rattle.library.specs.Inside.Promises.{row_under}
+use Rattle.library.proofs.Laws.{reads_as, reads_same, no_table, table_whole, row_kept}
 use Rattle.library.proofs.keep_row.Goals as goal
 
-pub returns-then-rows-eq0 : goal.returns-then-rows-eq0
-returns-then-rows-eq0 c =
+pub returns-then-is_empty : goal.returns-then-is_empty
+returns-then-is_empty c =
     let a = c.args in
-    row_unkept a.s.now a.numbered a.number a.scan a.rows.now _ _ c.read_pattern-read.result c.if-rows-eq0.true c.read_pattern-read.ensures
+    let none : length a.rows.now ≡ 0 = grind (arith, common_steps) in
+    reads_as (rw c.from.ensures at c.in_ok-read_pattern.ensures) (λ h. sym (no_table a.rows.now (row_words * a.number) (row_under a.numbered _) none))
 
 pub returns : goal.returns
 returns c =
     let a = c.args in
-    row_kept a.s.now a.numbered a.number a.scan a.rows.now c.read_row.new.row c.read_row.result (row_words * a.number + row_words - row_words * a.number) (omega arith)
-    (omega (arith, table_whole a.rows.now c.requires.1 c.if-rows-eq0.false)) c.read_row.ensures
-
-pub slice_bounds-read_row-end : goal.slice_bounds-read_row-end
-slice_bounds-read_row-end c = omega (arith, table_whole c.args.rows.now c.requires.1 c.if-rows-eq0.false)
+    let first = row_words * a.number in
+    let some : length a.rows.now ≡ 0 → ⊥ = grind (arith, common_steps) in
+    reads_same c.read_row.result c.read_row.ensures
+    (λ x u h. row_kept a.numbered a.number (first + row_words - first) x a.rows.now c.read_row.new.row (omega arith) (omega (arith, table_whole a.rows.now c.requires.1 some)) h)

@@ -1,44 +1,26 @@
 use native.Mathlib.Omega.{arith}
-use Prim.Native.Nat.{ℕ}
-use mathlib.Core.Path.{◌≡◌, refl, sym, ap, ◌∙◌}
-use mathlib.Core.List.{List, map-id}
-use Rattle.fields.specs.Reading.{Scan}
-use Rattle.fields.specs.Reading.{times}
-use Rattle.fields.proofs.Laws.{times_value, times_scan}
-use Rattle.sheets_rules.specs.LibrarySheet.{bin_load, last}
-use Rattle.sheets_rules.specs.Inside.Layout.{padded}
-use Rattle.sheets_rules.proofs.Laid.{filled_more}
-use Rattle.library.proofs.Laws.{last_more, bin_range}
+use mathlib.Core.Path.{refl, sym}
+use Rattle.fields.specs.Reading.{within}
+use Rattle.fields.proofs.Laws.{length_times}
+use Rattle.fields.proofs.Readers.{stopped}
+use Rattle.sheets_rules.specs.LibrarySheet.{bin_load, bins}
+use Rattle.library.proofs.Laws.{reads_as, stops_as, count_stops, counted_reads}
 use Rattle.library.proofs.read_bins.Goals as goal
 
-pub loop-k-init : goal.loop-k-init
-unfolding times last
-loop-k-init c = (omega arith, refl, refl, omega arith, refl, omega arith)
+pub returns-in_err-count : goal.returns-in_err-count
+unfolding bins bin_load
+returns-in_err-count c = stopped _ c.from_residual.ensures.1 (count_stops 3 (within 1 4) bin_load (λ s xs f p. refl) c.in_err-count.ensures (omega arith))
 
-pub loop-k-preserved : goal.loop-k-preserved
-loop-k-preserved c =
-    let a = c.args in
-    let i = c.loop-k in
-    let r = bin_load a.s.now in
-    let x = times i.k r a.scan in
-    let e = bin_range a.s.now x.0 i.before i.at x.1 i.invariant.2 i.invariant.4 in
-    let v : c.ranged-got.result.value ≡ (r x.0 x.1).0 = c.ranged-got.ensures.value ∙ ap (λ (q : ℕ × Scan). q.0) e in (
-      omega arith,
-      filled_more 4 0 (λ (q : ℕ). q) r a.scan i.k i.loads c.ranged-got.result.value i.invariant.1 v,
-      v ∙ sym (ap last (times_value i.k r a.scan) ∙ last_more x.0 _),
-      c.ranged-got.ensures.small,
-      c.ranged-got.ensures.scan ∙ ap (λ (q : ℕ × Scan). q.1) e ∙ sym (times_scan i.k r a.scan),
-      omega (arith, c.ranged-got.ensures.near, i.invariant.5),
-    )
+pub returns-in_err-loads : goal.returns-in_err-loads
+unfolding bins
+returns-in_err-loads c =
+    let n = c.in_ok-count.ensures in
+    stopped _ c.from_residual-in_err-loads.ensures.1 (counted_reads 3 (within 1 4) bin_load n n.takes.holds.0 _ (stops_as c.in_err-loads.ensures) (omega (arith, n.takes.holds)))
 
 pub returns : goal.returns
+unfolding bins
 returns c =
-    let a = c.args in
-    let i = c.loop-k in
-    let done : i.k ≡ a.count = omega arith in
-    let x : ℕ → List ℕ × Scan = λ k. times k (bin_load a.s.now) a.scan in
-    record {
-      loads = i.invariant.1 ∙ ap (padded 4 0) (map-id (x i.k).0) ∙ ap (λ (k : ℕ). padded 4 0 (x k).0) done;
-      scan_is = i.invariant.4 ∙ ap (λ (k : ℕ). (x k).1) done;
-      near = omega (arith, i.invariant.5);
-    }
+    let n = c.in_ok-count.ensures in
+    counted_reads 3 (within 1 4) bin_load n n.takes.holds.0 _
+    (reads_as c.in_ok-loads.ensures (λ h. record { counted = sym (length_times _ _ _); loads = h; few = n.takes.holds.1 }))
+    (omega (arith, n.takes.holds))

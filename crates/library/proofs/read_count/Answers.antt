@@ -1,14 +1,15 @@
-use native.Mathlib.Omega.{arith}
+use mathlib.Core.Path.{sym, ◌∙◌}
+use Rattle.fields.proofs.Laws.{judged_sound}
 use Rattle.sheets_rules.specs.LibrarySheet.{count_verdict}
-use Rattle.fields.proofs.Laws.{settled_field, both}
-use Rattle.sheets_rules.proofs.LibrarySheet.{count_passes, count_fits}
+use Rattle.sheets_rules.proofs.LibrarySheet.{count_passes}
 use Rattle.library.proofs.read_count.Goals as goal
 
 pub returns : goal.returns
 returns c =
     let a = c.args in
-    let got = c.raw-got in
-    let v = count_verdict a.total in
-    let r = settled_field a.s.now 3 v a.scan got.result c.settle.result c.count_verdict.result 7
-    (both got.ensures) c.count_verdict.ensures c.settle.ensures (λ x l e. (count_passes a.total x e).1) in
-    record { reads = r; fits = rw r.value (count_fits a.s.now a.total a.scan (omega arith)) }
+    let x = c.in_ok-count.count in
+    let read = c.in_ok-count.ensures in
+    let sound = sym c.count_verdict.ensures ∙ c.in_ok-settle.ensures in
+    let passes = count_passes a.total x sound in
+    let took = judged_sound a.sheet.now.bytes.now 3 a.sheet.now.at (count_verdict a.total) _ _ _ x read.takes 7 sound passes.1 in
+    record { same = read.same; takes = record { at = took.at; holds = record { is = took.holds.0; few = took.holds.1; fits = passes.0 }; near = took.near } }

@@ -1,33 +1,25 @@
 use native.Mathlib.Omega.{arith}
-use Prim.Native.Nat.{ℕ}
-use mathlib.Core.Path.{◌≡◌, refl, ap, ◌∙◌}
+use mathlib.Core.Path.{refl, ap, ◌∙◌}
+use mathlib.Core.List.{[], ◌∷◌}
+use Prim.Native.Nat.{◌+◌, ◌-◌, ◌*◌}
+use lib.ListN.{length}
 use lib.Seq.{sets}
-use Rattle.sheets_rules.specs.Model.{pins_most}
-use Rattle.sheets_rules.specs.Inside.Layout.{figures_at, pin_figures, figures}
+use Rattle.sheets_rules.specs.Inside.Layout.{pin_words, figures_at, pin_figures, figures}
 use Rattle.sheets_rules.proofs.Rows.{figures_turn}
+use Rattle.library.proofs.Laws.{mid_copied}
 use Rattle.library.proofs.write_figures.Goals as goal
 
 pub loop-p-init : goal.loop-p-init
 unfolding figures
-loop-p-init c = (omega arith, refl, refl)
-
-pub write_words-requires : goal.write_words-requires
-write_words-requires c = omega (arith, c.loop-p.invariant.1, c.requires)
+loop-p-init c = refl
 
 pub loop-p-preserved : goal.loop-p-preserved
 unfolding pin_figures
 loop-p-preserved c =
     let a = c.args in
     let i = c.loop-p in
-    let w = c.write_words in
-    (omega arith, w.auto.table ∙ i.invariant.1, figures_turn a.cell i.p a.row.now i.row w.new.table i.invariant.2 w.ensures)
-
-pub shape_of-row : goal.shape_of-row
-shape_of-row c = c.loop-p.invariant.1
-
-pub returns : goal.returns
-returns c =
-    let a = c.args in
-    let i = c.loop-p in
-    let done : i.p ≡ pins_most = omega arith in
-    i.invariant.2 ∙ ap (λ (p : ℕ). sets a.row.now figures_at (figures a.cell p)) done
+    let w = c.copy_from_slice in
+    let at = figures_at + pin_words * i.p in
+    figures_turn a.cell i.p a.row.now i.row _ i.invariant
+    (mid_copied i.row at (at + pin_words - at) w.new.self (omega (arith, ap length w.ensures.after)) (omega (arith, i.auto.row))
+    ∙ ap (sets i.row at) (w.ensures.after ∙ (λ j. c.from.ensures j ∷ (c.from-in-loop-p.ensures j ∷ (c.from-in-loop-p-2.ensures j ∷ (c.from-in-loop-p-3.ensures j ∷ []))))))

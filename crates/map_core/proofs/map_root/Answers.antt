@@ -1,8 +1,9 @@
 use borrow.Author.Rules.{rules}
-use Prim.Native.Nat.{ℕ}
-use mathlib.Core.Path.{ap}
+use mathlib.Core.Path.{◌≡◌}
 use native.Mathlib.Omega.{arith}
-use Rattle.map_core.proofs.Root.{leaf_small, leaf_mapped, root_goal, gate_none, gate_chooses, gate_found}
+use Rattle.std.proofs.lemmas.Result.{err_from_is_err_and}
+use Rattle.map_core.specs.Inside.Found.{no_cover}
+use Rattle.map_core.proofs.Root.{leaf_small, leaf_mapped, nothing_looked, gate_none, gate_chooses, gate_found}
 use Rattle.map_core.proofs.map_root.Goals as goal
 
 pub map_leaf-requires : goal.map_leaf-requires
@@ -13,22 +14,20 @@ returns-then-symbol-ge-LEAF c l t given =
     let e = c.if-symbol-ge-LEAF in
     leaf_mapped given (omega (arith, e)) c.map_leaf.result (rw c.from-load.ensures at c.map_leaf.ensures)
 
-pub returns-then-w : goal.returns-then-w
-returns-then-w c l t given =
+pub returns-in_err-w : goal.returns-in_err-w
+returns-in_err-w c l t given =
     let e = c.if-symbol-ge-LEAF in
-    let f = c.look_up-w in
-    let z = c.if-w in
-    gate_none given (omega (arith, e)) f.result (rw c.from.ensures at f.ensures) (omega (arith, z))
+    let nowhere = c.in_err-w.ensures.ok_part in
+    let p = err_from_is_err_and c.from_residual.result c.from_residual.ensures.1 in
+    rw (p.1, p.2, nothing_looked c.in_err-w.ensures.value nowhere) (gate_none given (omega (arith, e)) (rw (nowhere, c.from.ensures) at c.look_up.ensures))
 
 pub choose-requires : goal.choose-requires
 choose-requires c =
     let (l, (t, given)) = c.requires.curved in
     let e = c.if-symbol-ge-LEAF in
-    let z = c.if-w in
-    (l, (t, (t.shape, gate_chooses given (omega (arith, e)) c.look_up-w.result (rw c.from.ensures at c.look_up-w.ensures) (λ y. omega (arith, z, y)) _ (cc) _ c.bare-cover.ensures _ c.rows.ensures _ c.requires.room)))
+    (l, (t, (t.shape, gate_chooses given (omega (arith, e)) c.in_ok-w.w (rw (c.in_ok-w.ensures.ok_part, c.from.ensures) at c.look_up.ensures) _ (cc) _ c.bare-cover.ensures _ c.rows.ensures _ c.requires.room)))
 
 pub returns : goal.returns
 returns c l t given =
     let e = c.if-symbol-ge-LEAF in
-    let z = c.if-w in
-    gate_found given (omega (arith, e)) c.look_up-w.result (rw c.from.ensures at c.look_up-w.ensures) (λ y. omega (arith, z, y)) _ (cc) _ c.bare-cover.ensures _ c.rows.ensures _ c.requires.room c.choose.new.cover c.choose.ensures
+    gate_found given (omega (arith, e)) c.in_ok-w.w (rw (c.in_ok-w.ensures.ok_part, c.from.ensures) at c.look_up.ensures) _ (cc) _ c.bare-cover.ensures _ c.rows.ensures _ c.requires.room c.choose.new.cover c.choose.ensures

@@ -13,7 +13,7 @@ use Rattle.covers.specs.Choice.{choice}
 use Rattle.covers.specs.Inside.Allowed.{Allowed}
 use Rattle.leaves.specs.Inside.Leaf.{leaf_of}
 use Rattle.overlay.specs.Inside.Promises.{SheetsStored}
-use Rattle.matching.specs.Inside.Found.{match_table}
+use Rattle.matching.specs.Inside.Found.{match_most}
 use Rattle.curves.specs.Inside.Words.{point_limit}
 use Rattle.choosing.specs.Inside.Promises.{Prepared}
 use Rattle.result_sheets.specs.declared.CoverRecord.{CoverRecord}
@@ -32,7 +32,7 @@ pub record Started (most : ℕ) (l : Library) (t : Tree) (library : LibraryRecor
 -- The library and the tree with the curves of all nodes, none of which is overfull.
 pub record Curved (most : ℕ) (l : Library) (t : Tree) (library : LibraryRecord) (tree : TreeRecord) (work : List ℕ) : Type 0 where
   pub sheets : SheetsStored l t library tree
-  pub prepared : Prepared most l t (rows_of library) tree.symbols tree.sizes match_table work
+  pub prepared : Prepared most l t (rows_of library) tree.symbols tree.sizes match_most work
   pub some_most : 1 ≤ most
   pub not_overfull : overfull_node most l t ≡ none
 
