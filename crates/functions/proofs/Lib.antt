@@ -4,3 +4,4 @@ pub mod Standing
 pub mod Rows
 pub mod Judged
 pub mod Sheet
+pub mod Read

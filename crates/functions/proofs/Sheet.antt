@@ -1,14 +1,16 @@
 -- A library that was read, the function sheet that was read with its pin counts, and the answer.
 use Prim.Native.Nat.{ℕ, ◌+◌, ◌*◌, ◌<◌}
-use mathlib.Core.Path.{◌≡◌, sym, ap, subst, ◌∙◌}
+use mathlib.Core.Path.{◌≡◌, sym, ap, ◌∙◌}
 use mathlib.Core.List.{List}
 use native.Mathlib.Omega.{arith}
 use lib.ListN.{length, get_or, take, replicate, length-replicate}
 use lib.Seq.{length-sets}
-use Rattle.fields.specs.declared.Scan.{Scan}
 use Rattle.fields.specs.Reading.{start}
 use Rattle.fields.specs.Answer.{Answer, on_success, ◌>>=◌}
-use Rattle.fields.proofs.Answer.{read_said, after_refused}
+use Rattle.fields.proofs.Answer.{told_said, flawed_said, after_refused}
+use Rattle.fields.specs.declared.Flaw.{Flaw}
+use Rattle.fields.specs.Inside.Promises.{Told, Flawed}
+use Rattle.sheets_rules.specs.declared.Reason.TheVariants.{FunctionSheet}
 use Rattle.std.specs.Prelude.{Err}
 use Rattle.sheets_rules.specs.declared.Refusal.{Refusal}
 use Rattle.fields.proofs.Laws.{length_times}
@@ -17,7 +19,7 @@ use Rattle.sheets_rules.specs.Model.{Cell, Library, patterns}
 use Rattle.sheets_rules.specs.Inside.Layout.{row_words}
 use Rattle.sheets_rules.specs.Inside.Sound.{SoundLibrary, LibraryStored}
 use Rattle.sheets_rules.specs.declared.LibraryRecord.{LibraryRecord}
-use Rattle.sheets_rules.specs.Report.{LibraryLimits, library_number, counts_of, refusal, of_library_judged}
+use Rattle.sheets_rules.specs.Report.{LibraryLimits, library_number, counts_of, of_library_judged}
 use Rattle.sheets_rules.specs.Inside.Readers.{LibraryIs}
 use Rattle.sheets_rules.proofs.Laid.{padded_at}
 use Rattle.sheets_rules.proofs.Patterns.{no_cell}
@@ -25,7 +27,7 @@ use Rattle.sheets_rules.proofs.Report.{number_bounds}
 use Rattle.sheets_rules.proofs.Stored.{cell_count, rows_filled}
 use Rattle.functions_rules.specs.FunctionSheet.{pin_counts, function, function_sheet}
 use Rattle.functions_rules.specs.Report.{drawings_judged, functions_number, functions_judged, sheet_judged, functions_report}
-use Rattle.functions.specs.Inside.Promises.{RowsHold, PinsCounted, PinsFew, FunctionsRead, FunctionsRefused, Stated}
+use Rattle.functions.specs.Inside.Promises.{RowsHold, PinsCounted, PinsFew, Arrayed, Stated}
 use Rattle.functions_rules.proofs.Reading.{field_small}
 use Rattle.functions.proofs.Judged.{judged_same, InLimits, refusal_limits, drawings_limits}
 use Rattle.functions_rules.proofs.Pins.{count_pins}
@@ -36,6 +38,10 @@ rows_hold g = record { sound = g.sound; rows_are = rows_filled g }
 -- The pins that were counted are the library's.
 pub own_pins : {l : Library} {library : LibraryRecord} (pins : List ℕ) → PinsCounted (take (row_words * library.total) library.rows) pins → LibraryStored l library → take library.count pins ≡ pin_counts l
 own_pins {l} pins all g = ap (λ (n : ℕ). take n pins) (cell_count g) ∙ all l (rows_hold g)
+
+-- A function sheet's refusal.
+abbrev pub refused_at : Flaw → Refusal
+refused_at e = record { item = 0; reason = FunctionSheet e.fault; place = e.place }
 
 module _ {l : Library} (sound : SoundLibrary l) where
   -- A sheet can be read with the library's own pin counts.
@@ -51,15 +57,15 @@ module _ {l : Library} (sound : SoundLibrary l) where
   }
 
   -- The functions that were read.
-  module _ (s functions : List ℕ) (h : FunctionsRead s (pin_counts l) functions) where
+  module _ (s functions : List ℕ) (h : Told Arrayed (function_sheet s (pin_counts l) start) functions) where
     pub functions_long : length functions ≡ 64
-    functions_long = ap length h.functions_are ∙ length-sets (replicate 64 0) 0 (function_sheet s (pin_counts l) start).0 ∙ length-replicate {A = ℕ} 64 0
+    functions_long = ap length h.holds ∙ length-sets (replicate 64 0) 0 (function_sheet s (pin_counts l) start).0 ∙ length-replicate {A = ℕ} 64 0
 
     -- What stands in the array is what was read.
     stands : (k : ℕ) → get_or functions k 0 ≡ get_or (function_sheet s (pin_counts l) start).0 k 0
     unfolding function_sheet
     stands k =
-        ap (λ (xs : List ℕ). get_or xs k 0) h.functions_are
+        ap (λ (xs : List ℕ). get_or xs k 0) h.holds
         ∙ padded_at 64 (function_sheet s (pin_counts l) start).0 k (omega (arith, length_times (length (pin_counts l)) (function s (pin_counts l)) start, count_pins l, sound.few_cells))
 
     pub stated : Stated l functions
@@ -69,24 +75,21 @@ module _ {l : Library} (sound : SoundLibrary l) where
     pub sheet_judged_lem : drawings_judged functions (counts_of l) 0 (patterns l) ≡ sheet_judged s l
     unfolding functions_judged
     sheet_judged_lem =
-        let x = function_sheet s (pin_counts l) start in
-        judged_same functions x.0 stands (counts_of l) 0 (patterns l) ∙ sym (ap (λ (o : Answer (List ℕ)). o >>= (λ fs. drawings_judged fs (counts_of l) 0 (patterns l))) (read_said functions_number x h.live))
+        judged_same functions (function_sheet s (pin_counts l) start).0 stands (counts_of l) 0 (patterns l)
+        ∙ sym (ap (λ (o : Answer (List ℕ)). o >>= (λ fs. drawings_judged fs (counts_of l) 0 (patterns l))) (told_said functions_number h))
 
     pub sheet_limits : InLimits (drawings_judged functions (counts_of l) 0 (patterns l))
     sheet_limits = drawings_limits functions (counts_of l) sound.few_cells sound.few_patterns 0 (patterns l) (omega (arith, sound.few_patterns))
 
   -- The sheet's refusal.
-  module _ (s : List ℕ) (q : Refusal) (h : FunctionsRefused s (pin_counts l) q) where
-    pub sheet_refused : of_library_judged (Err q) ≡ sheet_judged s l
+  module _ (s : List ℕ) (e : Flaw) (h : Flawed (function_sheet s (pin_counts l) start) (64 * 64) e) where
+    pub sheet_refused : of_library_judged (Err (refused_at e)) ≡ sheet_judged s l
     unfolding functions_judged functions_number of_library_judged
-    sheet_refused =
-        let x = function_sheet s (pin_counts l) start in
-        ap refusal h.refused_is ∙ sym (ap (λ (z : Scan). functions_judged l (x.0, z)) h.scan_is)
+    sheet_refused = sym (ap (λ (o : Answer (List ℕ)). o >>= (λ fs. drawings_judged fs (counts_of l) 0 (patterns l))) (flawed_said functions_number h))
 
-    pub refused_limits : InLimits (of_library_judged (Err q))
+    pub refused_limits : InLimits (of_library_judged (Err (refused_at e)))
     unfolding of_library_judged
-    refused_limits =
-        subst (λ r. InLimits (refusal r)) (sym h.refused_is) (refusal_limits (library_number h.fault + 29) q.place (omega arith) (omega (arith, number_bounds h.fault)) (omega (arith, h.near)))
+    refused_limits = refusal_limits (library_number e.fault + 29) e.place (omega arith) (omega (arith, number_bounds e.fault)) (omega (arith, h.near))
 
 -- A refusal of the library is the answer, and within the limits.
 module _ (ls fs : List ℕ) (q : Refusal) (h : LibraryIs ls (Err q)) where

@@ -4,13 +4,14 @@
 ghost use Rattle.std.specs.Prelude.{◌≡◌, ◌≤◌, ◌<◌, length, take};
 ghost use Rattle.sheets_rules.specs.Model.{Shape, Library, Pattern};
 ghost use Rattle.sheets_rules.specs.Inside.Sound.{LibraryStored};
+ghost use Rattle.sheets_rules.specs.declared.Reason.TheVariants.{FunctionSheet};
 ghost use Rattle.sheets_rules.specs.Report.{of_library_judged, LibraryBounded};
 ghost use Rattle.functions_rules.specs.Function.{settings as settingsOf, pin_in};
 ghost use Rattle.functions_rules.specs.Report.{functions_report};
 ghost use Rattle.functions_rules.specs.Demands.{FunctionDemands};
 ghost use Rattle.functions.specs.Inside.Promises.{Tabulates, Standing, ShapeEvaluated, RowHolds, DrawingJudged, RowsHold, PinsCounted, PinsFew, FunctionsAre, DrawingsJudged, SheetJudged};
 
-use fields::Scan;
+use fields::{Flaw, Sheet};
 use shapes_rules::Packed;
 use sheets_rules::{Counts, LibraryRecord, Limits, PatternRow, Reason, Refusal, Slots};
 
@@ -100,25 +101,17 @@ fn pin_counts(rows: &[u32]) -> [u8; Limits::CELLS as usize]
 }
 
 // The function sheet of cells with these pin counts.
-fn read_functions(s: &[u8], pins: &[u8]) -> Result<[u64; Limits::CELLS as usize], Refusal>
+fn read_functions(s: &[u8], pins: &[u8]) -> Result<[u64; Limits::CELLS as usize], Flaw>
     requires { PinsFew pins.now }
     ensures { FunctionsAre s.now pins.now result }
 {
+    let mut sheet = Sheet::open(s);
     let mut functions = [0u64; Limits::CELLS as usize];
-    let mut at = fields::begin();
     for (k, count) in pins.iter().enumerate() {
-        let got = fields::raw_wide(at, s, settings(u32::from(*count)));
-        at = got.scan;
-        functions[k] = got.value;
+        functions[k] = sheet.raw_wide(settings(u32::from(*count)))?;
     }
-    match fields::end(at, s) {
-        Scan::At(_) => Ok(functions),
-        Scan::Refused(fault, place) => Err(Refusal {
-            item: 0,
-            reason: Reason::FunctionSheet(fault),
-            place,
-        }),
-    }
+    sheet.end()?;
+    Ok(functions)
 }
 
 // Each drawing in turn, against the function of its cell.
@@ -138,6 +131,17 @@ fn judge_drawings(rows: &[u32], functions: &[u64], counts: Counts) -> Result<Cou
     Ok(counts)
 }
 
+// A function sheet's refusal.
+fn refuse(flaw: Flaw) -> Refusal
+    ensures { result ≡ record { item = 0; reason = FunctionSheet flaw.fault; place = flaw.place } }
+{
+    Refusal {
+        item: 0,
+        reason: Reason::FunctionSheet(flaw.fault),
+        place: flaw.place,
+    }
+}
+
 // The function sheet of a sound library. All of it is read before a drawing is looked at.
 fn with_library(library: &LibraryRecord, s: &[u8]) -> Result<Counts, Refusal>
     requires { (l : Library) × LibraryStored l library.now }
@@ -150,7 +154,7 @@ fn with_library(library: &LibraryRecord, s: &[u8]) -> Result<Counts, Refusal>
     };
     let rows = &library.rows[..PatternRow::WORDS * counts.patterns];
     let pins = pin_counts(rows);
-    let functions = read_functions(s, &pins[..counts.cells])?;
+    let functions = read_functions(s, &pins[..counts.cells]).map_err(refuse)?;
     judge_drawings(rows, &functions, counts)
 }
 

@@ -10,13 +10,13 @@ use lib.Seq.{sets, set-append_left, take-suc, take_all, drop-cons, length-take-l
 use Rattle.std.proofs.lemmas.List.{get_or-take, drop_all}
 use Rattle.bits.specs.Bits.{ends_at, cursor_at, after, with_digit, with_bit, with_field, bytes_to}
 use Rattle.bits.proofs.Laws.{length_bit, length_field}
-use Rattle.fields.specs.declared.Scan.{Scan}
+use Rattle.fields.specs.Reading.{Scan}
 use Rattle.fields.specs.declared.Got.{Got}
 use Rattle.fields.specs.Reading.{place, start, times, free, field, ended}
 use Rattle.fields.specs.Inside.Promises.{Reads}
 use Rattle.fields.proofs.Lists.{sets_append, take_sets, at_map}
 use Rattle.fields.proofs.Laws.{value_at_lem, scan_at, length_times, tailed_place}
-use Rattle.fields.specs.declared.Scan.TheVariants.{At}
+use Rattle.fields.specs.Reading.{At}
 use Rattle.covers.specs.Cover.{Point, Placed, Cover}
 use Rattle.fields.specs.Written.{Field, widths, written, packed}
 use Rattle.fields.proofs.Written.{length_packed}

@@ -1,13 +1,12 @@
 -- What the functions of this crate promise each other.
-use Rattle.std.specs.Prelude.{ℕ, ◌+◌, ◌*◌, ◌^◌, ◌≤◌, ◌<◌, ◌≡◌, Bool, length, get_or, take, Result, MatchResult}
+use Rattle.std.specs.Prelude.{ℕ, ◌+◌, ◌*◌, ◌^◌, ◌≤◌, ◌<◌, ◌≡◌, Bool, length, get_or, take, Result}
 use mathlib.Core.List.{List, Memᴰ}
-use Rattle.fields.specs.Reading.{start, Live}
-use Rattle.fields.specs.declared.Fault.{Fault}
-use Rattle.fields.specs.declared.Scan.TheVariants.{Refused}
+use Rattle.fields.specs.Reading.{start}
+use Rattle.fields.specs.declared.Flaw.{Flaw}
+use Rattle.fields.specs.Inside.Promises.{Tells}
 use Rattle.shapes_rules.specs.Shape.{symbols}
 use Rattle.sheets_rules.specs.declared.LibraryRecord.{LibraryRecord}
 use Rattle.sheets_rules.specs.declared.Counts.{Counts}
-use Rattle.sheets_rules.specs.declared.Reason.{Reason}
 use Rattle.sheets_rules.specs.declared.Refusal.{Refusal}
 use Rattle.sheets_rules.specs.Model.{Leaf, pin_of, Shape, size, leaves, Library, Pattern, patterns}
 use Rattle.sheets_rules.specs.Inside.Sound.{SoundLibrary, LibraryStored}
@@ -79,21 +78,13 @@ pub record PinsFew (pins : List ℕ) : Type 0 where
   pub few_cells : length pins ≤ 64
   pub few_pins : (k : ℕ) → k < length pins → get_or pins k 0 ≤ 6
 
-module _ (s pins : List ℕ) where
-  -- The functions that a sheet states, in the order of the cells.
-  pub record FunctionsRead (functions : List ℕ) : Type 0 where
-    pub live : Live (function_sheet s pins start).1
-    pub functions_are : functions ≡ padded 64 0 (function_sheet s pins start).0
+-- The functions of the cells in an array, in their order.
+abbrev pub Arrayed : (fs functions : List ℕ) → Type 0
+Arrayed fs functions = functions ≡ padded 64 0 fs
 
-  -- The sheet is refused.
-  pub record FunctionsRefused (r : Refusal) : Type 0 where
-    pub fault : Fault
-    pub refused_is : r ≡ record { item = 0; reason = Reason.FunctionSheet fault; place = r.place }
-    pub scan_is : (function_sheet s pins start).1 ≡ Refused fault r.place
-    pub near : r.place ≤ 64 * 64
-
-  abbrev pub FunctionsAre : Result (List ℕ) Refusal → Type 0
-  FunctionsAre r = MatchResult r FunctionsRead FunctionsRefused
+-- The functions that a sheet states, or its flaw.
+abbrev pub FunctionsAre : (s pins : List ℕ) → Result (List ℕ) Flaw → Type 0
+FunctionsAre s pins = Tells Arrayed (function_sheet s pins start) (64 * 64)
 
 -- Functions that are stated of a library's cells: each has a bit for every setting.
 abbrev pub Stated : Library → List ℕ → Type 0

@@ -2,7 +2,7 @@ use native.Mathlib.Omega.{arith}
 use Prim.Native.Nat.{◌+◌}
 use mathlib.Core.Path.{◌≡◌, refl, sym, ap, ◌∙◌}
 use mathlib.Core.List.{[], ◌∷◌, ◌++◌}
-use Rattle.fields.specs.declared.Scan.{Scan}
+use Rattle.fields.specs.Reading.{Scan}
 use Rattle.fields.specs.Reading.{times}
 use Rattle.fields.proofs.Laws.{length_times, times_value, times_scan}
 use Rattle.covers.specs.Cover.{Placed}
