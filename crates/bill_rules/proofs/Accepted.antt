@@ -20,6 +20,7 @@ use Rattle.judge_rules.proofs.Demands.{judge_demands}
 pub record Accepted (ls ts cs : List ℕ) (p : Point) : Type 0 where
   pub library_live : Live (library ls start).1
   pub tree_live : Live (tree ts start).1
+  pub cover_live : Live (cover_read cs start).1
   pub legal : RootCover (library ls start).0 (tree ts start).0 (cover_read cs start).0
   pub point : (cover_read cs start).0.point ≡ p
 
@@ -34,4 +35,5 @@ accepted ls ts cs p e =
     let same : c ≡ (cover_read cs start).0 = sym (ap (λ (r : Cover × Scan). r.0) reads.reads) in
     let of-library = subst (λ (q : Library). RootCover q read.0 c) (sym l.0) legal in
     let of_Tree = subst (λ (q : Tree). RootCover (library ls start).0 q c) (sym t.0) of-library in
-    record { library_live = l.1; tree_live = t.1; legal = subst (λ (q : Cover). RootCover (library ls start).0 (tree ts start).0 q) same of_Tree; point = ap (λ (d : Cover). d.point) (sym same) ∙ point }
+    let cover = subst (λ r. Live r.1) (sym reads.reads) tt in
+    record { library_live = l.1; tree_live = t.1; cover_live = cover; legal = subst (λ (q : Cover). RootCover (library ls start).0 (tree ts start).0 q) same of_Tree; point = ap (λ (d : Cover). d.point) (sym same) ∙ point }
