@@ -2,8 +2,8 @@
 #![tactic(auto)]
 
 ghost use Rattle.std.specs.Prelude.{◌≡◌, ◌<◌};
-ghost use Rattle.fields.specs.Answer.{refusal as refusalOf, on_success, items, numbers, places, word, of_word, Bounded};
-ghost use Rattle.sheets_rules.specs.Report.{of_library_judged, library_word, of_library_word, library_report, tree_report};
+ghost use Rattle.fields.specs.Answer.{on_success, items, places, word, of_word, Bounded};
+ghost use Rattle.sheets_rules.specs.Report.{refusal as refusalOf, of_library_judged, library_word, of_library_word, library_report, tree_report};
 ghost use Rattle.functions_rules.specs.Report.{functions_report};
 ghost use Rattle.functions_rules.specs.Demands.{FunctionDemands};
 ghost use Rattle.map_rules.specs.Public.{of_reply, Maps, Lists};
@@ -11,10 +11,8 @@ ghost use Rattle.judge_rules.specs.Judgement.{judgement, point_word, of_point_wo
 ghost use Rattle.judge_rules.specs.Public.{of_cover_judged, Judges};
 ghost use Rattle.part_rules.specs.Public.{MapsPart};
 
-use fields::Refusal;
-use judge_rules::CoverJudged;
-use map_rules::Reply;
-use sheets_rules::{LibraryJudged, Limits, TreeJudged};
+use judge_rules::Figures;
+use sheets_rules::{Counts, Limits, Refusal};
 
 // A word has the number above the places, and the item above the numbers.
 #[derive(Clone, Copy)]
@@ -33,22 +31,31 @@ impl AnswerWord {
 }
 
 // A refusal in one word.
+#[tactic(auto, unfolding(fields::specs::Answer::word))]
 fn refusal_word(refusal: Refusal) -> u64
-    requires { (refusal.item < items) × (refusal.number < numbers) × (refusal.place < places) }
+    requires { (refusal.item < items) × (refusal.place < places) }
     ensures { result ≡ word (refusalOf refusal) }
 {
-    let above = refusal.item as u64 * AnswerWord::NUMBERS + refusal.number as u64;
+    let number = refusals::number(refusal.reason);
+    let above = u64::from(refusal.item) * AnswerWord::NUMBERS + u64::from(number);
     above * AnswerWord::PLACES + refusal.place as u64
 }
 
 // What is said of a library in one word: cells × 256 + patterns, or the refusal.
-fn counts_word(judged: LibraryJudged) -> u64
+#[tactic(auto, unfolding(
+    sheets_rules::specs::Report::of_library_judged,
+    sheets_rules::specs::Report::library_word,
+    fields::specs::Answer::on_success,
+    fields::specs::Answer::word,
+    fields::specs::Answer::Bounded
+))]
+fn counts_word(judged: Result<Counts, Refusal>) -> u64
     requires { Bounded (on_success library_word (of_library_judged judged)) }
     ensures { result ≡ word (on_success library_word (of_library_judged judged)) }
 {
     match judged {
-        LibraryJudged::Sound(cells, patterns) => (cells * AnswerWord::PATTERNS + patterns) as u64,
-        LibraryJudged::Refused(refusal) => refusal_word(refusal),
+        Ok(counts) => (counts.cells * AnswerWord::PATTERNS + counts.patterns) as u64,
+        Err(refusal) => refusal_word(refusal),
     }
 }
 
@@ -57,8 +64,7 @@ fn counts_word(judged: LibraryJudged) -> u64
 pub extern "C" fn treecover_judge_library(library: &[u8]) -> u64
     ensures { result ≡ word (on_success library_word (library_report library.now)) }
 {
-    let judged = library::judge_library(library);
-    counts_word(judged)
+    counts_word(library::judge_library(library))
 }
 
 // Judges the functions of a library's drawings: cells × 256 + patterns, or the refusal.
@@ -67,30 +73,38 @@ pub extern "C" fn treecover_judge_functions(library: &[u8], functions: &[u8]) ->
     ensures value { result ≡ word (on_success library_word (functions_report library.now functions.now)) }
     ensures function_demands { FunctionDemands library.now functions.now (on_success of_library_word (of_word result)) }
 {
-    let judged = functions::judge_functions(library, functions);
-    counts_word(judged)
+    counts_word(functions::judge_functions(library, functions))
 }
 
 // Judges a tree: its node count, or the refusal.
 #[unsafe(no_mangle)]
+#[tactic(auto, unfolding(
+    sheets_rules::specs::Report::of_tree_judged,
+    fields::specs::Answer::word,
+    fields::specs::Answer::Bounded
+))]
 pub extern "C" fn treecover_judge_tree(tree: &[u8]) -> u64
     ensures { result ≡ word (tree_report tree.now) }
 {
-    let judged = tree::judge_tree(tree);
-    match judged {
-        TreeJudged::Sound(nodes) => nodes as u64,
-        TreeJudged::Refused(refusal) => refusal_word(refusal),
+    match tree::judge_tree(tree) {
+        Ok(nodes) => nodes as u64,
+        Err(refusal) => refusal_word(refusal),
     }
 }
 
 // A reply in one word.
-fn reply_word(reply: Reply) -> u64
+#[tactic(auto, unfolding(
+    map_rules::specs::Public::of_reply,
+    fields::specs::Answer::word,
+    fields::specs::Answer::Bounded
+))]
+fn reply_word(reply: Result<usize, Refusal>) -> u64
     requires { Bounded (of_reply reply) }
     ensures { result ≡ word (of_reply reply) }
 {
     match reply {
-        Reply::Refused(refusal) => refusal_word(refusal),
-        Reply::Sheets(bytes) => bytes as u64,
+        Ok(bytes) => bytes as u64,
+        Err(refusal) => refusal_word(refusal),
     }
 }
 
@@ -104,8 +118,7 @@ pub extern "C" fn treecover_map(
 ) -> u64
     ensures { Maps library.now tree.now output.old output.new work.old work.new (of_word result) }
 {
-    let reply = map::map(library, tree, output, work);
-    reply_word(reply)
+    reply_word(map::map(library, tree, output, work))
 }
 
 // Lists the trade-offs of a tree's root: the bytes of the list sheet in the output, or the refusal.
@@ -118,20 +131,26 @@ pub extern "C" fn treecover_list(
 ) -> u64
     ensures { Lists library.now tree.now output.old output.new work.old work.new (of_word result) }
 {
-    let reply = map::list(library, tree, output, work);
-    reply_word(reply)
+    reply_word(map::list(library, tree, output, work))
 }
 
 // A judgement of a cover in one word.
-fn judged_word(judged: CoverJudged) -> u64
+#[tactic(auto, unfolding(
+    judge_rules::specs::Public::of_cover_judged,
+    judge_rules::specs::Judgement::point_word,
+    judge_rules::specs::Judgement::PointBounded
+))]
+fn judged_word(judged: Result<Figures, Refusal>) -> u64
     requires { PointBounded (of_cover_judged judged) }
     ensures { result ≡ point_word (of_cover_judged judged) }
 {
     match judged {
-        CoverJudged::Accepted(area, arrival) => {
-            AnswerWord::ACCEPTED + area as u64 * Limits::TIMES + arrival as u64
+        Ok(figures) => {
+            AnswerWord::ACCEPTED
+                + u64::from(figures.area) * Limits::TIMES
+                + u64::from(figures.arrival)
         }
-        CoverJudged::Refused(refusal) => refusal_word(refusal),
+        Err(refusal) => refusal_word(refusal),
     }
 }
 
@@ -141,8 +160,7 @@ pub extern "C" fn treecover_judge_cover(library: &[u8], tree: &[u8], cover: &[u8
     ensures value { result ≡ point_word (judgement library.now tree.now cover.now) }
     ensures judges { Judges library.now tree.now cover.now (of_point_word result) }
 {
-    let judged = judge::judge_cover(library, tree, cover);
-    judged_word(judged)
+    judged_word(judge::judge_cover(library, tree, cover))
 }
 
 // Maps the trees of a part: the bytes of their cover sheets in the output, or the refusal with its tree.
@@ -155,6 +173,5 @@ pub extern "C" fn treecover_map_part(
 ) -> u64
     ensures { MapsPart library.now part.now output.old output.new work.old work.new (of_word result) }
 {
-    let reply = part::map_part(library, part, output, work);
-    reply_word(reply)
+    reply_word(part::map_part(library, part, output, work))
 }

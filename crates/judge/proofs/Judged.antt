@@ -1,10 +1,10 @@
 -- From a cover sheet, sound or not, to what is said of it; and what that is worth.
 use Prim.Native.Nat.{ℕ}
-use mathlib.Core.Path.{◌≡◌, refl, sym, ap, ap₂, ◌∙◌}
+use mathlib.Core.Path.{◌≡◌, refl, sym, ap, ◌∙◌}
 use mathlib.Core.List.{List}
-use Rattle.bits.specs.declared.Cursor.{Cursor}
-use Rattle.fields.specs.declared.Fault.{Fault}
-use Rattle.fields.specs.Reading.{Scan}
+use Rattle.fields.specs.declared.Flaw.{Flaw}
+use Rattle.fields.specs.Inside.Promises.{Told, Flawed}
+use Rattle.fields.specs.Reading.{Scan, Live}
 use Rattle.fields.specs.Reading.{At, Refused}
 use Rattle.fields.specs.Reading.{start}
 use Rattle.fields.specs.Answer.{Answer, refused, success}
@@ -12,8 +12,8 @@ use Rattle.sheets_rules.specs.Model.{Library, Tree}
 use Rattle.sheets_rules.specs.Report.{library_said, tree_said, number_of, refusal}
 use Rattle.covers.specs.Cover.{Point, Cover}
 use Rattle.covers.specs.CoverSheet.{cover_read}
-use Rattle.result_sheets.specs.declared.CoverRead.{CoverRead}
-use Rattle.result_sheets.specs.Public.{cover_of, CoverIs}
+use Rattle.result_sheets.specs.declared.CoverRecord.{CoverRecord}
+use Rattle.result_sheets.specs.Public.{cover_of, cover_bits, CoverHolds}
 use Rattle.judge_rules.specs.Walk.{started, walk}
 use Rattle.judge_rules.specs.Judgement.{sheet_number, figures, cover_judged, judgement}
 use Rattle.judge_rules.specs.Public.{of_cover_judged, Judges}
@@ -37,14 +37,19 @@ figures_refused stated q e = ap (figures stated) e
 
 -- ---- a cover sheet
 
-module _ (cs : List ℕ) (read : CoverRead) (h : CoverIs cs read) where
-  pub cover_answered : (l : Library) (t : Tree) (r : Result Figures Refusal) (q : Cursor) → read.scan ≡ At q → of_cover_judged r ≡ figures (cover_of read.cover).point (walk l 0 (cover_of read.cover).placed (started t)) → of_cover_judged r ≡ cover_judged (cover_read cs start) l t
+module _ (cs : List ℕ) (l : Library) (t : Tree) where
+  pub cover_answered : {c : CoverRecord} → Told CoverHolds (cover_read cs start) c → (r : Result Figures Refusal) → of_cover_judged r ≡ figures (cover_of c).point (walk l 0 (cover_of c).placed (started t)) →
+      of_cover_judged r ≡ cover_judged (cover_read cs start) l t
   unfolding cover_judged
-  cover_answered l t r q e said = said ∙ ap₂ (λ (c : Cover) (z : Scan). cover_judged (c, z) l t) h.cover_is (sym e ∙ h.scan_is)
+  cover_answered {c} h r said = go (cover_read cs start) h.live h.holds.cover_is
+    where
+      go : (x : Cover × Scan) → Live x.1 → cover_of c ≡ x.0 → of_cover_judged r ≡ cover_judged x l t
+      go (k, At q) live e = said ∙ ap (λ (k : Cover). cover_judged (k, At q) l t) e
+      go (k, Refused f p) live e = absurd live
 
-  pub cover_not_read : (l : Library) (t : Tree) (f : Fault) (p : ℕ) → read.scan ≡ Refused f p → refused sheet_number p ≡ cover_judged (cover_read cs start) l t
+  pub cover_not_read : {e : Flaw} → Flawed (cover_read cs start) (cover_bits 63) e → refused sheet_number e.place ≡ cover_judged (cover_read cs start) l t
   unfolding cover_judged
-  cover_not_read l t f p e = ap (λ (z : Scan). cover_judged ((cover_read cs start).0, z) l t) (sym e ∙ h.scan_is)
+  cover_not_read h = ap (λ (z : Scan). cover_judged ((cover_read cs start).0, z) l t) (sym h.says)
 
 -- ---- the whole answer
 

@@ -12,7 +12,6 @@ ghost use Rattle.judge_rules.specs.Walk.{Walk};
 ghost use Rattle.judge_rules.specs.Public.{of_cover_judged, Judges};
 ghost use Rattle.judge.specs.Inside.Promises.{arrived, pushed, Popped, Reached, Entering, InputsReached, CrossingTold, Taking, MatchTaken, Stepping, StepTaken, Judging, CoverWalked, RecordJudged, SheetJudged, TreeJudged, Fitting};
 
-use fields::Scan;
 use judge_rules::Figures;
 use overlay::{Crossing, Extents, Inputs};
 use result_sheets::{CoverRecord, MatchRecord};
@@ -223,10 +222,9 @@ fn with_tree(library: &LibraryRecord, tree: &TreeRecord, cover: &[u8]) -> Result
     requires { (l : Library) × ((t : Tree) × SheetsStored l t library.now tree.now) }
     ensures { SheetJudged library.now tree.now cover.now result }
 {
-    let read = result_sheets::read_cover(cover);
-    match read.scan {
-        Scan::At(_) => with_records(library, tree, &read.cover),
-        Scan::Refused(_, place) => Err(refused(Reason::CoverSheet, place)),
+    match result_sheets::read_cover(cover) {
+        Ok(cover) => with_records(library, tree, &cover),
+        Err(flaw) => Err(refused(Reason::CoverSheet, flaw.place)),
     }
 }
 

@@ -14,6 +14,7 @@ use sheets_rules::{LibraryRecord, Limits, Refusal, TreeRecord};
 
 // The cover of a tree as decoded by the cells of a library as decoded, on its sheet. The first words of the work area are zero before the
 // core begins and afterwards.
+#[tactic(auto, using(crate::proofs::Laws::started))]
 fn map_stored(
     library: &LibraryRecord,
     tree: &TreeRecord,
@@ -50,6 +51,7 @@ fn list_zeros(
 }
 
 // The same from any work area that is long enough: its first words are zero before the core begins and afterwards.
+#[tactic(auto, using(crate::proofs::Laws::started))]
 fn list_stored(
     library: &LibraryRecord,
     tree: &TreeRecord,

@@ -56,11 +56,12 @@ module _ {most : ℕ} {l : Library} {t : Tree} {library : LibraryRecord} {tree :
   filled work' e (Ok tt) w m is become = rw is (curved work' e w)
   filled work' e (Err n) w m is become = let (q, said, h) = err_from_is_err_and m is in rw said (n, become n q h, w)
 
-module _ (most : ℕ) (l : Library) (t : Tree) {q : Refusal} (n : ℕ) (is : q ≡ crowded n) (e : overfull_node most l t ≡ some n) where
-  pub map_crowded : MappedIs most l t (Err q)
-  unfolding mapped answered
-  map_crowded = rw is (record { answer_is = sym (ap (λ (o : Option ℕ). answered o (choice l t.load 0 t.shape t.required)) e); few = tt })
+-- ---- an overfull node
 
-  pub list_crowded : (work : List ℕ) → ListedIs most l t work (Err q)
-  unfolding listed answered
-  list_crowded work = rw is (record { answer_is = sym (ap (λ (o : Option ℕ). answered o (nonempty (tradeoffs l t.load 0 t.shape))) e); few = tt; small = tt })
+pub map_crowded : (most : ℕ) (l : Library) (t : Tree) (q : Refusal) (n : ℕ) → q ≡ crowded n → overfull_node most l t ≡ some n → MappedIs most l t (Err q)
+unfolding mapped answered
+map_crowded most l t q n is e = rw is (record { answer_is = sym (ap (λ (o : Option ℕ). answered o (choice l t.load 0 t.shape t.required)) e); few = tt })
+
+pub list_crowded : (most : ℕ) (l : Library) (t : Tree) (work : List ℕ) (q : Refusal) (n : ℕ) → q ≡ crowded n → overfull_node most l t ≡ some n → ListedIs most l t work (Err q)
+unfolding listed answered
+list_crowded most l t work q n is e = rw is (record { answer_is = sym (ap (λ (o : Option ℕ). answered o (nonempty (tradeoffs l t.load 0 t.shape))) e); few = tt; small = tt })

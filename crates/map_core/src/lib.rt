@@ -36,6 +36,7 @@ fn rows(library: &LibraryRecord) -> &[u32]
 }
 
 // The curves of every node, where none has too many trade-offs. A word is kept for each match of the table.
+#[tactic(auto, using(crate::proofs::Core::fill_start))]
 fn fill(
     library: &LibraryRecord,
     tree: &TreeRecord,
@@ -48,7 +49,16 @@ fn fill(
     ensures { Fills most library.now tree.now work.old work.new result }
 {
     let mut kept = [0u64; Hit::MATCHES];
-    filling::fill(rows(library), library.bins, tree, most, found, work, &mut kept).map_err(|place| Refusal {
+    filling::fill(
+        rows(library),
+        library.bins,
+        tree,
+        most,
+        found,
+        work,
+        &mut kept,
+    )
+    .map_err(|place| Refusal {
         item: 0,
         reason: Reason::Crowded,
         place,
@@ -68,6 +78,7 @@ fn map_leaf(symbol: u32, load: u32, time: u32) -> Result<CoverRecord, Refusal>
 }
 
 // The root's cover under its required time, from the curves.
+#[tactic(auto, using(crate::proofs::Root::leaf_small))]
 fn map_root(
     library: &LibraryRecord,
     tree: &TreeRecord,
@@ -100,6 +111,7 @@ fn map_root(
 
 // The cover that map hands over, for a sound library and a sound tree as decoded, where a node may have `most` trade-offs under a load, in
 // a work area of zeros.
+#[tactic(auto, using(crate::proofs::Core::map_crowded))]
 pub fn map_tree(
     library: &LibraryRecord,
     tree: &TreeRecord,
@@ -122,6 +134,7 @@ fn count_points(curve: &[u64]) -> usize
 }
 
 // How many trade-offs the root has, from its curve. A leaf has one, of no area, which is put in the curve's place.
+#[tactic(auto, using(crate::proofs::Root::leaf_small))]
 fn list_root(tree: &TreeRecord, most: usize, work: &mut [u64]) -> Result<usize, Refusal>
     requires { (l : Library) × ((t : Tree) × ((library : LibraryRecord) × Curved most l t library tree.now work.old)) }
     ensures { ListsCurved most tree.now work.old work.new result }

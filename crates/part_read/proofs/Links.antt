@@ -10,7 +10,7 @@ use lib.Dec.{eqb, ltb, leb}
 use lib.ListN.{length, get_or, set, replicate, get_elem?, length-append, length-replicate, length-set, length-map, get_or-append, get_or-eq_default}
 use lib.Seq.{append_snoc, get_or-append-add, get_or_at, get_or-set_same, get_or-set_other, length-sets}
 use borrow.Author.Tests.{le-leb, lt-leb, lt-ltb, le-ltb, eq-eqb, ne_eqb}
-use Rattle.fields.specs.Answer.{Answer, refused, refused_in, refusal, success, ◌>>=◌}
+use Rattle.fields.specs.Answer.{Answer, refused, refused_in, success, ◌>>=◌, Bounded, numbers, places}
 use Rattle.shapes_rules.specs.Shape.{leaf_symbol, symbols}
 use Rattle.shapes_rules.proofs.Drawing.{length_symbols}
 use Rattle.sheets_rules.specs.Model.{Shape, leaf, inv, nand, size, Tree}
@@ -22,12 +22,15 @@ use Rattle.fields.proofs.Lists.{zeros_at}
 use Rattle.covers.specs.Lists.{any}
 use Rattle.covers.proofs.Basics.{at_in}
 use Rattle.part_read.specs.declared.LinkRecord.{LinkRecord}
-use Rattle.fields.specs.declared.Finding.{Finding}
-use Rattle.fields.specs.declared.Refusal.{Refusal}
-use Rattle.fields.specs.declared.Finding.TheVariants.{Refused, Found}
+use Rattle.std.specs.Prelude.{Ok, Err}
+use Rattle.fields.proofs.Answer.{answer_apart, after_refused}
+use Rattle.sheets_rules.specs.declared.Reason.{Reason}
+use Rattle.sheets_rules.specs.declared.Refusal.{Refusal}
+use Rattle.sheets_rules.specs.Report.{number_of}
+use Rattle.sheets_rules.specs.Inside.Readers.{Says}
 use Rattle.part_read.specs.Inside.Decoded.{no_tree, TreesStored, Marks}
 use Rattle.part_link.specs.Inside.Promises.{driver_named}
-use Rattle.part_read.specs.Inside.Promises.{link_laid, no_link, links_laid, SmallLink, laid_or, answer_found, LinkAt}
+use Rattle.part_read.specs.Inside.Promises.{link_laid, no_link, links_laid, SmallLink, laid_or, LinkAt, LinkSaid, JudgesLink}
 use Rattle.part_rules.specs.Part.{Link, leaf_nodes, driver_of}
 use Rattle.part_rules.specs.PartSheet.{trees_most, leaf_field}
 use Rattle.part_rules.specs.PartRead.{link_number, driver_number, is_leaf_of, is_free, link_judged, links_judged}
@@ -74,20 +77,6 @@ leaf_by_symbol trees k n h = go (get_elem? trees k) refl
     go none e = sym (ap (leb 2) (zeros_at 64 n))
     go (some t) e = leaf_at 0 n n t.shape (omega arith) ∙ ap (leb 2) (sym (padded_at 64 (symbols t.shape) n (omega (arith, length_symbols t.shape, (h t (at_in trees k e)).size))))
 
--- ---- findings
-
-refused_found : {r : Refusal} → Refused r ≡ Found → ⊥
-refused_found e = let z : ◌≡◌ {A = ℕ} 0 1 = cc in omega arith
-
-stops : {A B : Type 0} (o : Answer A) (f : A → Answer B) {r : Refusal} → answer_found o ≡ Refused r → (o >>= f) ≡ refusal r
-unfolding ◌>>=◌
-stops {B = B} (refused_in i n p) f e = ap said_as e
-  where
-    said_as : Finding → Answer B
-    said_as (Refused r) = refusal r
-    said_as Found = refused 0 0
-stops (success a) f e = absurd (refused_found (sym e))
-
 -- ---- what is said of a link
 
 -- By whether its leaf field is as it should be, and whether its driver is lower.
@@ -104,45 +93,48 @@ module _ {trees : List Tree} {before : List Link} {x : Link} {tree : TreeRecord}
       let lower : ltb x.driving x.reading ≡ c = ap (λ (k : LinkRecord). ltb k.driving k.reading) (sym h.link_is) ∙ ec in
       rw (names, free, lower) refl
 
-  found : (a b c : Bool) → leb 2 (get_or tree.symbols link.node 0) ≡ a → is_free (driver_named driver) ≡ b → ltb link.driving link.reading ≡ c → answer_found (said before x (a && b) c) ≡ answer_found (link_judged trees before x)
-  found a b c ea eb ec = ap (λ (o : Answer (List Link)). answer_found o) (sym (says a b c ea eb ec))
+  pub not_leaf : get_or tree.symbols link.node 0 < 2 → link_judged trees before x ≡ refused link_number (leaf_field position)
+  not_leaf l = rw h.position_is (says false (is_free (driver_named driver)) (ltb link.driving link.reading) (lt-leb 2 (get_or tree.symbols link.node 0) l) refl refl)
 
-  pub not_leaf : get_or tree.symbols link.node 0 < 2 → Refused (record { item = 0; number = link_number; place = leaf_field position }) ≡ answer_found (link_judged trees before x)
-  not_leaf l = ap (λ (n : ℕ). Refused (record { item = 0; number = link_number; place = leaf_field n })) h.position_is ∙ found false (is_free (driver_named driver)) (ltb link.driving link.reading) (lt-leb 2 (get_or tree.symbols link.node 0) l) refl refl
-
-  pub leaf_taken : 2 ≤ get_or tree.symbols link.node 0 → (driver ≡ 0 → ⊥) → Refused (record { item = 0; number = link_number; place = leaf_field position }) ≡ answer_found (link_judged trees before x)
+  pub leaf_taken : 2 ≤ get_or tree.symbols link.node 0 → (driver ≡ 0 → ⊥) → link_judged trees before x ≡ refused link_number (leaf_field position)
   unfolding is_free
-  leaf_taken l d = ap (λ (n : ℕ). Refused (record { item = 0; number = link_number; place = leaf_field n })) h.position_is ∙ found true false (ltb link.driving link.reading) (le-leb 2 (get_or tree.symbols link.node 0) l) (go driver d) refl
+  leaf_taken l d = rw h.position_is (says true false (ltb link.driving link.reading) (le-leb 2 (get_or tree.symbols link.node 0) l) (go driver d) refl)
     where
       go : (n : ℕ) → (n ≡ 0 → ⊥) → is_free (driver_named n) ≡ false
       go zero e = absurd (e refl)
       go (suc n) e = refl
 
-  pub not_lower : 2 ≤ get_or tree.symbols link.node 0 → driver ≡ 0 → link.reading ≤ link.driving → Refused (record { item = 0; number = driver_number; place = position }) ≡ answer_found (link_judged trees before x)
+  pub not_lower : 2 ≤ get_or tree.symbols link.node 0 → driver ≡ 0 → link.reading ≤ link.driving → link_judged trees before x ≡ refused driver_number position
   unfolding is_free
-  not_lower l d g = ap (λ (n : ℕ). Refused (record { item = 0; number = driver_number; place = n })) h.position_is ∙ found true true false (le-leb 2 (get_or tree.symbols link.node 0) l) (rw d refl) (le-ltb link.driving link.reading g)
+  not_lower l d g = rw h.position_is (says true true false (le-leb 2 (get_or tree.symbols link.node 0) l) (rw d refl) (le-ltb link.driving link.reading g))
 
-  pub right : 2 ≤ get_or tree.symbols link.node 0 → driver ≡ 0 → link.driving < link.reading → Found ≡ answer_found (link_judged trees before x)
+  pub right : 2 ≤ get_or tree.symbols link.node 0 → driver ≡ 0 → link.driving < link.reading → link_judged trees before x ≡ success (before ++ (x ∷ []))
   unfolding is_free
-  right l d g = found true true true (le-leb 2 (get_or tree.symbols link.node 0) l) (rw d refl) (lt-ltb link.driving link.reading g)
+  right l d g = says true true true (le-leb 2 (get_or tree.symbols link.node 0) l) (rw d refl) (lt-ltb link.driving link.reading g)
+
+-- A refusal about no tree, said of a link.
+pub link_refused : {o : Answer (List Link)} {q : Refusal} (reason : Reason) {place : ℕ} → q ≡ record { item = 0; reason = reason; place = place } →
+    o ≡ refused (number_of reason) place → (1 ≤ number_of reason) × (number_of reason < numbers) → place < places → LinkSaid o (Err q)
+unfolding Bounded
+link_refused {o} reason e is fits near = subst (λ (r : Refusal). LinkSaid o (Err r)) (sym e) (is, (omega arith, fits.0, fits.1, near))
 
 -- ---- one link after another
 
 -- What was said of a link decides how it goes on: its leaf had no driver, and what follows is judged after it; or all is refused as it is.
 module _ (trees : List Tree) (before : List Link) (x : Link) (rest : List Link) where
-  pub link_next : answer_found (link_judged trees before x) ≡ Found → (links_judged trees before (x ∷ rest) ≡ links_judged trees (before ++ (x ∷ [])) rest) × (driver_of before x.reading x.node ≡ none)
+  pub link_next : {xs : List Link} → link_judged trees before x ≡ success xs → (links_judged trees before (x ∷ rest) ≡ links_judged trees (before ++ (x ∷ [])) rest) × (driver_of before x.reading x.node ≡ none)
   unfolding link_judged links_judged
-  link_next e = go (is_leaf_of (get_elem? trees x.reading) x.node) (driver_of before x.reading x.node) (ltb x.driving x.reading) e
+  link_next {xs} e = go (is_leaf_of (get_elem? trees x.reading) x.node) (driver_of before x.reading x.node) (ltb x.driving x.reading) e
     where
-      go : (names : Bool) (o : Option ℕ) (lower : Bool) → answer_found (said before x (names && is_free o) lower) ≡ Found → (((said before x (names && is_free o) lower) >>= (λ links. links_judged trees links rest)) ≡ links_judged trees (before ++ (x ∷ [])) rest) × (o ≡ none)
-      go false o lower f = absurd (refused_found f)
-      go true (some d) lower f = absurd (refused_found f)
-      go true none false f = absurd (refused_found f)
+      go : (names : Bool) (o : Option ℕ) (lower : Bool) → said before x (names && is_free o) lower ≡ success xs → (((said before x (names && is_free o) lower) >>= (λ links. links_judged trees links rest)) ≡ links_judged trees (before ++ (x ∷ [])) rest) × (o ≡ none)
+      go false o lower f = absurd (answer_apart (sym f))
+      go true (some d) lower f = absurd (answer_apart (sym f))
+      go true none false f = absurd (answer_apart (sym f))
       go true none true f = (refl, refl)
 
-  pub link_stops : {r : Refusal} → answer_found (link_judged trees before x) ≡ Refused r → links_judged trees before (x ∷ rest) ≡ refusal r
+  pub link_stops : {item number place : ℕ} → link_judged trees before x ≡ refused_in item number place → links_judged trees before (x ∷ rest) ≡ refused_in item number place
   unfolding links_judged
-  link_stops e = stops (link_judged trees before x) (λ links. links_judged trees links rest) e
+  link_stops e = after_refused (λ links. links_judged trees links rest) e
 
 -- ---- the drivers that links name
 
@@ -247,11 +239,11 @@ module _ {ts : List Tree} {xs : List Link} {trees : List TreeRecord} {links : Li
           )
 
   -- It is judged and marked; or all is refused as it is.
-  pub reached_more : ((trees' : List Tree) (before : List Link) (x : Link) → LinkAt trees' before x (get_or trees link.reading d) link (get_or drivers at 0) k → Found ≡ answer_found (link_judged trees' before x)) → Reached ts xs (k + 1) (set drivers at (link.driving + 1))
+  pub reached_more : JudgesLink (get_or trees link.reading d) link (get_or drivers at 0) k (Ok tt) → Reached ts xs (k + 1) (set drivers at (link.driving + 1))
   reached_more f =
       let n = next in
       let x = n.0 in
-      let on = link_next ts h.before x n.1 (sym (f ts h.before x n.4)) in
+      let on = link_next ts h.before x n.1 (f ts h.before x n.4).1 in
       let marked = marks_more h.before x drivers (omega (arith, ap (λ (r : LinkRecord). r.reading) n.3, small.reading)) (omega (arith, ap (λ (r : LinkRecord). r.node) n.3, small.node)) (omega (arith, ap (λ (r : LinkRecord). r.driving) n.3, small.driving)) on.1 h.marks in
       record {
         before = h.before ++ (x ∷ []);
@@ -262,5 +254,8 @@ module _ {ts : List Tree} {xs : List Link} {trees : List TreeRecord} {links : Li
         marks = subst (λ (r : LinkRecord). Marks (h.before ++ (x ∷ [])) (set drivers (64 * r.reading + r.node) (r.driving + 1))) (sym n.3) marked;
       }
 
-  pub reached_stops : {r : Refusal} → ((trees' : List Tree) (before : List Link) (x : Link) → LinkAt trees' before x (get_or trees link.reading d) link (get_or drivers at 0) k → Refused r ≡ answer_found (link_judged trees' before x)) → links_judged ts [] xs ≡ refusal r
-  reached_stops f = let n = next in h.judged ∙ ap (links_judged ts h.before) n.2 ∙ link_stops ts h.before n.0 n.1 (sym (f ts h.before n.0 n.4))
+  pub reached_stops : (r : Refusal) → JudgesLink (get_or trees link.reading d) link (get_or drivers at 0) k (Err r) → Says Marks (links_judged ts [] xs) (Err r)
+  reached_stops r f =
+      let n = next in
+      let said = f ts h.before n.0 n.4 in
+      (h.judged ∙ ap (links_judged ts h.before) n.2 ∙ link_stops ts h.before n.0 n.1 said.0, said.1)

@@ -113,7 +113,7 @@ fn read_links(
     count: u32,
 ) -> Result<[LinkRecord; Limits::PART_LINKS], Flaw>
     requires { (place_of sheet.old.at ≤ links_at) × (trees ≤ trees_most) × (count ≤ 255) }
-    ensures { Reads sheet.old sheet.new (λ s. times count (link_of s trees)) LinksLaid (link_width * count) result }
+    ensures { Reads sheet.old sheet.new (λ s. times count (link_of s trees)) (LinksLaid count) (link_width * count) result }
 {
     let mut links = [LinkRecord::NONE; Limits::PART_LINKS];
     for k in 0..count {

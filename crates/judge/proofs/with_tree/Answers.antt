@@ -2,12 +2,11 @@ use Rattle.sheets_rules.specs.declared.Reason.{Reason}
 use Rattle.judge.proofs.Judged.{refused_told, cover_answered, cover_not_read}
 use Rattle.judge.proofs.with_tree.Goals as goal
 
-pub returns-in-At : goal.returns-in-At
-returns-in-At c = λ l t h.
-    let read = c.read_cover-read in
-    cover_answered c.args.cover.now read.result read.ensures l t c.with_records.result c.in-At.field-0 c.in-At.is (c.with_records.ensures l t h)
+pub with_records-requires : goal.with_records-requires
+with_records-requires c = (c.in-Ok.ensures.holds.few, c.requires)
 
-pub returns-in-Refused : goal.returns-in-Refused
-returns-in-Refused c = λ l t h.
-    let read = c.read_cover-read in
-    refused_told Reason.CoverSheet c.in-Refused.place _ c.refused.ensures (cover_not_read c.args.cover.now read.result read.ensures l t c.in-Refused.field-0 c.in-Refused.place c.in-Refused.is)
+pub returns-in-Ok : goal.returns-in-Ok
+returns-in-Ok c = λ l t h. cover_answered c.args.cover.now l t c.in-Ok.ensures c.with_records.result (c.with_records.ensures l t h)
+
+pub returns-in-Err : goal.returns-in-Err
+returns-in-Err c = λ l t h. refused_told Reason.CoverSheet c.in-Err.flaw.place _ c.refused.ensures (cover_not_read c.args.cover.now l t c.in-Err.ensures)

@@ -1,11 +1,6 @@
-use borrow.Author.Rules.{rules}
 use native.Mathlib.Omega.{arith}
-use Rattle.map_core.proofs.Root.{leaf_small}
 use Rattle.map_core.proofs.Points.{leaf_listed, gate_empty, gate_listed}
 use Rattle.map_core.proofs.list_root.Goals as goal
-
-pub leaf_arrival-requires : goal.leaf_arrival-requires
-leaf_arrival-requires c = let e = c.if-symbol-ge-LEAF in (omega arith, leaf_small c.requires.1.1.1, search rules)
 
 pub returns-then-symbol-ge-LEAF : goal.returns-then-symbol-ge-LEAF
 returns-then-symbol-ge-LEAF c l t library given =

@@ -1,13 +1,7 @@
-use borrow.Author.Rules.{rules}
-use mathlib.Core.Path.{◌≡◌}
 use native.Mathlib.Omega.{arith}
 use Rattle.std.proofs.lemmas.Result.{err_from_is_err_and}
-use Rattle.map_core.specs.Inside.Found.{no_cover}
-use Rattle.map_core.proofs.Root.{leaf_small, leaf_mapped, nothing_looked, gate_none, gate_chooses, gate_found}
+use Rattle.map_core.proofs.Root.{leaf_mapped, nothing_looked, gate_none, gate_chooses, gate_found}
 use Rattle.map_core.proofs.map_root.Goals as goal
-
-pub map_leaf-requires : goal.map_leaf-requires
-map_leaf-requires c = let e = c.if-symbol-ge-LEAF in (omega arith, leaf_small c.requires.curved.1.1, search rules)
 
 pub returns-then-symbol-ge-LEAF : goal.returns-then-symbol-ge-LEAF
 returns-then-symbol-ge-LEAF c l t given =

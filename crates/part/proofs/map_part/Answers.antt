@@ -1,43 +1,40 @@
-use Prim.Native.Nat.{ℕ}
-use mathlib.Core.Path.{◌≡◌, ap, subst, ◌∙◌}
-use lib.ListN.{length}
-use Rattle.fields.specs.declared.Finding.{Finding}
-use Rattle.fields.specs.Answer.{success}
-use Rattle.fields.specs.Inside.Promises.{Says}
-use Rattle.covers.specs.Lending.{lent}
+use Rattle.std.proofs.lemmas.Result.{err_from_is_err_and}
 use Rattle.map_rules.specs.Public.{of_reply}
-use Rattle.map_rules.proofs.Laws.{sparing_lent, followed, stopped}
-use Rattle.part_rules.specs.Outcome.{part_bytes, part_outcome}
 use Rattle.part_rules.proofs.Demands.{maps_part}
-use Rattle.part.specs.Inside.Promises.{sheets_answer}
-use Rattle.part.proofs.Replies.{lent_known}
+use Rattle.part.proofs.Replies.{lent_known, lent_little, library_refused, part_refused, operated}
 use Rattle.part.proofs.map_part.Goals as goal
 
--- What was found of what is lent.
-abbrev Found : ℕ → ℕ → ℕ → Finding → Type 0
-Found output work most q = Says (λ (m n : ℕ). m ≡ n) (lent part_bytes output work) q most
-
-pub with_lent-requires : goal.with_lent-requires
-with_lent-requires c =
+pub returns-in_err-most : goal.returns-in_err-most
+unfolding of_reply
+returns-in_err-most c =
     let a = c.args in
-    let call = c.lend-lent in
-    let said = subst (Found (length a.output.now) (length a.work.now) call.result.most) c.in-Found.is call.ensures in
-    (lent_known (length a.output.now) (length a.work.now) said.1 said.2).0
+    let p = err_from_is_err_and c.from_residual.result c.from_residual.ensures.1 in
+    rw (p.1, p.2) (maps_part a.library.now a.part.now a.output.now a.work.now (lent_little a.library.now a.part.now a.output.now a.work.now _ c.in_err-most.ensures))
 
-pub returns-in-Refused : goal.returns-in-Refused
-unfolding of_reply part_outcome
-returns-in-Refused c =
+pub returns-in_err-library : goal.returns-in_err-library
+unfolding of_reply
+returns-in_err-library c =
     let a = c.args in
-    let call = c.lend-lent in
-    let said = subst (Found (length a.output.now) (length a.work.now) call.result.most) c.in-Refused.is call.ensures in
-    maps_part a.library.now a.part.now a.output.now a.work.now
-    (stopped (λ (most : ℕ). sheets_answer most a.library.now a.part.now) c.in-Refused.refusal a.output.now a.work.now (sparing_lent part_bytes (length a.output.now) (length a.work.now)) said.0 said.1)
+    let p = err_from_is_err_and c.from_residual-in_err-library.result c.from_residual-in_err-library.ensures.1 in
+    rw (p.1, p.2) (maps_part a.library.now a.part.now a.output.now a.work.now (library_refused a.library.now a.part.now a.output.now a.work.now c.in_ok-most.ensures _ c.in_err-library.ensures))
 
-pub returns-in-Found : goal.returns-in-Found
-unfolding part_outcome
-returns-in-Found c =
+pub returns-in_err-part : goal.returns-in_err-part
+unfolding of_reply
+returns-in_err-part c =
     let a = c.args in
-    let call = c.lend-lent in
-    let said = subst (Found (length a.output.now) (length a.work.now) call.result.most) c.in-Found.is call.ensures in
-    maps_part a.library.now a.part.now a.output.now a.work.now
-    (followed (λ (most : ℕ). sheets_answer most a.library.now a.part.now) (said.1 ∙ ap success said.2) (c.with_lent.ensures (lent_known (length a.output.now) (length a.work.now) said.1 said.2).1))
+    let p = err_from_is_err_and c.from_residual-in_err-part.result c.from_residual-in_err-part.ensures.1 in
+    rw (p.1, p.2) (maps_part a.library.now a.part.now a.output.now a.work.now (part_refused a.library.now a.part.now a.output.now a.work.now c.in_ok-most.ensures c.in_ok-library.ensures _ c.in_err-part.ensures))
+
+pub map_stored-requires-clause-lent : goal.map_stored-requires-clause-lent
+map_stored-requires-clause-lent c = lent_known _ _ c.in_ok-most.ensures
+
+pub map_stored-requires-clause-stored : goal.map_stored-requires-clause-stored
+map_stored-requires-clause-stored c =
+    let library = c.in_ok-library.ensures.said in
+    let part = c.in_ok-part.ensures in
+    (library.0, (part.0, library.2, part.2))
+
+pub returns : goal.returns
+returns c =
+    let a = c.args in
+    maps_part a.library.now a.part.now a.output.now a.work.now (operated a.library.now a.part.now a.output.now a.work.now c.in_ok-most.ensures c.in_ok-library.ensures c.in_ok-part.ensures c.map_stored.ensures)

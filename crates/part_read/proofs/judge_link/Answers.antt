@@ -1,19 +1,15 @@
 use native.Mathlib.Omega.{arith}
-use Rattle.fields.specs.Answer.{Bounded}
-use Rattle.part_read.proofs.Links.{not_leaf, leaf_taken, not_lower, right}
+use Rattle.part_read.proofs.Links.{not_leaf, leaf_taken, not_lower, right, link_refused}
 use Rattle.part_read.proofs.judge_link.Goals as goal
 
-pub returns-then-symbols-node-lt-LEAF : goal.returns-then-symbols-node-lt-LEAF
-unfolding Bounded
-returns-then-symbols-node-lt-LEAF c = record { judges_link = (λ trees before x h. not_leaf h (omega arith)); finding_bounded = (omega arith, omega arith, omega arith, omega (arith, c.requires)) }
+pub returns-then-tree-link-lt-LEAF : goal.returns-then-tree-link-lt-LEAF
+returns-then-tree-link-lt-LEAF c trees before x h = link_refused _ c.refuse.ensures (not_leaf h (omega arith)) (omega arith, omega arith) (omega (arith, c.requires))
 
 pub returns-then-driver-ne0 : goal.returns-then-driver-ne0
-unfolding Bounded
-returns-then-driver-ne0 c = record { judges_link = (λ trees before x h. leaf_taken h (omega arith) c.if-driver-ne0.true); finding_bounded = (omega arith, omega arith, omega arith, omega (arith, c.requires)) }
+returns-then-driver-ne0 c trees before x h = link_refused _ c.refuse-then-driver-ne0.ensures (leaf_taken h (omega arith) c.if-driver-ne0.true) (omega arith, omega arith) (omega (arith, c.requires))
 
 pub returns-then-link : goal.returns-then-link
-unfolding Bounded
-returns-then-link c = record { judges_link = (λ trees before x h. not_lower h (omega arith) c.if-driver-ne0.false (omega arith)); finding_bounded = (omega arith, omega arith, omega arith, omega (arith, c.requires)) }
+returns-then-link c trees before x h = link_refused _ c.refuse-then-link.ensures (not_lower h (omega arith) c.if-driver-ne0.false (omega arith)) (omega arith, omega arith) (omega (arith, c.requires))
 
 pub returns : goal.returns
-returns c = record { judges_link = (λ trees before x h. right h (omega arith) c.if-driver-ne0.false (omega arith)); finding_bounded = tt }
+returns c trees before x h = (_, right h (omega arith) c.if-driver-ne0.false (omega arith))

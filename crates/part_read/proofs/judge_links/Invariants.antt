@@ -1,4 +1,3 @@
-use Prim.Native.Nat.{◌≤◌, ◌-◌}
 use mathlib.Core.Path.{◌≡◌}
 use mathlib.Core.List.{List}
 use lib.ListN.{length}
@@ -11,7 +10,4 @@ use Rattle.part_read.proofs.judge_links.Given as goal
 
 abbrev pub invariant-loop-k : goal.invariant-loop-k
 invariant-loop-k l =
-    (l.k ≤ l.count) × (length l.drivers ≡ 1024) × ((ts : List Tree) (xs : List Link) → TreesStored ts l.trees → l.links ≡ links_laid xs → l.count ≡ length xs → Reached ts xs l.k l.drivers)
-
-abbrev pub decreases-loop-k : goal.decreases-loop-k
-decreases-loop-k l = l.count - l.k
+    (length l.drivers ≡ 1024) × ((ts : List Tree) (xs : List Link) → TreesStored ts l.trees → l.counts.links ≡ links_laid xs → l.counts.count ≡ length xs → Reached ts xs l.k l.drivers)

@@ -1,14 +1,10 @@
-use Prim.Native.Nat.{◌≤◌, ◌+◌, ◌-◌, ◌*◌}
-use mathlib.Core.Path.{◌≡◌}
-use Rattle.fields.specs.Reading.{place, times}
-use Rattle.part_rules.specs.PartSheet.{link}
-use Rattle.part_read.specs.Inside.Promises.{links_laid, SmallLinks}
+use Rattle.std.specs.Prelude.{Ok}
+use Prim.Native.Nat.{◌*◌}
+use Rattle.fields.specs.Reading.{times}
+use Rattle.fields.specs.Inside.Promises.{Reads}
+use Rattle.part_rules.specs.PartSheet.{link, link_width}
+use Rattle.part_read.specs.Inside.Promises.{LinksLaid}
 use Rattle.part_read.proofs.read_links.Given as goal
 
 abbrev pub invariant-loop-k : goal.invariant-loop-k
-invariant-loop-k l =
-    let x = times l.k (link l.s l.trees) l.initial.at in
-    (l.k ≤ l.count) × (l.links ≡ links_laid x.0) × (l.at ≡ x.1) × SmallLinks l.links × (place l.at ≤ place l.initial.at + 14 * l.k)
-
-abbrev pub decreases-loop-k : goal.decreases-loop-k
-decreases-loop-k l = l.count - l.k
+invariant-loop-k l = Reads l.fn.sheet l.sheet (λ s. times l.k (link s l.trees)) (LinksLaid l.k) (link_width * l.k) (Ok l.links)

@@ -1,24 +1,32 @@
-use mathlib.Core.Path.{◌≡◌, sym, subst}
-use lib.ListN.{length, replicate}
-use mathlib.Core.List.{[]}
-use Rattle.part_rules.specs.PartRead.{trees_from, after_counts}
-use Rattle.fields.specs.declared.Finding.{Finding}
-use Rattle.fields.specs.Inside.Promises.{Says}
-use Rattle.part_read.specs.Inside.Decoded.{TreesStored, PartStored}
-use Rattle.part_read.proofs.Laws.{rest_stops, rest_says}
+use mathlib.Core.Path.{sym, ◌∙◌}
+use Rattle.fields.proofs.Answer.{after_success, after_refused}
+use Rattle.fields.proofs.Readers.{passed}
+use Rattle.sheets_rules.specs.Inside.Readers.{Says}
+use Rattle.part_rules.specs.PartRead.{after_counts}
+use Rattle.part_read.specs.Inside.Decoded.{PartStored}
+use Rattle.part_read.proofs.Laws.{rest_stops, rest_judged}
 use Rattle.part_read.proofs.read_rest.Goals as goal
 
-pub returns-in_default : goal.returns-in_default
-returns-in_default c xs laid n =
-    let a = c.args in
-    let read = c.read_trees-read in
-    let stops = subst (λ (q : Finding). Says (λ ts l. TreesStored ts l × (length ts ≡ a.counts.trees)) (trees_from [] a.counts.trees a.s.now) q read.result.trees) c.in_default.is read.ensures in
-    subst (λ (q : Finding). Says PartStored (after_counts a.counts.trees xs a.s.now) q (record { count = a.counts.trees; trees = read.result.trees; drivers = replicate 1024 0 })) (sym c.in_default.is) (rest_stops a.counts.trees xs a.s.now stops.0, stops.1)
+pub returns-in_err-trees : goal.returns-in_err-trees
+returns-in_err-trees c xs laid n =
+    let s = c.args.s.now in
+    let count = c.args.counts.now.trees in
+    let e = c.in_err-trees.ensures in
+    passed (Says PartStored (after_counts count xs s)) _ c.from_residual.ensures.1 (rest_stops count xs s e.0, e.1)
+
+pub returns-in_err-drivers : goal.returns-in_err-drivers
+returns-in_err-drivers c xs laid n =
+    let s = c.args.s.now in
+    let count = c.args.counts.now.trees in
+    let t = c.in_ok-trees.ensures in
+    let e = c.in_err-drivers.ensures t.0 xs t.2.0 laid n in
+    passed (Says PartStored (after_counts count xs s)) _ c.from_residual-in_err-drivers.ensures.1 (rest_judged count xs s t.0 t.1 ∙ after_refused _ e.0, e.1)
 
 pub returns : goal.returns
 returns c xs laid n =
-    let a = c.args in
-    let read = c.read_trees-read in
-    let stored = subst (λ (q : Finding). Says (λ ts l. TreesStored ts l × (length ts ≡ a.counts.trees)) (trees_from [] a.counts.trees a.s.now) q read.result.trees) c.in-Found.is read.ensures in
-    let judged = c.judge_links-judged in
-    rest_says a.counts.trees xs a.s.now stored.0 read.result.trees judged.result.drivers judged.result.finding stored.1 stored.2.0 stored.2.1 (judged.ensures stored.0 xs stored.2.0 laid n)
+    let t = c.in_ok-trees.ensures in
+    let d = c.in_ok-drivers.ensures t.0 xs t.2.0 laid n in (
+      record { trees = t.0; links = d.0 },
+      rest_judged c.args.counts.now.trees xs c.args.s.now t.0 t.1 ∙ after_success _ d.1,
+      record { count_is = sym t.2.1; trees_are = t.2.0; drivers_are = d.2 },
+    )

@@ -11,7 +11,4 @@ use Rattle.part_read.proofs.read_trees.Given as goal
 
 abbrev pub invariant-loop-k : goal.invariant-loop-k
 invariant-loop-k l =
-    (before : List Tree) × (length before ≡ l.k) × (l.k ≤ l.count) × (l.first ≤ length l.s) × (l.trees ≡ padded trees_most no_tree (map tree_laid before)) × (trees_from [] l.count l.s ≡ trees_from before (l.count - l.k) (drop l.first l.s))
-
-abbrev pub decreases-loop-k : goal.decreases-loop-k
-decreases-loop-k l = l.count - l.k
+    (before : List Tree) × (length before ≡ l.k) × (l.first ≤ length l.s) × (l.trees ≡ padded trees_most no_tree (map tree_laid before)) × (trees_from [] l.count l.s ≡ trees_from before (l.count - l.k) (drop l.first l.s))

@@ -4,7 +4,7 @@ use mathlib.Core.List.{List, [], map, Memᴰ}
 use Rattle.std.proofs.Math.Option.{Option, none, some}
 use Rattle.std.proofs.Math.ListN.{get_elem?}
 use Rattle.fields.specs.declared.Flaw.{Flaw}
-use Rattle.fields.specs.Answer.{Answer, refused_in, success, Bounded}
+use Rattle.fields.specs.Answer.{Answer, success, Bounded}
 use Rattle.fields.specs.Reading.{start}
 use Rattle.fields.specs.Inside.Promises.{Took, Flawed}
 use Rattle.sheets_rules.specs.declared.TreeRecord.{TreeRecord}
@@ -47,7 +47,8 @@ pub record LinkLaid (x : Link) (r : LinkRecord) : Type 0 where
   pub link_is : r ≡ link_laid x
   pub small : SmallLink r
 
-pub record LinksLaid (xs : List Link) (r : List LinkRecord) : Type 0 where
+pub record LinksLaid (n : ℕ) (xs : List Link) (r : List LinkRecord) : Type 0 where
+  pub many : length xs ≡ n
   pub links_are : r ≡ links_laid xs
   pub small : SmallLinks r
 
