@@ -16,7 +16,6 @@ ghost use Rattle.bill_rules.specs.Demands.{BilledWhereWhole};
 ghost use Rattle.bill_text.specs.Inside.Promises.{entry_text, Countable, Tallies, Tallied, TallyPut, BillStored, BillPut, AreSheets};
 
 use frame::Sheets;
-use judge_rules::CoverJudged;
 use result_sheets::{CoverRecord, MatchRecord};
 use sheets_rules::{Limits, PatternRow};
 use text::Text;
@@ -118,15 +117,21 @@ fn put_bill(text: &mut Text, rows: &[u32], cells: usize, cover: CoverRecord, req
     put_margin(text, margin_of(required, cover.arrival));
 }
 
-// Puts the bill of an accepted cover.
+// Puts the bill of an accepted cover: the three sheets are sound, so none is refused.
 fn put_accepted(text: &mut Text, library: &[u8], tree: &[u8], cover: &[u8])
     requires { (text.old.len + longest_bill ≤ length text.old.bytes.now) × ((p : Point) × (judgement library.now tree.now cover.now ≡ success p)) }
     ensures { Appended (outcome_text (bill_shown library.now tree.now cover.now)) text.old text.new }
 {
-    let library = library::read_library(library).library;
-    let required = tree::read_tree(tree).tree.required;
-    let cover = result_sheets::read_cover(cover).cover;
-    put_bill(text, &library.rows, library.count, cover, required);
+    let Ok(library) = library::read_library(library) else {
+        unreachable!();
+    };
+    let Ok(tree) = tree::read_tree(tree) else {
+        unreachable!();
+    };
+    let Ok(cover) = result_sheets::read_cover(cover) else {
+        unreachable!();
+    };
+    put_bill(text, &library.rows, library.count, cover, tree.required);
 }
 
 // Puts what is said of a cover: the refusal, or its bill.
@@ -135,8 +140,8 @@ fn put_judged(text: &mut Text, library: &[u8], tree: &[u8], cover: &[u8])
     ensures { Appended (outcome_text (bill_shown library.now tree.now cover.now)) text.old text.new }
 {
     match judge::judge_cover(library, tree, cover) {
-        CoverJudged::Refused(refusal) => frame::put_refusal(text, refusal),
-        CoverJudged::Accepted(_, _) => put_accepted(text, library, tree, cover),
+        Ok(_) => put_accepted(text, library, tree, cover),
+        Err(refusal) => frame::put_refusal(text, refusal),
     }
 }
 
