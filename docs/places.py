@@ -16,24 +16,25 @@ ALLOWED = {
         ("power", "1u64 << k", "a bit's worth"),
         ("cut", "number / power(bits - (used + width)) % power(width)", "a number made of bytes"),
         ("weight", "1u32 << (7 - i % 8)", "a place in writing"),
-        ("put_bit", "let byte = wide(s[i / 8]);", "a place in writing"),
+        ("put_bit", "let byte = u32::from(s[i / 8]);", "a place in writing"),
         ("put_bit", "s[i / 8] = ((byte / full * full + (b * half + byte % half)) % 256) as u8;", "the same"),
         ("put", "put_bit(s, at + k, rest % 2);", "a value that is written"),
-        ("put", "rest = rest / 2;", "a value that is written"),
+        ("put", "rest /= 2;", "a value that is written"),
     ],
     "functions": [
         ("settings", "1usize << pins", "a count of settings, from pins"),
-        ("computes", "drawn.word >> (Lanes::SETTINGS - count) == function", "a word of settings"),
+        ("computes", "drawn.word >> (SETTINGS - count) == function", "a word of settings"),
     ],
     "result_sheets": [
-        ("write_cover", "let bytes = (Sheet::MATCHES_AT + Sheet::MATCH * count + 7) / 8;", "in writing"),
-        ("write_list", "let bytes = (Sheet::POINT_COUNT + Sheet::POINT * count + 7) / 8;", "in writing"),
-        ("put_points", "bits::put(output, at, Sheet::ARRIVAL, (word % Limits::TIMES) as u32);", "a point"),
-        ("put_points", "(word / Limits::TIMES) as u32,", "a point: its area and arrival in a word"),
+        ("clear", "let bytes = width.div_ceil(8);", "in writing"),
+        ("put_points", "bits::put(output, at, Layout::ARRIVAL, (word % Limits::TIMES) as u32);", "a point"),
+        ("put_points", "bits::put(output, at, Layout::AREA, (word / Limits::TIMES) as u32);", "its area"),
     ],
     "judge": [
-        ("is_crossing", "crossing % (Crossing::NUMBERS >> nands) == 0", "a crossing"),
-        ("take_match", "if !is_crossing(words[0] as usize / Extents::NAND, crossing) {", "an extent"),
+        ("is_crossing",
+         "crossing < Crossing::NUMBERS && crossing % (Crossing::NUMBERS >> nands) == 0", "a crossing"),
+        ("take_match",
+         "if !is_crossing(usize::from(extents.words[0]) / Extents::NAND, crossing) {", "an extent"),
     ],
 }
 # What is not run: comments, characters, strings, ghost uses, contracts; in one pass, as one can hold another.
@@ -53,7 +54,8 @@ def main():
         with open(path, encoding="utf-8") as file:
             text = IDLE.sub(lambda match: "\n" * match[0].count("\n"), file.read())
         if crate not in CRATES:  # A new reader is not to be overlooked.
-            wrong += [f"{path}: a reader that is not listed"] * bool(re.search(r"\b(?:Cursor|Scan)\b", text))
+            reads = re.search(r"\b(?:Cursor|Sheet|Flaw)\b", text)
+            wrong += [f"{path}: a reader that is not listed"] * bool(reads)
             continue
         for number, line in enumerate(TYPES.sub("", text).split("\n"), 1):
             if line.startswith("impl"):
