@@ -106,7 +106,7 @@ fn margin_of(required: u32, arrival: u32) -> i32
     required as i32 - arrival as i32
 }
 
-// Puts the bill of a legal cover.
+// Puts the bill of a legal cover. It comes by value: behind a reference the length of its array is not known to the proof.
 fn put_bill(text: &mut Text, rows: &[u32], cells: usize, cover: CoverRecord, required: u32)
     requires { (text.old.len + longest_bill ≤ length text.old.bytes.now) × ((l : Library) × ((t : Tree) × BillStored l t rows.now cells cover required)) }
     ensures { BillPut rows.now cells cover required text.old text.new }
@@ -171,7 +171,7 @@ fn put_billed(text: &mut Text, input: &[u8])
 }
 
 // Puts what is printed for an input at the front of the text, and answers how many bytes it takes. A text that may be too
-// short is left as it was.
+// short is left as it was. `print_cover` is its twin: one function for both would have to be told what each text is, and that is no plainer.
 pub fn print_bill(input: &[u8], text: &mut [u8]) -> usize
     ensures written { Written (billed_within (length text.old) input.now) text.old text.new result }
     ensures prefix_len { IsPrefixLen result text.new }

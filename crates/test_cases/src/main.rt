@@ -365,6 +365,7 @@ fn run_case(kind: Kind, sheets: &[u8], layout: Layout)
 {
     let first = layout.first;
     let second = layout.second;
+    // The input says which: this is a program's dispatch.
     match kind {
         Kind::Library => run_library(sheets),
         Kind::Tree => run_tree(sheets),

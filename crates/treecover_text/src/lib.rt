@@ -56,7 +56,7 @@ fn put_matches(text: &mut Text, matches: &[MatchRecord], rows: &[u32])
     }
 }
 
-// Puts the text of a cover.
+// Puts the text of a cover. It comes by value: behind a reference the length of its array is not known to the proof.
 fn put_cover(text: &mut Text, cover: CoverRecord, rows: &[u32])
     requires { (cover.count < 2 ^ match_count_width) × Printable rows.now (cover_of cover) text.old }
     ensures { Appended (row_text rows.now (cover_of cover)) text.old text.new }
