@@ -11,7 +11,7 @@ use Rattle.sheets_rules.specs.LibrarySheet.{library}
 use Rattle.sheets_rules.specs.TreeSheet.{tree}
 use Rattle.sheets_rules.specs.Report.{library_number, tree_number, library_said, tree_said}
 use Rattle.covers.specs.Cover.{Point, Cover}
-use Rattle.covers.specs.CoverSheet.{cover_read}
+use Rattle.covers.specs.CoverSheet.{cover_read, CoverReads}
 use Rattle.covers.specs.Promise.{RootCover}
 use Rattle.judge_rules.specs.Judgement.{cover_judged, judgement}
 use Rattle.judge_rules.proofs.Demands.{judge_demands}
@@ -20,8 +20,13 @@ use Rattle.judge_rules.proofs.Demands.{judge_demands}
 pub record Accepted (ls ts cs : List ℕ) (p : Point) : Type 0 where
   pub library_live : Live (library ls start).1
   pub tree_live : Live (tree ts start).1
+  pub cover_live : Live (cover_read cs start).1
   pub legal : RootCover (library ls start).0 (tree ts start).0 (cover_read cs start).0
   pub point : (cover_read cs start).0.point ≡ p
+
+-- A sheet that reads back as a cover is read to its end.
+reads_live : {c : Cover} {s : List ℕ} → CoverReads c s → Live (cover_read s start).1
+reads_live h = subst (λ (r : Cover × Scan). Live r.1) (sym h.reads) tt
 
 pub accepted : (ls ts cs : List ℕ) (p : Point) → judgement ls ts cs ≡ success p → Accepted ls ts cs p
 unfolding judgement library_said tree_said
@@ -34,4 +39,4 @@ accepted ls ts cs p e =
     let same : c ≡ (cover_read cs start).0 = sym (ap (λ (r : Cover × Scan). r.0) reads.reads) in
     let of-library = subst (λ (q : Library). RootCover q read.0 c) (sym l.0) legal in
     let of_Tree = subst (λ (q : Tree). RootCover (library ls start).0 q c) (sym t.0) of-library in
-    record { library_live = l.1; tree_live = t.1; legal = subst (λ (q : Cover). RootCover (library ls start).0 (tree ts start).0 q) same of_Tree; point = ap (λ (d : Cover). d.point) (sym same) ∙ point }
+    record { library_live = l.1; tree_live = t.1; cover_live = reads_live reads; legal = subst (λ (q : Cover). RootCover (library ls start).0 (tree ts start).0 q) same of_Tree; point = ap (λ (d : Cover). d.point) (sym same) ∙ point }

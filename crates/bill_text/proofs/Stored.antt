@@ -1,17 +1,16 @@
 -- What a legal cover's bill needs: small numbers, room, and that the lines make up its text.
 use Prim.Native.Nat.{ℕ, ◌+◌, ◌≤◌, ◌<◌}
-use mathlib.Core.Path.{◌≡◌, sym, ap, subst, ◌∙◌}
+use mathlib.Core.Path.{◌≡◌, refl, sym, ap, subst, ◌∙◌}
 use mathlib.Core.Bool.{Bool, false}
 use mathlib.Core.List.{List, ◌++◌, flat_map, Memᴰ}
 use native.Mathlib.Omega.{arith}
 use lib.IntN.{ℤ}
 use lib.ListN.{length, take, length-append}
 use lib.Seq.{get_or-take, length-take-le}
+use Rattle.std.specs.Prelude.{Ok}
 use Rattle.fields.specs.Reading.{start}
 use Rattle.fields.specs.Answer.{success}
-use Rattle.sheets_rules.specs.declared.LibraryRead.{LibraryRead}
 use Rattle.sheets_rules.specs.declared.LibraryRecord.{LibraryRecord}
-use Rattle.sheets_rules.specs.declared.TreeRead.{TreeRead}
 use Rattle.sheets_rules.specs.declared.TreeRecord.{TreeRecord}
 use Rattle.sheets_rules.specs.Model.{Library, Tree}
 use Rattle.sheets_rules.specs.LibrarySheet.{library as library_of}
@@ -21,15 +20,15 @@ use Rattle.sheets_rules.specs.Inside.Readers.{LibraryIs, TreeIs}
 use Rattle.sheets_rules.specs.Inside.Sound.{LibraryStored, TreeStored}
 use Rattle.sheets_rules.specs.Report.{library_said, tree_said}
 use Rattle.sheets_rules.proofs.Sound.{library_limits, tree_limits, library_said_lem, tree_said_lem}
-use Rattle.fields.proofs.Answer.{says_holds}
+use Rattle.sheets_rules.proofs.Results.{says_holds}
 use Rattle.sheets_rules.proofs.Patterns.{cell_below, area_small, row_in, cell_told, area_told}
 use Rattle.covers.specs.Cover.{Point, Placed, Cover}
+use Rattle.covers.specs.CoverSheet.{cover_read}
 use Rattle.covers.specs.Promise.{RootCover}
 use Rattle.covers.proofs.Listing.{known_patterns}
 use Rattle.covers.proofs.FromSheets.{root_bounds, cover_fits}
 use Rattle.result_sheets.specs.declared.CoverRecord.{CoverRecord}
-use Rattle.result_sheets.specs.declared.CoverRead.{CoverRead}
-use Rattle.result_sheets.specs.Public.{cover_of, CoverIs, Written}
+use Rattle.result_sheets.specs.Public.{cover_of, CoverHolds, Written}
 use Rattle.judge_rules.specs.Judgement.{judgement}
 use Rattle.text.specs.declared.Text.{Text}
 use Rattle.text.specs.Inside.Promises.{Appended}
@@ -111,23 +110,23 @@ module _ {l : Library} {t : Tree} {rows : List ℕ} {cells : ℕ} {cover : Cover
 
 -- ---- what is read of an accepted cover
 
-module _ (ls ts cs : List ℕ) {p : Point} (accepts : judgement ls ts cs ≡ success p) {library : LibraryRead} (tree : TreeRead) {cover : CoverRead} (hl : LibraryIs ls library) (ht : TreeIs ts tree) (hc : CoverIs cs cover) where
-  pub stored_read : BillStored (library_of ls start).0 (tree_of ts start).0 library.library.rows library.library.count cover.cover tree.tree.required
+module _ (ls ts cs : List ℕ) {p : Point} (accepts : judgement ls ts cs ≡ success p) {library : LibraryRecord} {tree : TreeRecord} {cover : CoverRecord} (hl : LibraryIs ls (Ok library)) (ht : TreeIs ts (Ok tree)) (hc : CoverHolds (cover_read cs start).0 cover) where
+  pub stored_read : BillStored (library_of ls start).0 (tree_of ts start).0 library.rows library.count cover tree.required
   unfolding library_laid tree_laid
   stored_read =
       let found = accepted ls ts cs p accepts in
-      let laid = (says_holds LibraryStored (library_said ls) library.finding library.library hl.said (library_of ls start).0 (library_said_lem ls found.library_live)).library_is in
+      let laid = (says_holds LibraryStored (library_said ls) (Ok library) refl hl.said (library_of ls start).0 (library_said_lem ls found.library_live)).library_is in
       record {
         sound = library_limits ls found.library_live;
         tree = tree_limits ts found.tree_live;
         legal = subst (RootCover (library_of ls start).0 (tree_of ts start).0) (sym hc.cover_is) found.legal;
         rows_are = ap (λ (r : LibraryRecord). r.rows) laid;
         cells_are = ap (λ (r : LibraryRecord). r.count) laid;
-        required_is = ap (λ (r : TreeRecord). r.required) (says_holds TreeStored (tree_said ts) tree.finding tree.tree ht (tree_of ts start).0 (tree_said_lem ts found.tree_live)).tree_is;
+        required_is = ap (λ (r : TreeRecord). r.required) (says_holds TreeStored (tree_said ts) (Ok tree) refl ht (tree_of ts start).0 (tree_said_lem ts found.tree_live)).tree_is;
         count_small = hc.few;
       }
 
-  pub shown_read : bill_text (bill (library_of ls start).0 (tree_of ts start).0 (cover_of cover.cover)) ≡ outcome_text (bill_shown ls ts cs)
+  pub shown_read : bill_text (bill (library_of ls start).0 (tree_of ts start).0 (cover_of cover)) ≡ outcome_text (bill_shown ls ts cs)
   unfolding outcome_text
   shown_read = ap (λ (c : Cover). bill_text (bill (library_of ls start).0 (tree_of ts start).0 c)) hc.cover_is ∙ sym (ap outcome_text (shown_bill ls ts cs accepts))
 

@@ -16,7 +16,6 @@ ghost use Rattle.bill_rules.specs.Demands.{BilledWhereWhole};
 ghost use Rattle.bill_text.specs.Inside.Promises.{entry_text, Countable, Tallies, Tallied, TallyPut, BillStored, BillPut, AreSheets};
 
 use frame::Sheets;
-use judge_rules::CoverJudged;
 use result_sheets::{CoverRecord, MatchRecord};
 use sheets_rules::{Limits, PatternRow};
 use text::Text;
@@ -107,7 +106,7 @@ fn margin_of(required: u32, arrival: u32) -> i32
     required as i32 - arrival as i32
 }
 
-// Puts the bill of a legal cover.
+// Puts the bill of a legal cover. It comes by value: behind a reference the length of its array is not known to the proof.
 fn put_bill(text: &mut Text, rows: &[u32], cells: usize, cover: CoverRecord, required: u32)
     requires { (text.old.len + longest_bill ≤ length text.old.bytes.now) × ((l : Library) × ((t : Tree) × BillStored l t rows.now cells cover required)) }
     ensures { BillPut rows.now cells cover required text.old text.new }
@@ -118,15 +117,21 @@ fn put_bill(text: &mut Text, rows: &[u32], cells: usize, cover: CoverRecord, req
     put_margin(text, margin_of(required, cover.arrival));
 }
 
-// Puts the bill of an accepted cover.
+// Puts the bill of an accepted cover: the three sheets are sound, so none is refused.
 fn put_accepted(text: &mut Text, library: &[u8], tree: &[u8], cover: &[u8])
     requires { (text.old.len + longest_bill ≤ length text.old.bytes.now) × ((p : Point) × (judgement library.now tree.now cover.now ≡ success p)) }
     ensures { Appended (outcome_text (bill_shown library.now tree.now cover.now)) text.old text.new }
 {
-    let library = library::read_library(library).library;
-    let required = tree::read_tree(tree).tree.required;
-    let cover = result_sheets::read_cover(cover).cover;
-    put_bill(text, &library.rows, library.count, cover, required);
+    let Ok(library) = library::read_library(library) else {
+        unreachable!();
+    };
+    let Ok(tree) = tree::read_tree(tree) else {
+        unreachable!();
+    };
+    let Ok(cover) = result_sheets::read_cover(cover) else {
+        unreachable!();
+    };
+    put_bill(text, &library.rows, library.count, cover, tree.required);
 }
 
 // Puts what is said of a cover: the refusal, or its bill.
@@ -135,8 +140,8 @@ fn put_judged(text: &mut Text, library: &[u8], tree: &[u8], cover: &[u8])
     ensures { Appended (outcome_text (bill_shown library.now tree.now cover.now)) text.old text.new }
 {
     match judge::judge_cover(library, tree, cover) {
-        CoverJudged::Refused(refusal) => frame::put_refusal(text, refusal),
-        CoverJudged::Accepted(_, _) => put_accepted(text, library, tree, cover),
+        Ok(_) => put_accepted(text, library, tree, cover),
+        Err(refusal) => frame::put_refusal(text, refusal),
     }
 }
 
@@ -166,7 +171,7 @@ fn put_billed(text: &mut Text, input: &[u8])
 }
 
 // Puts what is printed for an input at the front of the text, and answers how many bytes it takes. A text that may be too
-// short is left as it was.
+// short is left as it was. `print_cover` is its twin: one function for both would have to be told what each text is, and that is no plainer.
 pub fn print_bill(input: &[u8], text: &mut [u8]) -> usize
     ensures written { Written (billed_within (length text.old) input.now) text.old text.new result }
     ensures prefix_len { IsPrefixLen result text.new }

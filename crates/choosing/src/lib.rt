@@ -33,6 +33,7 @@ impl Goal {
 }
 
 // The pattern of a match, its crossing and what is asked of its inputs, in the order of the tree: the first `count` of the goals.
+// The array and its count stand side by side: memory is fixed, and there is no heap.
 #[derive(Clone, Copy)]
 pub struct Inputs {
     pub pattern: u8,

@@ -42,13 +42,7 @@ fn refusal_word(refusal: Refusal) -> u64
 }
 
 // What is said of a library in one word: cells × 256 + patterns, or the refusal.
-#[tactic(auto, unfolding(
-    sheets_rules::specs::Report::of_library_judged,
-    sheets_rules::specs::Report::library_word,
-    fields::specs::Answer::on_success,
-    fields::specs::Answer::word,
-    fields::specs::Answer::Bounded
-))]
+#[tactic(auto, unfolding(sheets_rules::specs::Report::of_library_judged, sheets_rules::specs::Report::library_word, fields::specs::Answer::on_success, fields::specs::Answer::word, fields::specs::Answer::Bounded))]
 fn counts_word(judged: Result<Counts, Refusal>) -> u64
     requires { Bounded (on_success library_word (of_library_judged judged)) }
     ensures { result ≡ word (on_success library_word (of_library_judged judged)) }
@@ -78,11 +72,7 @@ pub extern "C" fn treecover_judge_functions(library: &[u8], functions: &[u8]) ->
 
 // Judges a tree: its node count, or the refusal.
 #[unsafe(no_mangle)]
-#[tactic(auto, unfolding(
-    sheets_rules::specs::Report::of_tree_judged,
-    fields::specs::Answer::word,
-    fields::specs::Answer::Bounded
-))]
+#[tactic(auto, unfolding(sheets_rules::specs::Report::of_tree_judged, fields::specs::Answer::word, fields::specs::Answer::Bounded))]
 pub extern "C" fn treecover_judge_tree(tree: &[u8]) -> u64
     ensures { result ≡ word (tree_report tree.now) }
 {
@@ -93,11 +83,7 @@ pub extern "C" fn treecover_judge_tree(tree: &[u8]) -> u64
 }
 
 // A reply in one word.
-#[tactic(auto, unfolding(
-    map_rules::specs::Public::of_reply,
-    fields::specs::Answer::word,
-    fields::specs::Answer::Bounded
-))]
+#[tactic(auto, unfolding(map_rules::specs::Public::of_reply, fields::specs::Answer::word, fields::specs::Answer::Bounded))]
 fn reply_word(reply: Result<usize, Refusal>) -> u64
     requires { Bounded (of_reply reply) }
     ensures { result ≡ word (of_reply reply) }
@@ -135,11 +121,7 @@ pub extern "C" fn treecover_list(
 }
 
 // A judgement of a cover in one word.
-#[tactic(auto, unfolding(
-    judge_rules::specs::Public::of_cover_judged,
-    judge_rules::specs::Judgement::point_word,
-    judge_rules::specs::Judgement::PointBounded
-))]
+#[tactic(auto, unfolding(judge_rules::specs::Public::of_cover_judged, judge_rules::specs::Judgement::point_word, judge_rules::specs::Judgement::PointBounded))]
 fn judged_word(judged: Result<Figures, Refusal>) -> u64
     requires { PointBounded (of_cover_judged judged) }
     ensures { result ≡ point_word (of_cover_judged judged) }

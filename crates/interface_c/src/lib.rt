@@ -1,4 +1,5 @@
 // The static library for C: each exported function is that of the crate `interface`, with the same clauses. See include/treecover.h.
+// Each is the twin of its namesake, which stays in a library of its own with its clauses and edits: C needs the names here.
 #![tactic(auto)]
 
 ghost use Rattle.std.specs.Prelude.{◌≡◌};

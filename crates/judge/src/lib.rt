@@ -28,6 +28,7 @@ pub struct Waiting {
 
 // How far a walk has come: the area of the matches and the latest arrival, at the root, of the leaves so far; and what is still to be
 // covered: the first `count` of an array, the lowest node last.
+// The array and its count stand side by side: memory is fixed, and there is no heap.
 #[derive(Clone, Copy)]
 pub struct WalkRecord {
     pub area: u32,

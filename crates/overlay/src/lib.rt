@@ -39,6 +39,7 @@ pub struct Input {
 }
 
 // The inputs of a match in the order of the tree: the first `count` of an array, the rest of which is blank.
+// The array and its count stand side by side: memory is fixed, and there is no heap.
 #[derive(Clone, Copy)]
 pub struct Inputs {
     pub count: u8,
@@ -73,6 +74,7 @@ impl Inputs {
 // Where a walk stands in a drawing: at a spot, with the branches that wait to be laid, the first `depth` of an array, the next one last;
 // and how many bits of the crossing it has used. A spot is a node's number in the drawing and 32 times how many NANDs come before it:
 // one word, as the extents are, so that one addition passes a branch in both counts.
+// The array and its count stand side by side: memory is fixed, and there is no heap.
 #[derive(Clone, Copy)]
 pub struct Left {
     pub spot: usize,

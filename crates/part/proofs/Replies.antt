@@ -1,12 +1,12 @@
 -- From what was found to the reply, the output and the work area.
-use Prim.Native.Nat.{ℕ, zero, suc, ◌*◌, ◌≤◌}
+use Prim.Native.Nat.{ℕ, zero, suc, ◌≤◌}
 use mathlib.Core.Path.{◌≡◌, refl, sym, ap, subst, ◌∙◌}
 use mathlib.Core.Option.{Option}
 use mathlib.Core.Bool.{Bool, true, false, ◌&&◌}
 use mathlib.Core.List.{List, [], ◌∷◌, ◌++◌, flat_map}
 use native.Mathlib.Omega.{arith}
 use lib.Dec.{eqb, ltb}
-use lib.ListN.{length, take, drop, get_elem?}
+use lib.ListN.{length, drop, get_elem?}
 use Rattle.fields.specs.declared.Fault.{Fault}
 use Rattle.std.specs.Prelude.{Result, Ok, Err}
 use Rattle.fields.specs.Reading.{Scan}
@@ -112,9 +112,9 @@ worked most work is done = done ∙ ap (λ (n : ℕ). cleared (work_words n) wor
 
 module _ (most : ℕ) (l : Library) (p : Part) {output work work' : List ℕ} (is : most ≡ allowed (length work)) (done : work' ≡ cleared (work_words most) work) where
   -- A tree is refused.
-  pub trees_refused : {q : Refusal} → covers_from most l p.links [] p.trees ≡ refusal q → Bounded (refusal q) → Operated (part_sheets most l p) output output work work' (refusal q)
+  pub trees_refused : (q : Refusal) → covers_from most l p.links [] p.trees ≡ refusal q → Bounded (refusal q) → Operated (part_sheets most l p) output output work work' (refusal q)
   unfolding part_sheets on_success told output_after work_after
-  trees_refused {q} e fits =
+  trees_refused q e fits =
       subst (λ (r : Answer (List Cover)). Operated (on_success (flat_map cover_sheet) r) output output work work' (refusal q)) (sym e)
       (record { told_is = refl; output_is = refl; work_is = rw (mapped_zeroed most l p e) (worked most work is done); bounded = fits })
 

@@ -7,15 +7,16 @@ use mathlib.Core.Option
 use mathlib.Core.Option.{Option}
 use native.Mathlib.Omega.{arith}
 use native.Mathlib.Decide.{dec_lt, ℕ_discrete}
-use lib.ListN.{length, get_or, set, take, drop, replicate, length-append, length-map, length-replicate, length-set, get_or-eq_default, length-take}
+use lib.ListN.{length, get_or, set, take, drop, replicate, length-append, length-map, get_or-eq_default, length-take}
 use lib.Seq.{get_or-set_same, get_or-set_other, set_out, append_snoc, get_or_at, get_or-take, get_or-drop, take-suc-set}
-use Rattle.std.specs.Prelude.{Ok, Err}
+use Rattle.std.specs.Prelude.{Result, Ok, Err}
 use Rattle.fields.specs.Answer.{Answer, refused_in, success, in_item, ◌>>=◌}
+use Rattle.sheets_rules.specs.declared.LibraryRecord.{LibraryRecord}
 use Rattle.sheets_rules.specs.declared.Refusal.{Refusal}
-use Rattle.sheets_rules.specs.Report.{number_of, refusal}
+use Rattle.sheets_rules.specs.Report.{number_of}
 use Rattle.sheets_rules.specs.declared.TreeRecord.{TreeRecord}
 use Rattle.sheets_rules.specs.Model.{Library, Tree}
-use Rattle.sheets_rules.specs.Inside.Sound.{SoundTree}
+use Rattle.sheets_rules.specs.Inside.Sound.{SoundTree, LibraryStored}
 use Rattle.sheets_rules.specs.Inside.Layout.{padded, tree_laid}
 use Rattle.sheets_rules.proofs.Laid.{in_padded, padded_at, padded_more}
 use Rattle.covers.specs.Cover.{Cover}
@@ -23,11 +24,11 @@ use Rattle.result_sheets.specs.declared.CoverRecord.{CoverRecord}
 use Rattle.result_sheets.specs.Public.{bare_cover, cover_of}
 use Rattle.part_rules.specs.Part.{Part, driver_of, linked_arrival, known}
 use Rattle.part_rules.specs.PartSheet.{trees_most}
-use Rattle.part_rules.specs.Outcome.{tree_mapped, covers_from}
+use Rattle.part_rules.specs.Outcome.{covers_from}
 use Rattle.part_read.specs.declared.PartRecord.{PartRecord}
 use Rattle.part_read.specs.Inside.Decoded.{no_tree, PartStored}
 use Rattle.part_link.specs.Inside.Promises.{driver_named, brought}
-use Rattle.part.specs.Inside.Promises.{no_cover, Few, LinkedMapped}
+use Rattle.part.specs.Inside.Promises.{no_cover, Few, LinkedMapped, MapsLinked}
 
 -- The first k trees are mapped: their covers and arrivals are at hand, and the rest is still to be mapped.
 pub record Going (most : ℕ) (l : Library) (p : Part) (k : ℕ) (covers : List CoverRecord) (arrivals : List ℕ) : Type 0 where
@@ -51,7 +52,7 @@ blank_few (suc n) zero = omega arith
 blank_few (suc n) (suc k) = blank_few n k
 
 pub few_none : (c : CoverRecord) → c ≡ bare_cover 0 0 → Few (replicate trees_most c)
-few_none c e = rw e (blank_few trees_most)
+few_none c e = subst (λ (x : CoverRecord). Few (replicate trees_most x)) (sym e) (blank_few trees_most)
 
 pub few_more : (l : List CoverRecord) (k : ℕ) (c : CoverRecord) → Few l → c.count ≤ 63 → Few (set l k c)
 few_more l k c h g j = go (ℕ_discrete j k) (dec_lt k (length l))
@@ -104,6 +105,11 @@ module _ {most : ℕ} {l : Library} {p : Part} {part : PartRecord} {k : ℕ} {co
       let when : ◌≡◌ {A = ℕ → ℕ} (λ d. get_or (map (λ (c : Cover). c.point.arrival) h.cs) d 0) (λ d. get_or arrivals d 0) =
       λ i d. sym (ap (λ (q : List ℕ). get_or q d 0) h.arrivals_are ∙ padded_at trees_most (map (λ (c : Cover). c.point.arrival) h.cs) d (omega (arith, length-map h.cs (λ (c : Cover). c.point.arrival), h.mapped))) i in
       ap₂ (λ (g : ℕ → ℕ) (o : Option ℕ). Option.map g o) when driver
+
+  -- So it is mapped with them.
+  pub linked : (d : TreeRecord) {library : LibraryRecord} {r : Result CoverRecord Refusal} {m : ℕ} → LibraryStored l library → MapsLinked most library (get_or part.trees k d) (take m (drop (64 * k) part.drivers)) arrivals r → m ≡ 64 →
+      LinkedMapped most l (known p.links h.cs) (next d).0 r
+  linked d {m = m} read maps e = let (t, more, split, sound, is) = next d in maps l t (known p.links h.cs) (record { read = read; tree_sound = sound; tree_is = is }) (brings m e)
 
   module _ (d : TreeRecord) where
     -- It is mapped.

@@ -34,6 +34,7 @@ impl LinkRecord {
 }
 
 // A part as decoded: its trees, and for node n of tree k, at 64 × k + n, 0 or one more than the number of the tree that drives it.
+// The array and its count stand side by side: memory is fixed, and there is no heap.
 #[derive(Clone, Copy)]
 pub struct PartRecord {
     pub count: usize,
@@ -42,6 +43,7 @@ pub struct PartRecord {
 }
 
 // What stands before the trees: how many they are, the first `count` links of an array, and the cursor after them.
+// The array and its count stand side by side: memory is fixed, and there is no heap.
 #[derive(Clone, Copy)]
 pub struct CountsRecord {
     pub trees: usize,

@@ -50,6 +50,7 @@ pub struct MatchRecord {
 }
 
 // A cover: its area, its arrival, and its `count` matches, the first of the array.
+// The array and its count stand side by side: memory is fixed, and there is no heap.
 #[derive(Clone, Copy)]
 pub struct CoverRecord {
     pub area: u32,
@@ -113,7 +114,7 @@ fn put_matches(output: &mut [u8], matches: &[MatchRecord])
     }
 }
 
-// Writes the sheet of a cover, and answers how many bytes it takes.
+// Writes the sheet of a cover, and answers how many bytes it takes. The cover comes by value, as callers of the public function have handed it.
 pub fn write_cover(output: &mut [u8], cover: CoverRecord) -> usize
     requires { (cover.count < 2 ^ match_count_width) × (cover_bits cover.count ≤ 8 * length output.old) }
     ensures { Written (cover_sheet (cover_of cover)) output.old output.new result }

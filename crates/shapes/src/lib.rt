@@ -20,6 +20,7 @@ pub struct ShapeRead {
 }
 
 // The codes of nodes; how wide a code is, and a drive.
+// They stay numbers, as the field has them: an enum would be made of one only to be matched at once.
 #[derive(Clone, Copy)]
 struct Codes {}
 

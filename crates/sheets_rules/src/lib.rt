@@ -141,6 +141,7 @@ impl PatternRow {
 }
 
 // The bin loads: the first `count` are there.
+// The array and its count stand side by side: memory is fixed, and there is no heap.
 #[derive(Clone, Copy)]
 pub struct Bins {
     pub count: usize,
@@ -177,6 +178,7 @@ pub struct CellRecord {
 }
 
 // A library as decoded: the bin loads, how many cells there are, and a row for each of the `total` patterns.
+// The array and its count stand side by side: memory is fixed, and there is no heap.
 #[derive(Clone, Copy)]
 pub struct LibraryRecord {
     pub bins: Bins,
@@ -193,6 +195,7 @@ pub struct Counts {
 }
 
 // A tree as decoded: its nodes' symbols in preorder, and how many nodes stand under each.
+// The array and its count stand side by side: memory is fixed, and there is no heap.
 #[derive(Clone, Copy)]
 pub struct TreeRecord {
     pub load: u8,

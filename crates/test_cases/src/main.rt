@@ -13,35 +13,9 @@
 
 ghost use Rattle.std.specs.Prelude.{◌<◌, ◌≤◌, length};
 
-use fields::Refusal;
 use frame::Frame;
-use judge_rules::CoverJudged;
-use map_rules::Reply;
-use sheets_rules::{LibraryJudged, Limits, TreeJudged};
-
-// The kinds of cases.
-#[derive(Clone, Copy)]
-struct Kind {}
-
-impl Kind {
-    const LIBRARY: u8 = 0;
-
-    const TREE: u8 = 1;
-
-    const MAP: u8 = 2;
-
-    const LIST: u8 = 3;
-
-    const TREECOVER: u8 = 4;
-
-    const COVER: u8 = 5;
-
-    const BILL: u8 = 6;
-
-    const FUNCTIONS: u8 = 7;
-
-    const PART: u8 = 8;
-}
+use judge_rules::Figures;
+use sheets_rules::{Counts, Limits, Reason, Refusal};
 
 // How much is read: the lengths of a case, its sheets, and how many cases.
 #[derive(Clone, Copy)]
@@ -59,8 +33,59 @@ impl Input {
     const CASES: u32 = 1000000;
 }
 
+// A case that is cut short, too long or of no kind that there is.
+#[derive(Clone, Copy, Debug, PartialEq, Eq)]
+struct Spoiled;
+
+// The kinds of cases.
+#[derive(Clone, Copy, Debug, PartialEq, Eq)]
+enum Kind {
+    Library,
+    Tree,
+    Map,
+    List,
+    Treecover,
+    Cover,
+    Bill,
+    Functions,
+    Part,
+}
+
+impl TryFrom<u8> for Kind {
+    type Error = Spoiled;
+
+    fn try_from(number: u8) -> Result<Self, Spoiled> {
+        match number {
+            0 => Ok(Kind::Library),
+            1 => Ok(Kind::Tree),
+            2 => Ok(Kind::Map),
+            3 => Ok(Kind::List),
+            4 => Ok(Kind::Treecover),
+            5 => Ok(Kind::Cover),
+            6 => Ok(Kind::Bill),
+            7 => Ok(Kind::Functions),
+            8 => Ok(Kind::Part),
+            _ => Err(Spoiled),
+        }
+    }
+}
+
+impl Kind {
+    // How many lengths a case of the kind has.
+    fn length_count(self) -> usize
+        ensures { result ≤ 4 }
+    {
+        match self {
+            Kind::Library | Kind::Tree | Kind::Treecover | Kind::Bill => 1,
+            Kind::Functions => 2,
+            Kind::Cover => 3,
+            Kind::Map | Kind::List | Kind::Part => Input::MOST_LENGTHS,
+        }
+    }
+}
+
 // Where the sheets of a case end, one after another, and what it is lent.
-#[derive(Clone, Copy)]
+#[derive(Clone, Copy, Debug, PartialEq, Eq)]
 struct Layout {
     first: usize,
     second: usize,
@@ -88,7 +113,7 @@ const HEX_DIGITS: usize = 2;
 
 // ---- the lines that answer a case
 
-// A case is not what its lengths say, or too long, or of no kind that there is; or it asks for more than can be lent.
+// A case is spoiled, or asks for more than can be lent.
 fn write_spoiled() {
     io::write_all(Frame::STDOUT, b"spoiled\n");
 }
@@ -118,266 +143,153 @@ fn write_pair(word: &[u8], first: u64, second: u64) {
 
 // "refused", number, place.
 fn write_refusal(refusal: Refusal) {
-    write_pair(b"refused", refusal.number as u64, refusal.place as u64);
+    let number = refusals::number(refusal.reason);
+    write_pair(b"refused", u64::from(number), refusal.place as u64);
 }
 
 // A word, cell count, pattern count; or the refusal.
-fn write_counts(word: &[u8], judged: LibraryJudged) {
+fn write_counts(word: &[u8], judged: Result<Counts, Refusal>) {
     match judged {
-        LibraryJudged::Sound(cells, patterns) => write_pair(word, cells as u64, patterns as u64),
-        LibraryJudged::Refused(refusal) => write_refusal(refusal),
+        Ok(counts) => write_pair(word, counts.cells as u64, counts.patterns as u64),
+        Err(refusal) => write_refusal(refusal),
     }
 }
 
 // ---- the texts of treecover and of bill, each compared with its fixed words
 
-// Whether a text opens with a word.
-fn opens_with(text: &[u8], word: &[u8]) -> bool {
-    let mut k = 0;
-    while k < word.len() {
-        if text.len() <= k {
-            return false;
-        }
-        if text[k] != word[k] {
-            return false;
-        }
-        k += 1;
-    }
-    true
-}
-
 // Whether a line of a text opens with a word.
 fn has_line(text: &[u8], word: &[u8]) -> bool {
-    let mut starts = true;
-    let mut k = 0;
-    while k < text.len() {
-        if starts && opens_with(&text[k..], word) {
-            return true;
-        }
-        starts = text[k] == b'\n';
-        k += 1;
-    }
-    false
+    text.split(|byte| *byte == b'\n')
+        .any(|line| line.starts_with(word))
 }
 
 // Whether a text is one of those for an input that has no answer.
 fn answers_nothing(text: &[u8]) -> bool {
-    if opens_with(text, b"refused ") {
-        return true;
-    }
-    opens_with(text, b"spoiled\n")
+    text.starts_with(b"refused ") || text.starts_with(b"spoiled\n")
 }
 
 // Whether a text opens with one of the words that treecover's texts open with.
 fn opens_fixed(text: &[u8]) -> bool {
-    if answers_nothing(text) {
-        return true;
-    }
-    opens_with(text, b"cover ")
+    answers_nothing(text) || text.starts_with(b"cover ")
 }
 
 // Whether a text has the words that bill's texts have: one of those for an input that has no bill, or both of a bill.
 fn has_fixed(text: &[u8]) -> bool {
-    if answers_nothing(text) {
-        return true;
-    }
-    has_line(text, b"total ") && has_line(text, b"margin ")
+    answers_nothing(text) || has_line(text, b"total ") && has_line(text, b"margin ")
 }
 
-// The text that treecover prints; before it a line "changed" if it does not open as it should.
+// A text; before it a line "changed" if it is not as such a text should be.
+fn write_text(text: &[u8], sound: bool) {
+    if !sound {
+        write_changed();
+    }
+    io::write_all(Frame::STDOUT, text);
+}
+
+// The text that treecover prints.
 fn run_text(input: &[u8]) {
-    let mut text = [0u8; treecover_text::Text::LONGEST];
+    let mut text = [0u8; treecover_text::LONGEST];
     let length = treecover_text::print_cover(input, &mut text);
-    if !opens_fixed(&text[..length]) {
-        write_changed();
-    }
-    io::write_all(Frame::STDOUT, &text[..length]);
+    let text = &text[..length];
+    write_text(text, opens_fixed(text));
 }
 
-// The text that bill prints; before it a line "changed" if it lacks a fixed word.
+// The text that bill prints.
 fn run_bill(input: &[u8]) {
-    let mut text = [0u8; bill_text::Text::LONGEST];
+    let mut text = [0u8; bill_text::LONGEST];
     let length = bill_text::print_bill(input, &mut text);
-    if !has_fixed(&text[..length]) {
-        write_changed();
-    }
-    io::write_all(Frame::STDOUT, &text[..length]);
+    let text = &text[..length];
+    write_text(text, has_fixed(text));
 }
 
 // ---- map, list and the part operation, with an output and a work area that are looked at afterwards
 
-// Whether the bytes from `from` on are what stood there before.
-fn bytes_kept(s: &[u8], from: usize) -> bool {
-    let mut k = from;
-    while k < s.len() {
-        if s[k] != Lent::BYTE {
-            return false;
-        }
-        k += 1;
-    }
-    true
-}
-
-// Whether the words from `from` on, and before `to`, are all `w`.
-fn words_are(s: &[u64], from: usize, to: usize, w: u64) -> bool {
-    let mut k = from;
-    while k < to {
-        if s.len() <= k {
-            return false;
-        }
-        if s[k] != w {
-            return false;
-        }
-        k += 1;
-    }
-    true
-}
-
 // Whether output and work area are, after a sheet of `bytes` bytes or a refusal, as document 01 has them.
 fn lent_kept(output: &[u8], work: &[u64], bytes: usize, clears: bool) -> bool {
-    let cleared = if clears { Limits::WORK } else { 0 };
-    if !bytes_kept(output, bytes) {
+    let words = if clears { Limits::WORK } else { 0 };
+    let Some((cleared, kept)) = work.split_at_checked(words) else {
         return false;
-    }
-    if !words_are(work, 0, cleared, 0) {
-        return false;
-    }
-    words_are(work, cleared, work.len(), Lent::WORD)
+    };
+    output.iter().skip(bytes).all(|byte| *byte == Lent::BYTE)
+        && cleared.iter().all(|word| *word == 0)
+        && kept.iter().all(|word| *word == Lent::WORD)
 }
 
-// A byte in hexadecimal.
-fn write_byte(x: u8) {
-    io::print_hex(Frame::STDOUT, x as u64, HEX_DIGITS);
-}
-
-// A space, how many bytes, a space, and the bytes in hexadecimal.
-fn write_bytes(s: &[u8], count: usize) {
-    write_number(count as u64);
-    io::write_all(Frame::STDOUT, b" ");
-    let mut k = 0;
-    while k < count {
-        if s.len() <= k {
-            return;
-        }
-        write_byte(s[k]);
-        k += 1;
-    }
-}
-
-// A word and the first bytes of the output.
+// A word, how many bytes, and the bytes in hexadecimal: the first of the output.
 fn write_sheet(word: &[u8], output: &[u8], bytes: usize) {
     io::write_all(Frame::STDOUT, word);
-    write_bytes(output, bytes);
+    write_number(bytes as u64);
+    io::write_all(Frame::STDOUT, b" ");
+    for byte in output.iter().take(bytes) {
+        io::print_hex(Frame::STDOUT, u64::from(*byte), HEX_DIGITS);
+    }
     end_line();
 }
 
-// The refusals after which the work area is zero: an overfull node, no cover, a linked arrival that is too late.
-#[derive(Clone, Copy)]
-struct Zeroed {}
-
-impl Zeroed {
-    const OVERFULL: u32 = 7;
-
-    const NO_COVER: u32 = 8;
-
-    const LATE: u32 = 43;
-}
-
-fn clears(number: u32) -> bool {
-    number == Zeroed::OVERFULL || number == Zeroed::NO_COVER || number == Zeroed::LATE
+// Whether the work area is zero after a refusal.
+fn clears(reason: Reason) -> bool {
+    matches!(reason, Reason::Crowded | Reason::NoCover | Reason::Late)
 }
 
 // "refused", number, place; of a part the tree after them.
 fn write_lent_refusal(refusal: Refusal, part: bool) {
     io::write_all(Frame::STDOUT, b"refused");
-    write_number(refusal.number as u64);
+    write_number(u64::from(refusals::number(refusal.reason)));
     write_number(refusal.place as u64);
     if part {
-        write_number(refusal.item as u64);
+        write_number(u64::from(refusal.item));
     }
     end_line();
 }
 
 // The reply as a line; before it a line "changed" if something lent is not as it should be.
-fn write_reply(reply: Reply, word: &[u8], part: bool, output: &[u8], work: &[u64]) {
+fn write_reply(
+    reply: Result<usize, Refusal>,
+    word: &[u8],
+    part: bool,
+    output: &[u8],
+    work: &[u64],
+) {
     match reply {
-        Reply::Refused(refusal) => {
-            if !lent_kept(output, work, 0, clears(refusal.number)) {
-                write_changed();
-            }
-            write_lent_refusal(refusal, part);
-        }
-        Reply::Sheets(bytes) => {
+        Ok(bytes) => {
             if !lent_kept(output, work, bytes, true) {
                 write_changed();
             }
             write_sheet(word, output, bytes);
         }
+        Err(refusal) => {
+            if !lent_kept(output, work, 0, clears(refusal.reason)) {
+                write_changed();
+            }
+            write_lent_refusal(refusal, part);
+        }
     }
 }
 
-// Map, list or the part operation with what it is lent.
-fn run_lent(kind: u8, library: &[u8], tree: &[u8], output: &mut [u8], work: &mut [u64]) {
-    if kind == Kind::MAP {
-        let reply = map::map(library, tree, output, work);
-        write_reply(reply, b"cover", false, output, work);
-    } else if kind == Kind::LIST {
-        let reply = map::list(library, tree, output, work);
-        write_reply(reply, b"list", false, output, work);
-    } else {
-        let reply = part::map_part(library, tree, output, work);
-        write_reply(reply, b"part", true, output, work);
-    }
-}
-
-// The same with `bytes` of the bytes and `words` of the words that are there.
-fn run_within(
-    kind: u8,
-    library: &[u8],
-    tree: &[u8],
-    output: &mut [u8],
-    bytes: usize,
-    work: &mut [u64],
-    words: usize,
-) {
-    if output.len() < bytes {
-        write_spoiled();
-        return;
-    }
-    if work.len() < words {
-        write_spoiled();
-        return;
-    }
-    run_lent(
-        kind,
-        library,
-        tree,
-        &mut output[0..bytes],
-        &mut work[0..words],
-    );
-}
-
-// Map, list or the part operation, lent `bytes` bytes and `words` words with something in them.
-fn run_operation(kind: u8, library: &[u8], tree: &[u8], bytes: usize, words: usize) {
+// Map, list or the part operation, lent as many bytes and words as the layout says, with something in them. Its sheets' line opens with a word.
+fn run_operation<F: Fn(&[u8], &[u8], &mut [u8], &mut [u64]) -> Result<usize, Refusal>>(
+    operation: F,
+    word: &[u8],
+    part: bool,
+    sheets: &[u8],
+    layout: Layout,
+)
+    requires callable { F.IsAlwaysCallable operation }
+    requires within { layout.first ≤ length sheets.now }
+{
     let mut output = [Lent::BYTE; Lent::OUTPUT];
     let mut work = [Lent::WORD; Lent::WORK];
-    run_within(kind, library, tree, &mut output, bytes, &mut work, words);
+    let (Some(output), Some(work)) = (output.get_mut(..layout.bytes), work.get_mut(..layout.words))
+    else {
+        write_spoiled();
+        return;
+    };
+    let (library, tree) = sheets.split_at(layout.first);
+    let reply = operation(library, tree, output, work);
+    write_reply(reply, word, part, output, work);
 }
 
 // ---- a case, read and run
-
-// How many lengths a case of a kind has; 0 if there is no such kind.
-fn length_count(kind: u8) -> usize
-    ensures { result ≤ 4 }
-{
-    match kind {
-        Kind::LIBRARY | Kind::TREE | Kind::TREECOVER | Kind::BILL => 1,
-        Kind::FUNCTIONS => 2,
-        Kind::COVER => 3,
-        Kind::MAP | Kind::LIST | Kind::PART => Input::MOST_LENGTHS,
-        _ => 0,
-    }
-}
 
 // A length of a case, by its number.
 fn length_at(lengths: &[u8; Input::LENGTHS], number: usize) -> usize
@@ -413,118 +325,97 @@ fn layout_of(lengths: &[u8; Input::LENGTHS], count: usize) -> Layout
     }
 }
 
-// Fills a space from standard input. Answers whether there was enough.
-fn read_whole(space: &mut [u8]) -> bool {
-    io::read_full(Frame::STDIN, space) == space.len()
-}
-
 // "library" and its counts; or the refusal.
 fn run_library(sheet: &[u8]) {
-    let judged = library::judge_library(sheet);
-    write_counts(b"library", judged);
+    write_counts(b"library", library::judge_library(sheet));
 }
 
 // "tree", node count; or the refusal.
 fn run_tree(sheet: &[u8]) {
-    let judged = tree::judge_tree(sheet);
-    match judged {
-        TreeJudged::Sound(nodes) => {
+    match tree::judge_tree(sheet) {
+        Ok(nodes) => {
             io::write_all(Frame::STDOUT, b"tree");
             write_number(nodes as u64);
             end_line();
         }
-        TreeJudged::Refused(refusal) => write_refusal(refusal),
+        Err(refusal) => write_refusal(refusal),
     }
 }
 
 // "accepted", area, arrival; or the refusal.
 fn run_cover(library: &[u8], tree: &[u8], cover: &[u8]) {
-    let judged = judge::judge_cover(library, tree, cover);
-    match judged {
-        CoverJudged::Accepted(area, arrival) => write_pair(
+    match judge::judge_cover(library, tree, cover) {
+        Ok(Figures { area, arrival }) => write_pair(
             b"accepted",
-            area as u64,
-            arrival as u64,
+            u64::from(area),
+            u64::from(arrival),
         ),
-        CoverJudged::Refused(refusal) => write_refusal(refusal),
+        Err(refusal) => write_refusal(refusal),
     }
 }
 
 // "functions" and the library's counts; or the refusal.
 fn run_functions(library: &[u8], functions: &[u8]) {
-    let judged = functions::judge_functions(library, functions);
-    write_counts(b"functions", judged);
+    write_counts(b"functions", functions::judge_functions(library, functions));
 }
 
 // A whole case.
-fn run_case(kind: u8, sheets: &[u8], layout: Layout)
+fn run_case(kind: Kind, sheets: &[u8], layout: Layout)
     requires { (layout.first ≤ layout.second) × (layout.second ≤ length sheets.now) }
 {
     let first = layout.first;
     let second = layout.second;
+    // The input says which: this is a program's dispatch.
     match kind {
-        Kind::LIBRARY => run_library(sheets),
-        Kind::TREE => run_tree(sheets),
-        Kind::TREECOVER => run_text(sheets),
-        Kind::COVER => run_cover(&sheets[0..first], &sheets[first..second], &sheets[second..]),
-        Kind::BILL => run_bill(sheets),
-        Kind::FUNCTIONS => run_functions(&sheets[0..first], &sheets[first..]),
-        _ => run_operation(
-            kind,
-            &sheets[0..first],
-            &sheets[first..],
-            layout.bytes,
-            layout.words,
-        ),
+        Kind::Library => run_library(sheets),
+        Kind::Tree => run_tree(sheets),
+        Kind::Map => run_operation(map::map, b"cover", false, sheets, layout),
+        Kind::List => run_operation(map::list, b"list", false, sheets, layout),
+        Kind::Treecover => run_text(sheets),
+        Kind::Cover => run_cover(&sheets[..first], &sheets[first..second], &sheets[second..]),
+        Kind::Bill => run_bill(sheets),
+        Kind::Functions => run_functions(&sheets[..first], &sheets[first..]),
+        Kind::Part => run_operation(part::map_part, b"part", true, sheets, layout),
     }
 }
 
-// Reads the sheets of a case into a space of their length, and runs it. Answers whether they were all there.
-fn run_sheets(kind: u8, sheets: &mut [u8], layout: Layout) -> bool
-    requires { (layout.first ≤ layout.second) × (layout.second ≤ length sheets.old) }
-{
-    if !read_whole(sheets) {
-        return false;
+// Fills a space from standard input, if there is enough.
+fn read_whole(space: &mut [u8]) -> Result<(), Spoiled> {
+    if io::read_full(Frame::STDIN, space) < space.len() {
+        return Err(Spoiled);
     }
-    run_case(kind, sheets, layout);
-    true
+    Ok(())
 }
 
-// Reads the rest of a case of a kind, and runs it. Answers whether there is such a kind and the case fits and is whole.
-fn run_rest(kind: u8) -> bool {
-    let count = length_count(kind);
-    if count == 0 {
-        return false;
-    }
+// Reads the rest of a case, whose kind has this number, and runs it.
+fn run_rest(number: u8) -> Result<(), Spoiled> {
+    let kind = Kind::try_from(number)?;
+    let count = kind.length_count();
     let mut lengths = [0u8; Input::LENGTHS];
-    if !read_whole(&mut lengths[0..Frame::LENGTH_BYTES * count]) {
-        return false;
-    }
+    read_whole(&mut lengths[..Frame::LENGTH_BYTES * count])?;
     let layout = layout_of(&lengths, count);
-    let end = layout.end;
     let mut sheets = [0u8; Input::SHEETS];
-    if Input::SHEETS < end {
-        return false;
-    }
-    run_sheets(kind, &mut sheets[0..end], layout)
+    let sheets = sheets.get_mut(..layout.end).ok_or(Spoiled)?;
+    read_whole(sheets)?;
+    run_case(kind, sheets, layout);
+    Ok(())
 }
 
-// The next case, if there is one. Answers whether another may follow.
-fn run_next() -> bool {
-    let mut kind = [0u8; 1];
-    if !read_whole(&mut kind) {
-        return false;
-    }
-    if !run_rest(kind[0]) {
-        write_spoiled();
-        return false;
-    }
-    true
+// The number of the next case's kind, if there is one.
+fn next_number() -> Option<u8> {
+    let mut number = [0u8; 1];
+    read_whole(&mut number).ok()?;
+    Some(number[0])
 }
 
 fn main() {
-    let mut left = Input::CASES;
-    while left > 0 && run_next() {
-        left -= 1;
+    for _ in 0..Input::CASES {
+        let Some(number) = next_number() else {
+            return;
+        };
+        if run_rest(number).is_err() {
+            write_spoiled();
+            return;
+        }
     }
 }

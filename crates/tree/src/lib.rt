@@ -40,6 +40,7 @@ pub struct TreeHead {
 }
 
 // What follows a tree's last field: the end of the bytes, or, before another tree of a part, the rest of the byte.
+// `last` is a word of the definition (`tree_to`), which this function follows.
 fn tail(sheet: &Sheet, last: bool) -> Result<(), Flaw>
     requires { place_of sheet.now.at < 2 ^ 32 }
     ensures { Closes (tailed (tail_at last sheet.now.bytes.now)) sheet.now.at result }
@@ -93,7 +94,7 @@ pub fn read_tree_to(s: &[u8], last: bool) -> Result<(TreeRecord, Cursor), Flaw>
     Ok((tree, sheet.at))
 }
 
-// A tree sheet's refusal.
+// A tree sheet's refusal. It differs from a library's in its reason alone: a function for both would have to be told which.
 fn refuse(flaw: Flaw) -> Refusal
     ensures { result ≡ record { item = 0; reason = Tree flaw.fault; place = flaw.place } }
 {

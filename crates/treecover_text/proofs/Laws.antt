@@ -1,35 +1,34 @@
 -- Laws about the lines that are put.
-use Prim.Native.Nat.{ℕ, zero, suc, ◌+◌, ◌*◌, ◌≤◌, ◌<◌}
-use mathlib.Core.Path.{◌≡◌, sym, ap, ap₂, subst, ◌∙◌}
+use Prim.Native.Nat.{ℕ, ◌+◌, ◌*◌, ◌≤◌, ◌<◌}
+use mathlib.Core.Path.{◌≡◌, refl, sym, ap, ap₂, subst, ◌∙◌}
 use mathlib.Core.List.{List, [], ◌∷◌, ◌++◌, map, map-append, flat_map, append-nil, Memᴰ}
 use native.Mathlib.Nat.{add-zero}
 use native.Mathlib.Omega.{arith}
 use native.Mathlib.Numerals.{add-one}
 use lib.ListN.{length, take, drop, get_or, length-append, length-map, take-append-drop}
 use lib.Seq.{take-suc}
+use Rattle.std.specs.Prelude.{Ok}
 use Rattle.fields.specs.Reading.{Live, start}
 use Rattle.fields.proofs.Lists.{at_mem, at_map}
-use Rattle.sheets_rules.specs.declared.LibraryRead.{LibraryRead}
 use Rattle.sheets_rules.specs.declared.LibraryRecord.{LibraryRecord}
 use Rattle.sheets_rules.specs.LibrarySheet.{library as library_of}
 use Rattle.sheets_rules.specs.Inside.Layout.{row_words}
 use Rattle.sheets_rules.specs.Inside.Readers.{LibraryIs}
 use Rattle.sheets_rules.specs.Inside.Sound.{LibraryStored}
 use Rattle.sheets_rules.specs.Report.{library_said}
+use Rattle.sheets_rules.proofs.Results.{says_holds}
 use Rattle.sheets_rules.proofs.Sound.{library_said_lem}
-use Rattle.fields.proofs.Answer.{says_holds}
 use Rattle.covers.specs.Cover.{Placed, Cover}
 use Rattle.result_sheets.specs.declared.CoverRecord.{CoverRecord}
-use Rattle.result_sheets.specs.declared.CoverRead.{CoverRead}
 use Rattle.result_sheets.specs.declared.MatchRecord.{MatchRecord}
-use Rattle.result_sheets.specs.Public.{placed_of, cover_of, CoverIs}
+use Rattle.result_sheets.specs.Public.{placed_of, cover_of, CoverHolds}
 use Rattle.result_sheets.proofs.Laws.{Room, many}
 use Rattle.text.specs.declared.Text.{Text}
 use Rattle.text.specs.Text.{decimal, spaced, line}
 use Rattle.text.specs.Inside.Promises.{Appended}
 use Rattle.text.proofs.Laws.{length_spaced, length_line, flat_map_append, appended_none, appended_both}
 use Rattle.treecover_text.specs.Printed.{cover_word, cover_line}
-use Rattle.treecover_text.specs.Inside.Rows.{rows_of, cover_in, row_line, row_lines, row_text, HaveRows, Printable}
+use Rattle.treecover_text.specs.Inside.Rows.{rows_of, row_line, row_lines, row_text, HaveRows, Printable}
 
 -- ---- how long a line is, by what is put for it
 
@@ -102,12 +101,12 @@ cover_text_lem cover room rows = ap (λ (n : ℕ). cover_line cover.area cover.a
 
 -- ---- what is read back
 
-module _ {library sheet : List ℕ} {read : LibraryRead} {found : CoverRead} (h : LibraryIs library read) (live : Live (library_of library start).1) (g : CoverIs sheet found) where
-  rows_read : read.library.rows ≡ rows_of library
-  rows_read = ap (λ (r : LibraryRecord). r.rows) (says_holds LibraryStored (library_said library) read.finding read.library h.said (library_of library start).0 (library_said_lem library live)).library_is
+module _ {library : List ℕ} {read : LibraryRecord} {c : Cover} {found : CoverRecord} (h : LibraryIs library (Ok read)) (live : Live (library_of library start).1) (g : CoverHolds c found) where
+  rows_read : read.rows ≡ rows_of library
+  rows_read = ap (λ (r : LibraryRecord). r.rows) (says_holds LibraryStored (library_said library) (Ok read) refl h.said (library_of library start).0 (library_said_lem library live)).library_is
 
-  pub text_read : row_text read.library.rows (cover_of found.cover) ≡ row_text (rows_of library) (cover_in sheet)
+  pub text_read : row_text read.rows (cover_of found) ≡ row_text (rows_of library) c
   text_read = ap₂ row_text rows_read g.cover_is
 
-  pub printable_read : (text : Text) → Printable (rows_of library) (cover_in sheet) text → Printable read.library.rows (cover_of found.cover) text
-  printable_read text p = subst (λ (r : List ℕ). Printable r (cover_of found.cover) text) (sym rows_read) (subst (λ (c : Cover). Printable (rows_of library) c text) (sym g.cover_is) p)
+  pub printable_read : (text : Text) → Printable (rows_of library) c text → Printable read.rows (cover_of found) text
+  printable_read text p = subst (λ (r : List ℕ). Printable r (cover_of found) text) (sym rows_read) (subst (λ (d : Cover). Printable (rows_of library) d text) (sym g.cover_is) p)

@@ -19,7 +19,7 @@ use Rattle.sheets_rules.specs.Report.{library_number, tree_number, library_said,
 use Rattle.sheets_rules.proofs.Sound.{library_limits, tree_limits}
 use Rattle.covers.specs.Capacity.{capacity, allowed}
 use Rattle.covers.specs.Cover.{Cover}
-use Rattle.covers.specs.CoverSheet.{cover_sheet, CoverReads}
+use Rattle.covers.specs.CoverSheet.{cover_sheet, cover_read, CoverReads}
 use Rattle.covers.specs.Promise.{RootCover, BestCover}
 use Rattle.covers.specs.Answer.{overfull_number, no_cover_number, map_answer}
 use Rattle.covers.specs.Lending.{lent, told, output_after}
@@ -29,8 +29,7 @@ use Rattle.covers.proofs.FromSheets.{cover_fits}
 use Rattle.covers.proofs.Promises.{MapPromise, too_many_lem, none_wanted, right, map_promise}
 use Rattle.sheets_rules.proofs.TreeWritten.{same_said}
 use Rattle.covers.proofs.Demands.{operation_alike}
-use Rattle.map_rules.specs.declared.Reply.{Reply}
-use Rattle.map_rules.specs.Public.{of_reply, Operated}
+use Rattle.map_rules.specs.Public.{Operated}
 use Rattle.result_sheets.specs.Public.{Written}
 use Rattle.text.specs.declared.Text.{Text}
 use Rattle.text.specs.Inside.Promises.{Appended}
@@ -45,6 +44,7 @@ use Rattle.treecover_text.proofs.Reading.{cover_rows, cover_read_lem, cover_shor
 -- A sheet that reads as the text, which is short, after a library with this scan.
 pub record Readable (l : Library) (q : Scan) (bytes text : List ℕ) : Type 0 where
   pub live : Live q
+  pub read : Live (cover_read bytes start).1
   pub rows : HaveRows (library_laid l).rows (cover_in bytes).placed
   pub text_is : row_text (library_laid l).rows (cover_in bytes) ≡ text
   pub short : length text ≤ longest_text
@@ -97,6 +97,7 @@ module _ (ls ts : List ℕ) where
       let same : cover_in (cover_sheet c) ≡ c = ap (λ r. r.0) (back live tree legal).reads in
       record {
         live = live;
+        read = subst (λ r. Live r.1) (sym (back live tree legal).reads) tt;
         rows = subst (λ (d : Cover). HaveRows (library_laid l).rows d.placed) (sym same) (cover_rows sound (tree_limits ts tree) legal);
         text_is = ap (row_text (library_laid l).rows) same ∙ cover_read_lem sound (tree_limits ts tree) legal;
         short = cover_short sound (tree_limits ts tree) legal;
@@ -120,9 +121,9 @@ module _ (ls ts : List ℕ) where
   abbrev pub Replied : Answer ℕ → List ℕ → Type 0
   Replied = Says l q (outcome_text (map_shown ls ts))
 
-  pub replied : {output output' work work' : List ℕ} {r s : Reply} → Operated outcome output output' work work' (of_reply r) → r ≡ s → Replied (of_reply s) output'
-  replied {output} {output'} {s = s} h e =
-      subst (λ (a : Answer ℕ). Replied a output') (sym h.told_is ∙ ap of_reply e) (subst (λ (x : List ℕ). Replied (told outcome) x) (sym h.output_is) (told_says output shown))
+  pub replied : {output output' work work' : List ℕ} {a : Answer ℕ} → Operated outcome output output' work work' a → Replied a output'
+  replied {output} {output'} h =
+      subst (λ (b : Answer ℕ). Replied b output') (sym h.told_is) (subst (λ (x : List ℕ). Replied (told outcome) x) (sym h.output_is) (told_says output shown))
 
   -- What the text is worth.
   demands : {o : Answer (List ℕ)} {text : List ℕ} → Shown l t q w o text → o ≡ outcome → TextDemands ls ts text

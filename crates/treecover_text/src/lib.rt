@@ -6,7 +6,7 @@ ghost use Rattle.io.specs.Counts.{IsPrefixLen};
 ghost use Rattle.fields.specs.Reading.{Live, start};
 ghost use Rattle.sheets_rules.specs.LibrarySheet.{library as library_of};
 ghost use Rattle.sheets_rules.specs.Inside.Layout.{row_words};
-ghost use Rattle.covers.specs.CoverSheet.{match_count_width};
+ghost use Rattle.covers.specs.CoverSheet.{match_count_width, cover_read};
 ghost use Rattle.result_sheets.specs.Public.{placed_of, cover_of, Written};
 ghost use Rattle.text.specs.Inside.Promises.{HasRoom, Appended};
 ghost use Rattle.frame.specs.Framed.{spoiled, outcome_text};
@@ -15,7 +15,6 @@ ghost use Rattle.treecover_text.specs.Demands.{PrintedWhereWhole};
 ghost use Rattle.treecover_text.specs.Inside.Rows.{rows_of, cover_in, row_line, row_lines, row_text, HaveRows, Printable, AreSheets};
 
 use frame::Sheets;
-use map_rules::Reply;
 use result_sheets::{CoverRecord, MatchRecord};
 use sheets_rules::{Limits, PatternRow};
 use text::Text;
@@ -57,7 +56,7 @@ fn put_matches(text: &mut Text, matches: &[MatchRecord], rows: &[u32])
     }
 }
 
-// Puts the text of a cover.
+// Puts the text of a cover. It comes by value: behind a reference the length of its array is not known to the proof.
 fn put_cover(text: &mut Text, cover: CoverRecord, rows: &[u32])
     requires { (cover.count < 2 ^ match_count_width) × Printable rows.now (cover_of cover) text.old }
     ensures { Appended (row_text rows.now (cover_of cover)) text.old text.new }
@@ -66,13 +65,18 @@ fn put_cover(text: &mut Text, cover: CoverRecord, rows: &[u32])
     put_matches(text, &cover.matches[..cover.count], rows);
 }
 
-// Puts the text of a cover sheet, by a sound library's cells.
+// Puts the text of a cover sheet, by a library's cells. Both sheets are sound, so neither is refused.
 fn put_sheet(text: &mut Text, sheet: &[u8], library: &[u8])
-    requires { Live (library_of library.now start).1 × Printable (rows_of library.now) (cover_in sheet.now) text.old }
+    requires sound { Live (library_of library.now start).1 × Live (cover_read sheet.now start).1 }
+    requires printable { Printable (rows_of library.now) (cover_in sheet.now) text.old }
     ensures { Appended (row_text (rows_of library.now) (cover_in sheet.now)) text.old text.new }
 {
-    let library = library::read_library(library).library;
-    let cover = result_sheets::read_cover(sheet).cover;
+    let Ok(library) = library::read_library(library) else {
+        unreachable!();
+    };
+    let Ok(cover) = result_sheets::read_cover(sheet) else {
+        unreachable!();
+    };
     put_cover(text, cover, &library.rows);
 }
 
@@ -84,8 +88,8 @@ fn put_map(text: &mut Text, library: &[u8], tree: &[u8])
     let mut output = [0u8; Limits::OUTPUT_MAP];
     let mut work = [0u64; Limits::WORK];
     match map::map(library, tree, &mut output, &mut work) {
-        Reply::Refused(refusal) => frame::put_refusal(text, refusal),
-        Reply::Sheets(bytes) => put_sheet(text, &output[..bytes], library),
+        Ok(bytes) => put_sheet(text, &output[..bytes], library),
+        Err(refusal) => frame::put_refusal(text, refusal),
     }
 }
 

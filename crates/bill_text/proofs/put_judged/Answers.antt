@@ -1,5 +1,7 @@
 use native.Mathlib.Omega.{arith}
-use mathlib.Core.Path.{◌≡◌, sym, ap, ◌∙◌}
+use mathlib.Core.Path.{sym, ap}
+use Rattle.sheets_rules.specs.Report.{number_of}
+use Rattle.judge_rules.specs.Judgement.{PointBounded}
 use Rattle.judge_rules.specs.Public.{of_cover_judged}
 use Rattle.frame.specs.Framed.{outcome_text}
 use Rattle.frame.proofs.Laws.{refusal_short}
@@ -7,16 +9,18 @@ use Rattle.bill_rules.proofs.Demands.{shown_refusal}
 use Rattle.bill_text.proofs.put_judged.Goals as goal
 
 pub put_refusal-requires : goal.put_refusal-requires
+unfolding of_cover_judged PointBounded
 put_refusal-requires c =
-    omega (arith, refusal_short c.in-Refused.refusal.number c.in-Refused.refusal.place (omega arith) (omega arith))
+    let q = c.in-Err.refusal in
+    let (item, number, place) = c.in-Err.ensures.bounded in
+    omega (arith, refusal_short (number_of q.reason) q.place (omega arith) (omega arith))
 
 pub put_accepted-requires : goal.put_accepted-requires
 unfolding of_cover_judged
-put_accepted-requires c =
-    (c.requires, (record { area = c.in-Accepted.field-0; arrival = c.in-Accepted.field-1 }, sym c.judge_cover.ensures.answer_is ∙ ap of_cover_judged c.in-Accepted.is))
+put_accepted-requires c = (c.requires, (_, sym c.in-Ok.ensures.answer_is))
 
-pub returns-in-Refused : goal.returns-in-Refused
+pub returns-in-Err : goal.returns-in-Err
 unfolding outcome_text of_cover_judged
-returns-in-Refused c =
+returns-in-Err c =
     let a = c.args in
-    rw (ap outcome_text (shown_refusal a.library.now a.tree.now a.cover.now (sym c.judge_cover.ensures.answer_is ∙ ap of_cover_judged c.in-Refused.is))) c.put_refusal.ensures
+    rw (ap outcome_text (shown_refusal a.library.now a.tree.now a.cover.now (sym c.in-Err.ensures.answer_is))) c.put_refusal.ensures

@@ -22,7 +22,7 @@ returns-in-Ok c =
       maps_linked = λ l t f sheets brings.
           let is = c.in-Ok.ensures t f sheets.tree_sound sheets.tree_is brings in
           linked_early a.most l f t c.map_one.result sheets.tree_sound is.0
-              (c.map_one.ensures.maps_one l (known_tree f t) (record { read = sheets.read; tree_sound = early_sound a.most l f t sheets.tree_sound is.0; tree_is = is.1 }));
+          (c.map_one.ensures.maps_one l (known_tree f t) (record { read = sheets.read; tree_sound = early_sound a.most l f t sheets.tree_sound is.0; tree_is = is.1 }));
     }
 
 pub returns-in-Err : goal.returns-in-Err

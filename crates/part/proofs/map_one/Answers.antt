@@ -1,4 +1,3 @@
-use native.Mathlib.Omega.{arith}
 use Rattle.map_rules.proofs.Laws.{cleared_front}
 use Rattle.part.proofs.Laws.{zeros_cleared, started}
 use Rattle.part.proofs.map_one.Goals as goal

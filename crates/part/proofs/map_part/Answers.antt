@@ -32,7 +32,7 @@ pub map_stored-requires-clause-stored : goal.map_stored-requires-clause-stored
 map_stored-requires-clause-stored c =
     let library = c.in_ok-library.ensures.said in
     let part = c.in_ok-part.ensures in
-    (library.0, (part.0, (library.2, part.2)))
+    (library.0, (part.0, library.2, part.2))
 
 pub returns : goal.returns
 returns c =

@@ -1,8 +1,7 @@
 use mathlib.Core.Path.{subst}
 use mathlib.Core.List.{List, flat_map}
-use Prim.Native.Nat.{ℕ}
 use native.Mathlib.Omega.{arith}
-use lib.ListN.{length, length-take}
+use lib.ListN.{length-take}
 use Rattle.std.proofs.lemmas.Result.{err_from_is_err_and}
 use Rattle.covers.specs.Cover.{Cover}
 use Rattle.covers.specs.CoverSheet.{cover_sheet}
@@ -17,11 +16,11 @@ unfolding of_reply
 returns-in_err-covers c l p stored part =
     let says = c.in_err-covers.ensures.maps_trees l p stored part in
     let is = err_from_is_err_and c.from_residual.result c.from_residual.ensures.1 in
-    rw (is.1, is.2) (trees_refused c.args.most l p c.requires.lent.most_is c.in_err-covers.ensures.work_after says.0 says.1)
+    rw (is.1, is.2) (trees_refused c.args.most l p c.requires.lent.most_is c.in_err-covers.ensures.work_after _ says.0 says.1)
 
 pub write_sheets-requires : goal.write_sheets-requires
 write_sheets-requires c =
-    let (l, (p, (stored, part))) = c.requires.stored in
+    let (l, (p, stored, part)) = c.requires.stored in
     let says = c.in_ok-covers.ensures.maps_trees l p stored part in
     (omega (arith, part.count_is, part.trees_are.few, length-take c.args.part.now.count c.in_ok-covers.covers), c.requires.lent.long, few_front c.in_ok-covers.covers c.args.part.now.count says.2.few)
 
@@ -31,4 +30,4 @@ returns c l p stored part =
     let put = c.write_sheets in
     let says = c.in_ok-covers.ensures.maps_trees l p stored part in
     trees_found c.args.most l p c.requires.lent.most_is c.in_ok-covers.ensures.work_after says.1
-        (subst (λ (cs : List Cover). Written (flat_map cover_sheet cs) c.args.output.now put.new.output put.result) says.2.covers_are put.ensures.0) put.ensures.1
+    (subst (λ (cs : List Cover). Written (flat_map cover_sheet cs) c.args.output.now put.new.output put.result) says.2.covers_are put.ensures.0) put.ensures.1

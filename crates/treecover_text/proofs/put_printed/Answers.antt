@@ -1,5 +1,4 @@
 use native.Mathlib.Omega.{arith}
-use mathlib.Core.Path.{◌≡◌}
 use Rattle.text.specs.Text.{spaced, line}
 use Rattle.frame.specs.Framed.{spoiled_line, framed}
 use Rattle.treecover_text.specs.Printed.{printed}

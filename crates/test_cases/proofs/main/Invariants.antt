@@ -1,8 +1,0 @@
--- The count of the cases that may still be read falls, so the loop ends.
-use Rattle.test_cases.proofs.main.Given as goal
-
-abbrev pub invariant-loop-left : goal.invariant-loop-left
-invariant-loop-left l = Unit {0}
-
-abbrev pub decreases-loop-left : goal.decreases-loop-left
-decreases-loop-left l = l.left
