@@ -61,8 +61,15 @@ impl Cursor {
         requires { self.used < 8 }
         ensures { result ≡ leb (place_of self) (8 * bytes) }
     {
-        let Cursor { byte, used } = self;
-        byte < bytes || byte == bytes && used == 0
+        // Branches, the usual one first: as one condition, and by `cmp`, reading a tree took half as long again.
+        let byte = self.byte;
+        if byte < bytes {
+            return true;
+        }
+        if bytes < byte {
+            return false;
+        }
+        self.used == 0
     }
 
     // The field of `width` bits at the cursor. Where a word is there and has the field, it is cut from it; else, near the end and for wide fields, it is read byte by byte.
