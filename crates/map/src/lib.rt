@@ -88,6 +88,7 @@ pub fn map(
 }
 
 // Every trade-off of a tree's root, earliest first.
+// As `map`, with another contract (`Lists`) and another core; so is `map_part`.
 pub fn list(
     library: &[u8],
     tree: &[u8],
