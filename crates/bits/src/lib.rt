@@ -35,6 +35,7 @@ impl Cursor {
     }
 
     // The number of the bit at which the cursor stands.
+    // The bounds are asked for and stand in no type, here and in readers: a cursor goes on past any bound.
     pub fn place(self) -> usize
         requires { place_of self < 2 ^ 32 }
         ensures { result ≡ place_of self }
@@ -57,12 +58,20 @@ impl Cursor {
     }
 
     // Whether `bytes` bytes go as far as the cursor.
+    // No comparison of two cursors: the end is a count of bytes.
     fn inside(self, bytes: usize) -> bool
         requires { self.used < 8 }
         ensures { result ≡ leb (place_of self) (8 * bytes) }
     {
-        let Cursor { byte, used } = self;
-        byte < bytes || byte == bytes && used == 0
+        // Branches, the usual one first: as one condition, and by `cmp`, reading a tree took half as long again.
+        let byte = self.byte;
+        if byte < bytes {
+            return true;
+        }
+        if bytes < byte {
+            return false;
+        }
+        self.used == 0
     }
 
     // The field of `width` bits at the cursor. Where a word is there and has the field, it is cut from it; else, near the end and for wide fields, it is read byte by byte.
@@ -162,6 +171,7 @@ fn word(s: &[u8], at: usize) -> u64
 }
 
 // What a bit is worth after which `k` bits stand.
+// In 64 bits; `settings` of functions has the same in usize: each with the bound that it needs.
 fn power(k: usize) -> u64
     requires { k < 64 }
     ensures { (result ≡ 2 ^ k) × (0 < result) }

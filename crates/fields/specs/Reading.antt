@@ -1,10 +1,11 @@
 -- The words in which a sheet is defined: a field, its verdict, then, n times, the end.
 -- A scan stands at a place of the bytes, or was refused: a fault at a place. A refused scan stays as it is, so the first field at fault decides;
 -- what is read after a refusal is 0 and means nothing.
-use Rattle.std.specs.Prelude.{ℕ, zero, suc, List, [], ◌∷◌, ◌++◌, Bool, cond, ◌&&◌, leb, Option, Some, None}
+use Rattle.std.specs.Prelude.{ℕ, zero, suc, List, [], ◌∷◌, ◌++◌, Bool, cond, ◌&&◌, leb, ◌≤◌, ◌≡◌, Option, Some, None, Result, MatchResult}
 use Rattle.bits.specs.Bits.{place_of, cursor_at, field_at, filled_at, ends_at}
 use Rattle.bits.specs.declared.Cursor.{Cursor}
 use Rattle.fields.specs.declared.Fault.{Fault}
+use Rattle.fields.specs.declared.Flaw.{Flaw}
 use Rattle.fields.specs.declared.Fault.TheVariants.{Truncated, Tail, Range}
 
 -- A scan of a sheet: at a place, or refused for good.
@@ -85,3 +86,18 @@ module _ (s : List ℕ) where
 abbrev pub Live : Scan → Type 0
 Live (At c) = Unit {0}
 Live (Refused f p) = ⊥
+
+-- ---- what is handed over of a whole sheet
+
+-- The definition refuses with this flaw.
+pub record Flawed {A : Type 0} (x : A × Scan) (reach : ℕ) (e : Flaw) : Type 0 where
+  pub says : x.1 ≡ Refused e.fault e.place
+  pub near : e.place ≤ reach
+
+-- A whole sheet was read: what stands beside it holds what the definition reads, which is not refused; or the definition refuses with the flaw.
+pub record Told {A B : Type 0} (Holds : A → B → Type 0) (x : A × Scan) (b : B) : Type 0 where
+  pub live : Live x.1
+  pub holds : Holds x.0 b
+
+abbrev pub Tells : {A B : Type 0} → (A → B → Type 0) → A × Scan → ℕ → Result B Flaw → Type 0
+Tells Holds x reach r = MatchResult r (Told Holds x) (Flawed x reach)

@@ -81,6 +81,7 @@ impl<'a> Sheet<'a> {
     }
 
     // The rest of the byte after a sheet's last field: zero bits.
+    // `fill` and `end` differ in the test of the cursor alone, which `tail` turns into a result.
     pub fn fill(&self) -> Result<(), Flaw>
         requires { place_of self.now.at < 2 ^ 32 }
         ensures { Closes (filled self.now.bytes.now) self.now.at result }

@@ -19,6 +19,7 @@ impl Frame {
     pub const LENGTH_BYTES: usize = 2;
 
     // The descriptors of standard input and of standard output.
+    // By descriptors, as `io` has them: what its contracts say of what was read is cited (`IsPrefixLen`).
     pub const STDIN: i32 = 0;
 
     pub const STDOUT: i32 = 1;

@@ -31,6 +31,7 @@ impl AnswerWord {
 }
 
 // A refusal in one word.
+// No `From`, here and below: each asks that its answer fits a word.
 #[tactic(auto, unfolding(fields::specs::Answer::word))]
 fn refusal_word(refusal: Refusal) -> u64
     requires { (refusal.item < items) × (refusal.place < places) }

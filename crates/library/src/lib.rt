@@ -87,6 +87,7 @@ fn read_loads(sheet: &mut Sheet, count: u32) -> Result<[u8; Slots::BINS], Flaw>
 }
 
 // The bins.
+// `read_bins`, `read_pins`, `read_cells` and `read_links` of parts are alike but for what they read and its limits, which one function for all would be told.
 fn read_bins(sheet: &mut Sheet) -> Result<Bins, Flaw>
     requires { InReach sheet.old (3 + bin_bits * 4) }
     ensures { Reads sheet.old sheet.new bins BinsHold (3 + bin_bits * 4) result }
@@ -261,6 +262,7 @@ fn count_verdict(total: usize, count: u32) -> Result<(), Fault>
 }
 
 // A cell's pattern count, after `total` patterns.
+// Not `ranged`: the verdict has a limit on the total before that on the count.
 fn read_count(sheet: &mut Sheet, total: usize) -> Result<usize, Flaw>
     requires { (total ≤ 128) × InReach sheet.old count_bits }
     ensures { Reads sheet.old sheet.new (λ s. field s 3 (count_verdict total)) (CountHolds total) count_bits result }

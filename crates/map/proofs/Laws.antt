@@ -29,6 +29,7 @@ use Rattle.result_sheets.specs.declared.CoverRecord.{CoverRecord}
 use Rattle.result_sheets.specs.Public.{cover_of, Written}
 use Rattle.result_sheets.specs.Inside.Promises.{points_of}
 use Rattle.result_sheets.proofs.Laws.{points_few, sheet_short}
+use Rattle.map_core.proofs.Core.{started_by}
 use Rattle.map_core.specs.Inside.Promises.{Started, MappedIs, ListedIs}
 use Rattle.map_rules.specs.Public.{Operated}
 use Rattle.map_rules.proofs.Laws.{cleared_zeros, node_small, refused_bounded, mapped_fits, worked, sparing_lent, sparing_library, sparing_tree, stopped, followed}
@@ -48,7 +49,7 @@ lent_known least output work {most} (m, e, same) =
 
 -- What the core starts from.
 pub started : {l : Library} {t : Tree} {library : LibraryRecord} {tree : TreeRecord} {most : ℕ} → SheetsStored l t library tree → Allowed most → (work work' : List ℕ) → work' ≡ cleared (work_words most) work → (words : ℕ) → words ≡ work_words most → Started most l t library tree (take words work')
-started {most = most} g h work work' e words same = rw same (record { sheets = g; allowed = h; zeros = cleared_zeros (work_words most) work work' e })
+started {most = most} g h work work' e words same = rw same (started_by g h (cleared_zeros (work_words most) work work' e))
 
 -- What is left of the work area.
 work_cleared_is : (most : ℕ) (work work' : List ℕ) → most ≡ allowed (length work) → work' ≡ cleared (work_words most) work → work' ≡ work_cleared work

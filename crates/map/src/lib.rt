@@ -6,6 +6,7 @@ ghost use Rattle.sheets_rules.specs.Model.{Library, Tree};
 ghost use Rattle.covers.specs.Answer.{map_answer, list_answer};
 ghost use Rattle.covers.specs.Outcome.{map_bytes, list_bytes};
 ghost use Rattle.overlay.specs.Inside.Promises.{SheetsStored};
+ghost use Rattle.covers.specs.Inside.Allowed.{Allowed};
 ghost use Rattle.map_core.specs.Inside.Promises.{Started};
 ghost use Rattle.map_rules.specs.Public.{of_reply, Maps, Lists};
 ghost use Rattle.map.specs.Inside.Promises.{Lent, ListsStarted, OperatesStored};
@@ -43,6 +44,7 @@ fn list_zeros(
     work: &mut [u64],
 ) -> Result<usize, Refusal>
     requires long { list_bytes ≤ length output.old }
+    requires allowed { Allowed most }
     requires started { (l : Library) × ((t : Tree) × Started most l t library.now tree.now work.old) }
     ensures { ListsStarted library.now tree.now most work.old output.old output.new (of_reply result) }
 {
@@ -86,6 +88,7 @@ pub fn map(
 }
 
 // Every trade-off of a tree's root, earliest first.
+// As `map`, with another contract (`Lists`) and another core; so is `map_part`.
 pub fn list(
     library: &[u8],
     tree: &[u8],

@@ -1,25 +1,45 @@
 -- From what the core starts from to the curves, and what it answers where a node is overfull.
-use Prim.Native.Nat.{ℕ}
+use Prim.Native.Nat.{ℕ, ◌≤◌}
 use mathlib.Core.Path.{◌≡◌, refl, sym, ap, ◌∙◌}
 use mathlib.Core.List.{List}
 use mathlib.Core.Option.{Option, some}
 use native.Mathlib.Omega.{arith}
-use lib.ListN.{length, get_or, length-replicate}
+use lib.ListN.{length, get_or, replicate, length-replicate}
 use Rattle.std.specs.Prelude.{Result, Ok, Err, MatchResult, IsErrAnd}
 use Rattle.std.proofs.lemmas.Result.{err_from_is_err_and}
 use Rattle.fields.proofs.Lists.{zeros_at}
 use Rattle.sheets_rules.specs.declared.LibraryRecord.{LibraryRecord}
 use Rattle.sheets_rules.specs.declared.Refusal.{Refusal}
 use Rattle.sheets_rules.specs.declared.TreeRecord.{TreeRecord}
-use Rattle.sheets_rules.specs.Model.{Library, Tree}
+use Rattle.sheets_rules.specs.Model.{Library, Tree, patterns}
+use Rattle.sheets_rules.specs.Inside.Layout.{library_laid}
 use Rattle.covers.specs.Answer.{answered, mapped, nonempty, listed}
 use Rattle.covers.specs.Capacity.{work_words}
 use Rattle.covers.specs.Choice.{choice}
 use Rattle.covers.specs.Tradeoff.{tradeoffs, overfull_node}
+use Rattle.covers.specs.Inside.Allowed.{Allowed}
+use Rattle.overlay.specs.Inside.Promises.{Decoded, SheetsStored}
 use Rattle.overlay.proofs.Sheets.{decoded_of}
 use Rattle.filling.specs.Inside.Promises.{FillStart, FillingIs}
 use Rattle.map_core.specs.Inside.Found.{crowded}
 use Rattle.map_core.specs.Inside.Promises.{rows_of, Started, Curved, FilledIs, MappedIs, ListedIs}
+
+-- What it starts from, where the whole library and the whole tree are stored.
+pub started_by : {most : ℕ} {l : Library} {t : Tree} {library : LibraryRecord} {tree : TreeRecord} {work : List ℕ} → SheetsStored l t library tree → Allowed most → work ≡ replicate (work_words most) 0 → Started most l t library tree work
+unfolding library_laid
+started_by g h zeros = record {
+  decoded = decoded_of g;
+  bins_are = ap (λ (r : LibraryRecord). r.bins) g.read.library_is;
+  total_is = ap (λ (r : LibraryRecord). r.total) g.read.library_is;
+  tree_is = g.tree_is;
+  some_most = h.some;
+  bounded = h.bounded;
+  zeros = zeros;
+}
+
+-- The rows that there are.
+pub few_rows : {l : Library} {t : Tree} {rows ss zs : List ℕ} {total : ℕ} → Decoded l t rows ss zs → total ≡ length (patterns l) → total ≤ 128
+few_rows d e = omega (arith, e, d.library.few_patterns)
 
 module _ {most : ℕ} {l : Library} {t : Tree} {library : LibraryRecord} {tree : TreeRecord} {work : List ℕ} (start : Started most l t library tree work) where
   pub work_long : length work ≡ work_words most
@@ -28,25 +48,26 @@ module _ {most : ℕ} {l : Library} {t : Tree} {library : LibraryRecord} {tree :
   -- What the curves are filled from, and the curves.
   pub fill_start : FillStart l t (rows_of library) library.bins tree most work
   fill_start = record {
-    decoded = decoded_of start.sheets;
-    bins_are = ap (λ (r : LibraryRecord). r.bins) start.sheets.read.library_is;
-    tree_is = start.sheets.tree_is;
+    decoded = start.decoded;
+    bins_are = start.bins_are;
+    tree_is = start.tree_is;
     work_length = work_long;
     zero = λ k. ap (λ (ws : List ℕ). get_or ws k 0) start.zeros ∙ zeros_at (work_words most) k;
-    some_most = start.allowed.some;
-    bounded = start.allowed.bounded;
+    some_most = start.some_most;
+    bounded = start.bounded;
   }
 
   pub curved : (work' : List ℕ) → length work' ≡ length work → FillingIs most l t work' (Ok tt) → Curved most l t library tree work'
   curved work' e w = record {
-    sheets = start.sheets;
+    total_is = start.total_is;
+    tree_is = start.tree_is;
     prepared = record {
-      decoded = decoded_of start.sheets;
+      decoded = start.decoded;
       room_is = refl;
-      area = record { bounded = start.allowed.bounded; room = omega (arith, e, work_long); small = w.1.small };
+      area = record { bounded = start.bounded; room = omega (arith, e, work_long); small = w.1.small };
       curves = w.1;
     };
-    some_most = start.allowed.some;
+    some_most = start.some_most;
     not_overfull = w.0;
   }
 

@@ -77,11 +77,11 @@ module _ {most : ℕ} {l : Library} {t : Tree} {library : LibraryRecord} {tree :
 
   pub load_is : tree.load ≡ t.load
   unfolding tree_laid
-  load_is = ap (λ (r : TreeRecord). r.load) given.sheets.tree_is
+  load_is = ap (λ (r : TreeRecord). r.load) given.tree_is
 
   pub time_is : tree.required ≡ t.required
   unfolding tree_laid
-  time_is = ap (λ (r : TreeRecord). r.required) given.sheets.tree_is
+  time_is = ap (λ (r : TreeRecord). r.required) given.tree_is
 
   abbrev Root : Shape → Type 0
   Root = Stands tree.symbols tree.sizes 0

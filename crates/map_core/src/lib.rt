@@ -4,7 +4,6 @@
 
 ghost use Rattle.std.specs.Prelude.{◌≡◌, map, ◌≤◌, length, take};
 ghost use Rattle.sheets_rules.specs.Model.{Library, Tree};
-ghost use Rattle.sheets_rules.specs.Inside.Sound.{LibraryStored};
 ghost use Rattle.sheets_rules.specs.declared.LibraryRecord.{LibraryRecord};
 ghost use Rattle.covers.specs.Inside.Curve.{point_of};
 ghost use Rattle.leaves.specs.Inside.Leaf.{symbol_limit};
@@ -29,7 +28,7 @@ const NO_COVER: Refusal = Refusal {
 // The rows of a library that are filled.
 #[tactic(auto, using(sheets_rules::proofs::Stored::few_rows))]
 fn rows(library: &LibraryRecord) -> &[u32]
-    requires { (l : Library) × LibraryStored l library.now }
+    requires { library.now.total ≤ 128 }
     ensures { result.now ≡ rows_of library.now }
 {
     &library.rows[..PatternRow::WORDS * library.total]

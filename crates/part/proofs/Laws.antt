@@ -19,6 +19,7 @@ use Rattle.covers.specs.Lending.{cleared}
 use Rattle.covers.specs.Inside.Allowed.{Allowed}
 use Rattle.overlay.specs.Inside.Promises.{SheetsStored}
 use Rattle.result_sheets.specs.declared.CoverRecord.{CoverRecord}
+use Rattle.map_core.proofs.Core.{started_by}
 use Rattle.map_core.specs.Inside.Promises.{Started, MappedIs}
 use Rattle.map_rules.proofs.Laws as work
 use Rattle.part_rules.specs.Part.{known_tree}
@@ -44,7 +45,7 @@ module _ (most : ℕ) where
 
   -- What the core is given.
   pub started : {l : Library} {t : Tree} {library : LibraryRecord} {tree : TreeRecord} (work : List ℕ) → SheetsStored l t library tree → Zeros most work → (words : ℕ) → words ≡ work_words most → Started most l t library tree (take words work)
-  started work g z words same = rw same (record { sheets = g; allowed = z.allowed; zeros = z.zeros })
+  started work g z words same = rw same (started_by g z.allowed z.zeros)
 
 -- ---- a tree with the arrivals that its links bring
 

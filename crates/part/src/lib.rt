@@ -24,6 +24,7 @@ use result_sheets::CoverRecord;
 use sheets_rules::{LibraryRecord, Limits, Reason, Refusal, TreeRecord};
 
 // A tree mapped in a work area that begins with zeros, and does so again afterwards.
+// It leaves the words zero, as the two functions below do: a refusal may be the answer after any of them.
 fn map_one(
     library: &LibraryRecord,
     tree: &TreeRecord,

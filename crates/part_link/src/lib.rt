@@ -27,6 +27,7 @@ fn link_symbol(symbol: u32, driver: u8, arrivals: &[u32]) -> Option<u32>
 }
 
 // A tree with the arrivals that the drivers of its nodes bring; or the lowest leaf at which one is too late.
+// By value: another tree is made of it.
 pub fn link_tree(tree: TreeRecord, drivers: &[u8], arrivals: &[u32]) -> Result<TreeRecord, usize>
     requires { Linkable tree drivers.now arrivals.now }
     ensures { LinksTree tree drivers.now arrivals.now result }

@@ -142,6 +142,7 @@ fn read_counts(s: &[u8]) -> Result<CountsRecord, Flaw>
 }
 
 // What stands where no tree is.
+// A record of zeros: no shorter as a constant.
 fn no_tree() -> TreeRecord
     ensures { result ≡ no_tree }
 {

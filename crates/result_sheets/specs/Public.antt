@@ -2,8 +2,7 @@
 use Rattle.std.specs.Prelude.{ℕ, Result, ◌+◌, ◌*◌, ◌^◌, ◌<◌, ◌≡◌, List, ◌++◌, map, length, take, drop, replicate}
 use Rattle.std.proofs.lemmas.List.Edits.{sets}
 use Rattle.fields.specs.declared.Flaw.{Flaw}
-use Rattle.fields.specs.Reading.{start}
-use Rattle.fields.specs.Inside.Promises.{Tells}
+use Rattle.fields.specs.Reading.{start, Tells}
 use Rattle.covers.specs.Cover.{Placed, Cover}
 use Rattle.covers.specs.CoverSheet.{area_width, arrival_width, match_count_width, node_width, pattern_width, crossing_width, cover_read}
 use Rattle.result_sheets.specs.declared.MatchRecord.{MatchRecord}

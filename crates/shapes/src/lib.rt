@@ -16,6 +16,7 @@ use shapes_rules::{Packed, Rules};
 #[derive(Clone, Copy, Debug, PartialEq, Eq)]
 pub struct ShapeRead {
     pub size: usize,
+    // No verdict: what a pattern that is not whole is refused for, `pattern` of the library sheet says.
     pub whole: bool,
 }
 

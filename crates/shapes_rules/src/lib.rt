@@ -9,6 +9,7 @@ pub struct Rules {
     pub width: usize,
     pub most: u32,
     pub nodes: usize,
+    // A Bool, since definitions that are believed ask it so (`code_verdict`, `leaf_verdict`).
     pub pattern: bool,
 }
 

@@ -36,6 +36,7 @@ pub struct Refusal {
 }
 
 // The papers' limits: of the sheets, of what the operations are lent, and of the program's input; and the base of a point's word, which they fix.
+// A struct, so that its name tells its constants apart: `Limits::PINS`, `Slots::PINS`, `PatternRow::PINS`.
 #[derive(Clone, Copy)]
 pub struct Limits {}
 
@@ -71,6 +72,7 @@ impl Limits {
     pub const TIME: u32 = 16777215;
 
     // How many times there are: a point's word is its area times this, plus its arrival.
+    // The caller in C lends words, so a point is a word, and a curve ends at a word 0.
     pub const TIMES: u64 = Limits::TIME as u64 + 1;
 
     pub const POINTS: usize = 31;
@@ -92,6 +94,7 @@ impl Limits {
 }
 
 // How long an array is that has something for each pin, or for each bin.
+// In usize, as lengths are; `Limits` has them as bounds of numbers that are read.
 #[derive(Clone, Copy)]
 pub struct Slots {}
 

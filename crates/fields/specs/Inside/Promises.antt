@@ -5,18 +5,14 @@ use Rattle.bits.specs.Bits.{place_of, cursor_at}
 use Rattle.fields.specs.declared.Fault.{Fault}
 use Rattle.fields.specs.declared.Flaw.{Flaw}
 use Rattle.fields.specs.declared.Sheet.{Sheet}
-use Rattle.fields.specs.Reading.{Scan, At, Refused, Verdict, Sound, Faulty, Reader, Live}
+use Rattle.fields.specs.Reading.{Scan, At, Refused, Verdict, Sound, Faulty, Reader}
+pub use Rattle.fields.specs.Reading.{Flawed, Told, Tells}
 
 -- What a definition reads was read: a value that holds it, and the scan stands at the cursor `after`, at `reach` at the most.
 pub record Took {A B : Type 0} (Holds : A → B → Type 0) (x : A × Scan) (reach : ℕ) (after : Cursor) (b : B) : Type 0 where
   pub at : x.1 ≡ At after
   pub holds : Holds x.0 b
   pub near : place_of after ≤ reach
-
--- The definition refuses with this flaw.
-pub record Flawed {A : Type 0} (x : A × Scan) (reach : ℕ) (e : Flaw) : Type 0 where
-  pub says : x.1 ≡ Refused e.fault e.place
-  pub near : e.place ≤ reach
 
 abbrev pub Takes : {A B : Type 0} → (A → B → Type 0) → A × Scan → ℕ → Cursor → Result B Flaw → Type 0
 Takes Holds x reach after r = MatchResult r (Took Holds x reach after) (Flawed x reach)
@@ -39,14 +35,6 @@ pub record Opens (bytes : List ℕ) (sheet : Sheet) : Type 0 where
 -- What follows the last field, at a cursor, is as wanted, or the scan is refused there.
 abbrev pub Closes : (Scan → Scan) → Cursor → Result (Unit {0}) Flaw → Type 0
 Closes closed c r = MatchResult r (λ _. closed (At c) ≡ At c) (λ e. (closed (At c) ≡ Refused e.fault e.place) × (e.place ≡ place_of c))
-
--- A whole sheet was read: what stands beside it holds what the definition reads, which is not refused; or the definition refuses with the flaw.
-pub record Told {A B : Type 0} (Holds : A → B → Type 0) (x : A × Scan) (b : B) : Type 0 where
-  pub live : Live x.1
-  pub holds : Holds x.0 b
-
-abbrev pub Tells : {A B : Type 0} → (A → B → Type 0) → A × Scan → ℕ → Result B Flaw → Type 0
-Tells Holds x reach r = MatchResult r (Told Holds x) (Flawed x reach)
 
 -- The verdict that a caller found, and what it says of a field that was read at a cursor.
 abbrev pub verdict_of : Result (Unit {0}) Fault → Verdict

@@ -6,6 +6,11 @@ use Rattle.map_rules.proofs.Laws.{cleared_front}
 use Rattle.map.proofs.Laws.{started, list_operated}
 use Rattle.map.proofs.list_stored.Goals as goal
 
+pub list_zeros-listed-requires-clause-started : goal.list_zeros-listed-requires-clause-started
+list_zeros-listed-requires-clause-started c =
+    let (l, (t, sheets)) = c.requires.sheets in
+    (l, (t, started sheets c.requires.lent.allowed c.args.work.now c.clear.new.work c.clear.ensures c.words-words.result c.words-words.ensures))
+
 pub returns : goal.returns
 returns c l t sheets =
     let a = c.args in

@@ -8,6 +8,11 @@ use Rattle.map_rules.proofs.Laws.{cleared_front}
 use Rattle.map.proofs.Laws.{started, map_refused, map_found, map_operated}
 use Rattle.map.proofs.map_stored.Goals as goal
 
+pub map_tree-mapped-requires : goal.map_tree-mapped-requires
+map_tree-mapped-requires c =
+    let (l, (t, sheets)) = c.requires.sheets in
+    (l, (t, started sheets c.requires.lent.allowed c.args.work.now c.clear.new.work c.clear.ensures c.words-words.result c.words-words.ensures))
+
 pub returns-in_err-cover : goal.returns-in_err-cover
 unfolding of_reply
 returns-in_err-cover c l t sheets =

@@ -1,5 +1,6 @@
 use native.Mathlib.Omega.{arith}
 use Rattle.std.proofs.lemmas.Result.{err_from_is_err_and}
+use Rattle.map_core.proofs.Core.{few_rows}
 use Rattle.map_core.proofs.Root.{leaf_mapped, nothing_looked, gate_none, gate_chooses, gate_found}
 use Rattle.map_core.proofs.map_root.Goals as goal
 
@@ -14,6 +15,9 @@ returns-in_err-w c l t given =
     let nowhere = c.in_err-w.ensures.ok_part in
     let p = err_from_is_err_and c.from_residual.result c.from_residual.ensures.1 in
     rw (p.1, p.2, nothing_looked c.in_err-w.ensures.value nowhere) (gate_none given (omega (arith, e)) (rw (nowhere, c.from.ensures) at c.look_up.ensures))
+
+pub rows-requires : goal.rows-requires
+rows-requires c = let (l, (t, given)) = c.requires.curved in few_rows given.prepared.decoded given.total_is
 
 pub choose-requires : goal.choose-requires
 choose-requires c =

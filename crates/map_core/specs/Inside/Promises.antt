@@ -1,18 +1,17 @@
 -- What the core starts from, what it has once the curves are there, and what it promises.
-use Rattle.std.specs.Prelude.{ℕ, ◌*◌, ◌≤◌, ◌<◌, ◌≡◌, List, get_or, take, replicate, Result, Ok, Err, IfOk}
+use Rattle.std.specs.Prelude.{ℕ, ◌*◌, ◌≤◌, ◌<◌, ◌≡◌, List, length, get_or, take, replicate, Result, Ok, Err, IfOk}
 use Rattle.std.proofs.Math.Option.{none, some}
 use Rattle.sheets_rules.specs.declared.LibraryRecord.{LibraryRecord}
 use Rattle.sheets_rules.specs.declared.Refusal.{Refusal}
 use Rattle.sheets_rules.specs.declared.TreeRecord.{TreeRecord}
-use Rattle.sheets_rules.specs.Model.{leaf, Library, Tree}
-use Rattle.sheets_rules.specs.Inside.Layout.{row_words}
+use Rattle.sheets_rules.specs.Model.{leaf, Library, Tree, patterns}
+use Rattle.sheets_rules.specs.Inside.Layout.{row_words, library_laid, tree_laid}
 use Rattle.covers.specs.Tradeoff.{overfull_node}
 use Rattle.covers.specs.Answer.{answered, mapped, listed}
 use Rattle.covers.specs.Capacity.{work_words}
 use Rattle.covers.specs.Choice.{choice}
-use Rattle.covers.specs.Inside.Allowed.{Allowed}
 use Rattle.leaves.specs.Inside.Leaf.{leaf_of}
-use Rattle.overlay.specs.Inside.Promises.{SheetsStored}
+use Rattle.overlay.specs.Inside.Promises.{Decoded}
 use Rattle.matching.specs.Inside.Found.{match_most}
 use Rattle.curves.specs.Inside.Words.{point_limit}
 use Rattle.choosing.specs.Inside.Promises.{Prepared}
@@ -23,15 +22,20 @@ use Rattle.map_core.specs.Inside.Found.{of_mapped, of_listed, crowded}
 abbrev pub rows_of : LibraryRecord → List ℕ
 rows_of library = take (row_words * library.total) library.rows
 
--- A sound library and a sound tree in their records, and a work area of zeros for as many trade-offs as a node may have.
+-- A sound library's bins and the rows that there are, a sound tree, and a work area of zeros for as many trade-offs as a node may have.
 pub record Started (most : ℕ) (l : Library) (t : Tree) (library : LibraryRecord) (tree : TreeRecord) (work : List ℕ) : Type 0 where
-  pub sheets : SheetsStored l t library tree
-  pub allowed : Allowed most
+  pub decoded : Decoded l t (rows_of library) tree.symbols tree.sizes
+  pub bins_are : library.bins ≡ (library_laid l).bins
+  pub total_is : library.total ≡ length (patterns l)
+  pub tree_is : tree ≡ tree_laid t
+  pub some_most : 1 ≤ most
+  pub bounded : most ≤ 254
   pub zeros : work ≡ replicate (work_words most) 0
 
 -- The library and the tree with the curves of all nodes, none of which is overfull.
 pub record Curved (most : ℕ) (l : Library) (t : Tree) (library : LibraryRecord) (tree : TreeRecord) (work : List ℕ) : Type 0 where
-  pub sheets : SheetsStored l t library tree
+  pub total_is : library.total ≡ length (patterns l)
+  pub tree_is : tree ≡ tree_laid t
   pub prepared : Prepared most l t (rows_of library) tree.symbols tree.sizes match_most work
   pub some_most : 1 ≤ most
   pub not_overfull : overfull_node most l t ≡ none
