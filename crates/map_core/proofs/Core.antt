@@ -21,7 +21,7 @@ use Rattle.covers.specs.Inside.Allowed.{Allowed}
 use Rattle.overlay.specs.Inside.Promises.{Decoded, SheetsStored}
 use Rattle.overlay.proofs.Sheets.{decoded_of}
 use Rattle.filling.specs.Inside.Promises.{FillStart, FillingIs}
-use Rattle.map_core.specs.Inside.Found.{crowded}
+use Rattle.map_core.specs.Inside.Found.{overfull_at}
 use Rattle.map_core.specs.Inside.Promises.{rows_of, Started, Curved, FilledIs, MappedIs, ListedIs}
 
 -- What it starts from, where the whole library and the whole tree are stored.
@@ -73,16 +73,16 @@ module _ {most : ℕ} {l : Library} {t : Tree} {library : LibraryRecord} {tree :
 
   -- The overfull node that was named becomes a refusal.
   pub filled : (work' : List ℕ) → length work' ≡ length work → (r : Result (Unit {0}) ℕ) → FillingIs most l t work' r → (m : Result (Unit {0}) Refusal) {Becomes : ℕ → Refusal → Type 0} →
-      MatchResult r (λ u. m ≡ Ok u) (λ n. IsErrAnd m (Becomes n)) → ((n : ℕ) (q : Refusal) → Becomes n q → q ≡ crowded n) → FilledIs most l t library tree work' m
+      MatchResult r (λ u. m ≡ Ok u) (λ n. IsErrAnd m (Becomes n)) → ((n : ℕ) (q : Refusal) → Becomes n q → q ≡ overfull_at n) → FilledIs most l t library tree work' m
   filled work' e (Ok tt) w m is become = rw is (curved work' e w)
   filled work' e (Err n) w m is become = let (q, said, h) = err_from_is_err_and m is in rw said (n, become n q h, w)
 
 -- ---- an overfull node
 
-pub map_crowded : (most : ℕ) (l : Library) (t : Tree) (q : Refusal) (n : ℕ) → q ≡ crowded n → overfull_node most l t ≡ some n → MappedIs most l t (Err q)
+pub map_overfull : (most : ℕ) (l : Library) (t : Tree) (q : Refusal) (n : ℕ) → q ≡ overfull_at n → overfull_node most l t ≡ some n → MappedIs most l t (Err q)
 unfolding mapped answered
-map_crowded most l t q n is e = rw is (record { answer_is = sym (ap (λ (o : Option ℕ). answered o (choice l t.load 0 t.shape t.required)) e); few = tt })
+map_overfull most l t q n is e = rw is (record { answer_is = sym (ap (λ (o : Option ℕ). answered o (choice l t.load 0 t.shape t.required)) e); few = tt })
 
-pub list_crowded : (most : ℕ) (l : Library) (t : Tree) (work : List ℕ) (q : Refusal) (n : ℕ) → q ≡ crowded n → overfull_node most l t ≡ some n → ListedIs most l t work (Err q)
+pub list_overfull : (most : ℕ) (l : Library) (t : Tree) (work : List ℕ) (q : Refusal) (n : ℕ) → q ≡ overfull_at n → overfull_node most l t ≡ some n → ListedIs most l t work (Err q)
 unfolding listed answered
-list_crowded most l t work q n is e = rw is (record { answer_is = sym (ap (λ (o : Option ℕ). answered o (nonempty (tradeoffs l t.load 0 t.shape))) e); few = tt; small = tt })
+list_overfull most l t work q n is e = rw is (record { answer_is = sym (ap (λ (o : Option ℕ). answered o (nonempty (tradeoffs l t.load 0 t.shape))) e); few = tt; small = tt })

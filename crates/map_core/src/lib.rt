@@ -59,7 +59,7 @@ fn fill(
     )
     .map_err(|place| Refusal {
         item: 0,
-        reason: Reason::Crowded,
+        reason: Reason::Overfull,
         place,
     })
 }
@@ -110,7 +110,7 @@ fn map_root(
 
 // The cover that map hands over, for a sound library and a sound tree as decoded, where a node may have `most` trade-offs under a load, in
 // a work area of zeros.
-#[tactic(auto, using(crate::proofs::Core::map_crowded))]
+#[tactic(auto, using(crate::proofs::Core::map_overfull))]
 pub fn map_tree(
     library: &LibraryRecord,
     tree: &TreeRecord,

@@ -41,7 +41,7 @@ pub fn number(reason: Reason) -> u32
         Reason::Short => 1,
         Reason::Library(fault) => library_number(fault),
         Reason::Tree(fault) => library_number(fault) + Above::TREE,
-        Reason::Crowded => 7,
+        Reason::Overfull => 7,
         Reason::NoCover => 8,
         Reason::CoverSheet => 22,
         Reason::Match => 23,

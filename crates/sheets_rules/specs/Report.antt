@@ -28,7 +28,7 @@ abbrev pub number_of : Reason → ℕ
 number_of Reason.Short = 1
 number_of (Reason.Library f) = library_number f
 number_of (Reason.Tree f) = tree_number f
-number_of Reason.Crowded = 7
+number_of Reason.Overfull = 7
 number_of Reason.NoCover = 8
 number_of Reason.CoverSheet = 22
 number_of Reason.Match = 23

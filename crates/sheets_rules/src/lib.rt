@@ -11,8 +11,8 @@ pub enum Reason {
     // A fault of the library sheet, or of a tree sheet.
     Library(Fault),
     Tree(Fault),
-    // More trade-offs at a node than it may have; no cover in time.
-    Crowded,
+    // More trade-offs at a node than it may have ("crowded"); no cover in time.
+    Overfull,
     NoCover,
     // The cover sheet is torn or has a bad tail; a match stands wrongly, or the list ends early; a stated figure is not true.
     CoverSheet,

@@ -228,7 +228,7 @@ fn write_sheet(word: &[u8], output: &[u8], bytes: usize) {
 
 // Whether the work area is zero after a refusal.
 fn clears(reason: Reason) -> bool {
-    matches!(reason, Reason::Crowded | Reason::NoCover | Reason::Late)
+    matches!(reason, Reason::Overfull | Reason::NoCover | Reason::Late)
 }
 
 // "refused", number, place; of a part the tree after them.

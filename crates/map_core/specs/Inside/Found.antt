@@ -1,7 +1,7 @@
 -- What the core found, as an answer.
 use Rattle.std.specs.Prelude.{ℕ, List, Result, Ok, Err}
 use Rattle.fields.specs.Answer.{Answer, success}
-use Rattle.sheets_rules.specs.declared.Reason.TheVariants.{Crowded, NoCover}
+use Rattle.sheets_rules.specs.declared.Reason.TheVariants.{Overfull, NoCover}
 use Rattle.sheets_rules.specs.declared.Refusal.{Refusal}
 use Rattle.sheets_rules.specs.Report.{refusal}
 use Rattle.covers.specs.Cover.{Point, Cover}
@@ -20,8 +20,8 @@ of_listed work (Ok count) = success (points_of count work)
 of_listed work (Err q) = refusal q
 
 -- The core's two refusals: a node with too many trade-offs, and no cover.
-abbrev pub crowded : ℕ → Refusal
-crowded n = record { item = 0; reason = Crowded; place = n }
+abbrev pub overfull_at : ℕ → Refusal
+overfull_at n = record { item = 0; reason = Overfull; place = n }
 
 abbrev pub no_cover : Refusal
 no_cover = record { item = 0; reason = NoCover; place = 0 }

@@ -16,7 +16,7 @@ use Rattle.matching.specs.Inside.Found.{match_most}
 use Rattle.curves.specs.Inside.Words.{point_limit}
 use Rattle.choosing.specs.Inside.Promises.{Prepared}
 use Rattle.result_sheets.specs.declared.CoverRecord.{CoverRecord}
-use Rattle.map_core.specs.Inside.Found.{of_mapped, of_listed, crowded}
+use Rattle.map_core.specs.Inside.Found.{of_mapped, of_listed, overfull_at}
 
 -- The words of a library's filled rows.
 abbrev pub rows_of : LibraryRecord → List ℕ
@@ -43,7 +43,7 @@ pub record Curved (most : ℕ) (l : Library) (t : Tree) (library : LibraryRecord
 -- Every curve is filled, or an overfull node is named.
 abbrev pub FilledIs : (most : ℕ) → Library → Tree → LibraryRecord → TreeRecord → (work : List ℕ) → Result (Unit {0}) Refusal → Type 0
 FilledIs most l t library tree work (Ok u) = Curved most l t library tree work
-FilledIs most l t library tree work (Err q) = (n : ℕ) × (q ≡ crowded n) × (overfull_node most l t ≡ some n)
+FilledIs most l t library tree work (Err q) = (n : ℕ) × (q ≡ overfull_at n) × (overfull_node most l t ≡ some n)
 
 -- The cover that map hands over; a cover sheet has room for it.
 pub record MappedIs (most : ℕ) (l : Library) (t : Tree) (r : Result CoverRecord Refusal) : Type 0 where
