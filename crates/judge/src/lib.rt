@@ -225,7 +225,7 @@ fn with_tree(library: &LibraryRecord, tree: &TreeRecord, cover: &[u8]) -> Result
 {
     match result_sheets::read_cover(cover) {
         Ok(cover) => with_records(library, tree, &cover),
-        Err(flaw) => Err(refused(Reason::CoverSheet, flaw.place)),
+        Err(flawed) => Err(refused(Reason::CoverSheet, flawed.flaw.place)),
     }
 }
 

@@ -1,35 +1,38 @@
 -- Laws about fields written one after another, matches appended, and a cover read.
 use Prim.Native.Nat.{ℕ, zero, suc, ◌+◌, ◌-◌, ◌*◌, ◌/◌, ◌%◌, ◌^◌, ◌≤◌, ◌<◌}
 use mathlib.Core.Path.{◌≡◌, refl, sym, ap, ap₂, subst, ◌∙◌}
-use mathlib.Core.List.{List, [], ◌∷◌, ◌++◌, map, map-append, reverse, reverse-append}
+use mathlib.Core.List.{List, [], ◌∷◌, ◌++◌, map, map-append, append-nil, append_assoc, reverse, reverse-append}
 use native.Mathlib.Nat.{add-zero, zero-add, add_assoc}
 use native.Mathlib.Omega.{arith}
 use native.Mathlib.Numerals.{add-one}
-use lib.ListN.{length, take, drop, get_or, set, replicate, length-replicate, length-reverse, length-map, length-append, get_or-append, length-take}
-use lib.Seq.{sets, set-append_left, take-suc, take_all, drop-cons, length-take-le}
-use Rattle.std.proofs.lemmas.List.{get_or-take, drop_all}
-use Rattle.bits.specs.Bits.{place_of, after, with_digit, with_bit, with_field, bytes_to}
-use Rattle.bits.proofs.Laws.{length_bit, length_field}
+use lib.ListN.{length, take, drop, get_or, set, replicate, replicate-append-replicate, length-replicate, length-reverse, length-map, length-append, get_or-append, length-take}
+use lib.Seq.{sets, set-append_left, set-append_seam, get_or-append_seam, take-suc, take_all, drop-cons, length-take-le}
+use Rattle.std.proofs.lemmas.List.{get_or-take, drop_all, take-replicate, take_at}
+use borrow.Table.Steps.{cases}
+use mathlib.Core.Bool.{Bool}
+use Rattle.bits.specs.Bits.{place_of, cursor_at, ends_at, after, with_digit, with_bit, with_field, bytes_to}
+use Rattle.bits.proofs.Laws.{place_at, length_bit, length_field}
 use Rattle.std.specs.Prelude.{Result, Ok, Err, IsErrAnd}
 use Rattle.std.proofs.lemmas.Result.{err_from_is_err_and}
 use Rattle.bits.specs.declared.Cursor.{Cursor}
 use Rattle.fields.specs.declared.Fault.{Fault}
+use Rattle.fields.specs.declared.Sheet.{Sheet}
 use Rattle.fields.specs.declared.Flaw.{Flaw}
-use Rattle.fields.specs.Reading.{Scan, At, Refused, Live, start, times, free, field, ended}
-use Rattle.fields.specs.Inside.Promises.{Took, Flawed, UpTo, Told}
-use Rattle.fields.proofs.Readers.{keeps_times}
+use Rattle.fields.specs.Reading.{Scan, At, Refused, Live, Reader, place, start, times, free, field, tailed, ended}
+use Rattle.fields.specs.Inside.Promises.{Took, Flawed, UpTo, Opens, Closes}
 use Rattle.fields.proofs.Lists.{sets_append, take_sets, at_map}
-use Rattle.fields.proofs.Laws.{length_times}
+use Rattle.fields.proofs.Laws.{field_ways, length_times, times_more}
 use Rattle.covers.specs.Cover.{Point, Placed, Cover}
 use Rattle.fields.specs.Written.{Field, widths, written, packed}
 use Rattle.fields.proofs.Written.{length_packed}
-use Rattle.covers.specs.CoverSheet.{area_width, arrival_width, match_count_width, placed_fields, cover_fields, point_fields, list_fields, cover_sheet, list_sheet, placed_read, cover_read, CoverReads}
+use Rattle.covers.specs.CoverSheet.{area_width, arrival_width, match_count_width, node_width, pattern_width, crossing_width, placed_fields, cover_fields, point_fields, list_fields, cover_sheet, list_sheet, placed_read, cover_read, CoverReads}
 use Rattle.covers.proofs.SheetLengths.{cover_sheet_length, list_sheet_length, cover_sheet_fits}
 use Rattle.covers.specs.Inside.Curve.{base, point_of}
 use Rattle.result_sheets.specs.declared.MatchRecord.{MatchRecord}
 use Rattle.result_sheets.specs.declared.CoverRecord.{CoverRecord}
-use Rattle.result_sheets.specs.Public.{placed_of, record_of, no_match, bare_cover, appended, cover_of, cover_bits, Written, CoverHolds, CoverIs}
-use Rattle.result_sheets.specs.Inside.Promises.{points_of, MatchHolds}
+use Rattle.result_sheets.specs.declared.FlawedCover.{FlawedCover}
+use Rattle.result_sheets.specs.Public.{placed_of, record_of, no_match, bare_cover, appended, cover_of, cover_bits, Written, CoverHolds, CoverTold, CoverIs}
+use Rattle.result_sheets.specs.Inside.Promises.{points_of, scan_after, Puts}
 use Rattle.covers.specs.Outcome.{map_bytes}
 
 -- ---- what is written at the front keeps what stands behind
@@ -202,73 +205,263 @@ appended_cover c xs e h =
     let front : take (length xs) (sets c.matches 0 (map record_of xs)) ≡ map record_of xs = rw (← many) (ap (λ (k : ℕ). take k (sets c.matches 0 (map record_of xs))) (sym (zero-add _)) ∙ take_sets c.matches 0 (map record_of xs) (omega (arith, many))) in
     rw (e, zero-add (length xs), front, recorded xs)
 
--- One match more.
-pub pushed : (c q : CoverRecord) (xs : List Placed) (x : Placed) (m : MatchRecord) {r : CoverRecord} → q ≡ appended c xs → MatchHolds x m → r ≡ appended q (placed_of m ∷ []) → r ≡ appended c (xs ++ (x ∷ []))
-pushed c q xs x m h g e =
-    let is : placed_of m ≡ x = λ i. record { node = g.node i; pattern = g.pattern i; crossing = g.crossing i } in
-    e ∙ ap (λ (k : CoverRecord). appended k (placed_of m ∷ [])) h ∙ appended_more c xs (placed_of m ∷ []) ∙ ap (λ (y : Placed). appended c (xs ++ (y ∷ []))) is
+-- What `?` hands on is the flaw that was found, beside what was put before it.
+pub put_flawed : {A : Type 0} {old new : Sheet} {reads : List ℕ → Reader A} {put : A} {bits : ℕ} {e : Flaw} (r : Result (Unit {0}) Flaw) → IsErrAnd r (λ y. y ≡ e) →
+    Puts old new reads put bits (Err e) → Puts old new reads put bits r
+put_flawed r is h = let p = err_from_is_err_and r is in rw (p.1, p.2) h
 
--- What `?` hands on is the flaw that was found.
-pub cover_refused : (s : List ℕ) (r : Result CoverRecord Flaw) {e : Flaw} → IsErrAnd r (λ y. y ≡ e) → Flawed (cover_read s start) (cover_bits 63) e → CoverIs s r
-cover_refused s r is h = let p = err_from_is_err_and r is in rw (p.1, p.2) h
+-- A field that was read, and one that refuses: it reads 0.
+field_read : {x : ℕ × Scan} {most reach b : ℕ} {after : Cursor} → Took (UpTo most) x reach after b → x ≡ (b, At after)
+field_read h i = (sym h.holds.0 i, h.at i)
 
-module _ (s : List ℕ) where
-  -- The matches and the end keep a refusal.
-  matches_keep : (n : ℕ) (f : Fault) (p : ℕ) → ended s (times n (placed_read s) (Refused f p)).1 ≡ Refused f p
-  unfolding placed_read
-  matches_keep n f p = ap (ended s) (keeps_times (placed_read s) (λ xs f p. refl) n f p)
+field_refused : (s : List ℕ) (w : ℕ) (c : Scan) {reach : ℕ} {e : Flaw} → Flawed (field s w free c) reach e → field s w free c ≡ (0, Refused e.fault e.place)
+field_refused s w c {e = e} h =
+    field_ways s w free (λ x. x.1 ≡ Refused e.fault e.place → x ≡ (0, Refused e.fault e.place)) c (λ f q i. (0, q i)) (λ l g v q. absurd (subst Live q tt)) h.says
 
-  pub area_flawed : {i : ℕ} (e : Flaw) → i ≤ 1186 → Flawed (field s area_width free start) i e → Flawed (cover_read s start) (cover_bits 63) e
-  unfolding cover_read
-  area_flawed e l h = record { says = rw h.says (matches_keep _ e.fault e.place); near = omega (arith, h.near) }
+-- ---- one match
 
-  module _ {a i : ℕ} {at : Cursor} (area : Took (UpTo (2 ^ area_width - 1)) (field s area_width free start) i at a) where
-    pub arrival_flawed : {j : ℕ} (e : Flaw) → j ≤ 1186 → Flawed (field s arrival_width free (At at)) j e → Flawed (cover_read s start) (cover_bits 63) e
-    unfolding cover_read
-    arrival_flawed e l h = record { says = rw (area.at, h.says) (matches_keep _ e.fault e.place); near = omega (arith, h.near) }
+-- By its three fields, of which those after a refusal are 0.
+match_whole : (s : List ℕ) (xs : List Placed) (c : Scan) {n p x : ℕ} {q₁ q₂ q₃ : Scan} → field s node_width free c ≡ (n, q₁) → field s pattern_width free q₁ ≡ (p, q₂) → field s crossing_width free q₂ ≡ (x, q₃) →
+    placed_read s xs c ≡ (record { node = n; pattern = p; crossing = x }, q₃)
+unfolding placed_read
+match_whole s xs c {n} {p} e₁ e₂ e₃ =
+    let last : (node pattern : ℕ) → ℕ × Scan → Placed × Scan = λ node pattern z. (record { node = node; pattern = pattern; crossing = z.0 }, z.1) in
+    let rest : ℕ → ℕ × Scan → Placed × Scan = λ node y. last node y.0 (field s crossing_width free y.1) in
+    ap (λ (a : ℕ × Scan). rest a.0 (field s pattern_width free a.1)) e₁ ∙ ap (rest n) e₂ ∙ ap (last n p) e₃
 
-    module _ {t j : ℕ} {from : Cursor} (arrival : Took (UpTo (2 ^ arrival_width - 1)) (field s arrival_width free (At at)) j from t) where
-      pub count_flawed : {k : ℕ} (e : Flaw) → k ≤ 1186 → Flawed (field s match_count_width free (At from)) k e → Flawed (cover_read s start) (cover_bits 63) e
-      unfolding cover_read
-      count_flawed e l h = record { says = rw (area.at, arrival.at, h.says) (matches_keep _ e.fault e.place); near = omega (arith, h.near) }
+module _ (s : List ℕ) (c : Cursor) (m : MatchRecord) (none : m ≡ no_match) where
+  pub node_flawed : {i : ℕ} {e : Flaw} → Flawed (field s node_width free (At c)) i e → placed_read s [] (At c) ≡ (placed_of m, Refused e.fault e.place)
+  node_flawed {e = e} h = match_whole s [] (At c) (field_refused s node_width (At c) h) refl refl ∙ ap (λ (k : MatchRecord). (placed_of k, Refused e.fault e.place)) (sym none)
 
-      module _ {n k : ℕ} {then : Cursor} (count : Took (UpTo (2 ^ match_count_width - 1)) (field s match_count_width free (At from)) k then n) where
-        pub matches_flawed : {m : ℕ} (e : Flaw) → m ≤ 1186 → Flawed (times n (placed_read s) (At then)) m e → Flawed (cover_read s start) (cover_bits 63) e
-        unfolding cover_read
-        matches_flawed e l h = record { says = rw (area.at, arrival.at, count.at, ← count.holds.0, h.says) refl; near = omega (arith, h.near) }
+  module _ {n i : ℕ} {d : Cursor} (node : Took (UpTo (2 ^ node_width - 1)) (field s node_width free (At c)) i d n) where
+    pub pattern_flawed : {j : ℕ} {e : Flaw} → Flawed (field s pattern_width free (At d)) j e →
+        placed_read s [] (At c) ≡ (record { node = n; pattern = m.pattern; crossing = m.crossing }, Refused e.fault e.place)
+    pattern_flawed {e = e} h =
+        match_whole s [] (At c) (field_read node) (field_refused s pattern_width (At d) h) refl
+        ∙ ap (λ (k : MatchRecord). (record { node = n; pattern = k.pattern; crossing = k.crossing }, Refused e.fault e.place)) (sym none)
 
-        module _ {m : ℕ} {last : Cursor} {begun r : CoverRecord} {u : Unit {0}} (bare : begun ≡ bare_cover a t) (matches : Took (λ xs _. r ≡ appended begun xs) (times n (placed_read s) (At then)) m last u) where
-          pub end_flawed : (e : Flaw) → m ≤ 1186 → ended s (At last) ≡ Refused e.fault e.place → e.place ≡ place_of last → Flawed (cover_read s start) (cover_bits 63) e
-          unfolding cover_read
-          end_flawed e l h q = record { says = rw (area.at, arrival.at, count.at, ← count.holds.0, matches.at) h; near = omega (arith, matches.near) }
+    module _ {p j : ℕ} {then : Cursor} (pattern : Took (UpTo (2 ^ pattern_width - 1)) (field s pattern_width free (At d)) j then p) where
+      pub crossing_flawed : {k : ℕ} {e : Flaw} → Flawed (field s crossing_width free (At then)) k e →
+          placed_read s [] (At c) ≡ (record { node = n; pattern = p; crossing = m.crossing }, Refused e.fault e.place)
+      crossing_flawed {e = e} h =
+          match_whole s [] (At c) (field_read node) (field_read pattern) (field_refused s crossing_width (At then) h)
+          ∙ ap (λ (k : MatchRecord). (record { node = n; pattern = p; crossing = k.crossing }, Refused e.fault e.place)) (sym none)
 
-          pub cover_told : ended s (At last) ≡ At last → Told CoverHolds (cover_read s start) r
-          unfolding cover_read
-          cover_told h =
-              let xs = (times n (placed_read s) (At then)).0 in
-              let late = ap (field s arrival_width free) area.at in
-              let many = ap (field s match_count_width free) (ap (λ (x : ℕ × Scan). x.1) late ∙ arrival.at) in
-              let all = ap₂ (λ (k : ℕ) (q : Scan). times k (placed_read s) q) (ap (λ (x : ℕ × Scan). x.0) many ∙ sym count.holds.0) (ap (λ (x : ℕ × Scan). x.1) many ∙ count.at) in
-              let kept : r ≡ appended (bare_cover a t) xs = matches.holds ∙ ap (λ (q : CoverRecord). appended q xs) bare in
-              let few = length_times n (placed_read s) (At then) in
-              let end : (cover_read s start).1 ≡ At last = ap (λ (x : List Placed × Scan). ended s x.1) all ∙ ap (ended s) matches.at ∙ h in
-              record {
-                live = subst Live (sym end) tt;
-                holds = record {
-                  cover_is =
-                      ap cover_of kept ∙ appended_cover (bare_cover a t) xs refl (omega (arith, few, count.holds.1, length-replicate {A = MatchRecord} 64 no_match))
-                      ∙ (λ i. record {
-                        point = record { area = area.holds.0 i; arrival = (arrival.holds.0 ∙ sym (ap (λ (x : ℕ × Scan). x.0) late)) i };
-                        placed = ap (λ (x : List Placed × Scan). x.0) (sym all) i;
-                      });
-                  few = omega (arith, ap (λ (q : CoverRecord). q.count) kept, few, count.holds.1);
-                };
-              }
+      pub match_told : {x k : ℕ} {last : Cursor} → Took (UpTo (2 ^ crossing_width - 1)) (field s crossing_width free (At then)) k last x →
+          placed_read s [] (At c) ≡ (record { node = n; pattern = p; crossing = x }, At last)
+      match_told crossing = match_whole s [] (At c) (field_read node) (field_read pattern) (field_read crossing)
+
+-- ---- the matches
+
+-- What stands where a match was refused, or none was read.
+abbrev blank : Placed
+blank = placed_of no_match
+
+-- After a refusal the matches that are left are all 0.
+times_blank : (s : List ℕ) (c : Scan) (k m : ℕ) {f : Fault} {p : ℕ} {xs : List Placed} → times k (placed_read s) c ≡ (xs, Refused f p) → times (k + m) (placed_read s) c ≡ (xs ++ replicate m blank, Refused f p)
+times_blank s c k zero {f} {p} {xs} e = ap (λ (j : ℕ). times j (placed_read s) c) (add-zero k) ∙ e ∙ ap (λ (l : List Placed). (l, Refused f p)) (sym (append-nil xs))
+times_blank s c k (suc m) {f} {p} {xs} e =
+    let one : replicate m blank ++ (blank ∷ []) ≡ replicate (suc m) blank = replicate-append-replicate m 1 blank ∙ ap (λ (j : ℕ). replicate j blank) (add-one m) in
+    ap (λ (j : ℕ). times j (placed_read s) c) (omega arith)
+    ∙ times_more (k + m) (placed_read s) c (times_blank s c k m e) (match_whole s (xs ++ replicate m blank) (Refused f p) refl refl refl)
+    ∙ ap (λ (l : List Placed). (l, Refused f p)) (append_assoc xs (replicate m blank) (blank ∷ []) ∙ ap (λ (l : List Placed). xs ++ l) one)
+
+map_blank : (m : ℕ) → map placed_of (replicate m no_match) ≡ replicate m blank
+map_blank zero = refl
+map_blank (suc m) = ap (λ (l : List Placed). blank ∷ l) (map_blank m)
+
+-- The first of n records keep matches that were read, and the others none.
+abbrev pub kept_of : ℕ → List Placed → List MatchRecord
+kept_of n xs = map record_of xs ++ replicate (n - length xs) no_match
+
+placed_kept : (n : ℕ) (xs : List Placed) → map placed_of (kept_of n xs) ≡ xs ++ replicate (n - length xs) blank
+placed_kept n xs = map-append placed_of (map record_of xs) (replicate (n - length xs) no_match) ∙ ap₂ (λ (l k : List Placed). l ++ k) (recorded xs) (map_blank (n - length xs))
+
+-- The next of them.
+kept_next : (n : ℕ) (xs : List Placed) → length xs < n → kept_of n xs ≡ map record_of xs ++ (no_match ∷ replicate (n - suc (length xs)) no_match)
+kept_next n xs h = let more : n - length xs ≡ suc (n - suc (length xs)) = omega arith in ap (λ (j : ℕ). map record_of xs ++ replicate j no_match) more
+
+none_kept : (n : ℕ) (xs : List Placed) (d : MatchRecord) → length xs < n → get_or (kept_of n xs) (length xs) d ≡ no_match
+none_kept n xs d h =
+    ap₂ (λ (l : List MatchRecord) (k : ℕ). get_or l k d) (kept_next n xs h) (sym (length-map xs record_of)) ∙ get_or-append_seam (map record_of xs) no_match (replicate (n - suc (length xs)) no_match) d
+
+one_kept : (n : ℕ) (xs : List Placed) (m : MatchRecord) → length xs < n → set (kept_of n xs) (length xs) m ≡ kept_of n (xs ++ (placed_of m ∷ []))
+one_kept n xs m h =
+    let rest = replicate (n - suc (length xs)) no_match in
+    ap₂ (λ (l : List MatchRecord) (k : ℕ). set l k m) (kept_next n xs h) (sym (length-map xs record_of))
+    ∙ set-append_seam (map record_of xs) no_match rest m
+    ∙ sym (append_assoc (map record_of xs) (m ∷ []) rest)
+    ∙ ap₂ (λ (l : List MatchRecord) (k : ℕ). l ++ replicate (n - k) no_match) (sym (map-append record_of xs (placed_of m ∷ []))) (sym (length-append xs (placed_of m ∷ []) ∙ add-one (length xs)))
+
+-- After k turns: what was read stands in the first records.
+pub record Filled (old new : Sheet) (k n : ℕ) (matches : List MatchRecord) : Type 0 where
+  pub same : new.bytes.now ≡ old.bytes.now
+  pub xs : List Placed
+  pub reads_are : times k (placed_read old.bytes.now) (At old.at) ≡ (xs, At new.at)
+  pub kept : matches ≡ kept_of n xs
+  pub near : place_of new.at ≤ place_of old.at + 18 * k
+
+pub filled_none : (sheet : Sheet) (matches : List MatchRecord) → matches ≡ replicate (length matches) no_match → Filled sheet sheet 0 (length matches) matches
+unfolding times
+filled_none sheet matches none =
+    let all : length matches ≡ length matches - 0 = omega arith in
+    record { same = refl; xs = []; reads_are = refl; kept = none ∙ ap (λ (j : ℕ). replicate j no_match) all; near = omega arith }
+
+module _ {old mid : Sheet} {k n : ℕ} {matches : List MatchRecord} (so : Filled old mid k n matches) (here : k < n) where
+  many_kept : length so.xs ≡ k
+  many_kept = ap (λ (x : List Placed × Scan). length x.0) (sym so.reads_are) ∙ length_times k (placed_read old.bytes.now) (At old.at)
+
+  pub none_here : (d : MatchRecord) → get_or matches k d ≡ no_match
+  none_here d = ap₂ (λ (l : List MatchRecord) (j : ℕ). get_or l j d) so.kept (sym many_kept) ∙ none_kept n so.xs d (omega (arith, many_kept))
+
+  one_set : (m : MatchRecord) → set matches k m ≡ kept_of n (so.xs ++ (placed_of m ∷ []))
+  one_set m = ap₂ (λ (l : List MatchRecord) (j : ℕ). set l j m) so.kept (sym many_kept) ∙ one_kept n so.xs m (omega (arith, many_kept))
+
+  module _ {new : Sheet} {m : MatchRecord} where
+    one_read : {r : Result (Unit {0}) Flaw} → Puts mid new (λ s. placed_read s []) (placed_of m) 18 r → times (k + 1) (placed_read old.bytes.now) (At old.at) ≡ (so.xs ++ (placed_of m ∷ []), scan_after new.at r)
+    unfolding placed_read
+    one_read h = times_more k (placed_read old.bytes.now) (At old.at) so.reads_are (ap (λ (s : List ℕ). placed_read s [] (At mid.at)) (sym so.same) ∙ h.reads_are)
+
+    pub filled_more : Puts mid new (λ s. placed_read s []) (placed_of m) 18 (Ok tt) → Filled old new (k + 1) n (set matches k m)
+    filled_more h = record { same = h.same ∙ so.same; xs = so.xs ++ (placed_of m ∷ []); reads_are = one_read h; kept = one_set m; near = omega (arith, h.near, so.near) }
+
+    -- The turn that refuses is the last.
+    pub filled_flawed : {e : Flaw} → Puts mid new (λ s. placed_read s []) (placed_of m) 18 (Err e) → Puts old new (λ s. times n (placed_read s)) (map placed_of (set matches k m)) (18 * n) (Err e)
+    filled_flawed {e} h =
+        let xs = so.xs ++ (placed_of m ∷ []) in
+        let all : length xs ≡ k + 1 = length-append so.xs (placed_of m ∷ []) ∙ ap (λ (j : ℕ). j + 1) many_kept in
+        record {
+          same = h.same ∙ so.same;
+          reads_are =
+              ap (λ (j : ℕ). times j (placed_read old.bytes.now) (At old.at)) (omega arith)
+              ∙ times_blank old.bytes.now (At old.at) (k + 1) (n - (k + 1)) (one_read h)
+              ∙ ap (λ (l : List Placed). (l, Refused e.fault e.place)) (ap (λ (j : ℕ). xs ++ replicate (n - j) blank) (sym all) ∙ sym (placed_kept n xs) ∙ ap (map placed_of) (sym (one_set m)));
+          near = omega (arith, h.near, so.near);
+        }
+
+pub filled_all : {old new : Sheet} {k n : ℕ} {matches : List MatchRecord} → Filled old new k n matches → k ≡ n → Puts old new (λ s. times n (placed_read s)) (map placed_of matches) (18 * n) (Ok tt)
+filled_all {old} {new} {k} {n} {matches} so all =
+    let xs = so.xs in
+    let none : n - length xs ≡ 0 = omega (arith, all, ap (λ (x : List Placed × Scan). length x.0) (sym so.reads_are) ∙ length_times k (placed_read old.bytes.now) (At old.at)) in
+    record {
+      same = so.same;
+      reads_are =
+          ap (λ (j : ℕ). times j (placed_read old.bytes.now) (At old.at)) (sym all) ∙ so.reads_are
+          ∙ ap (λ (l : List Placed). (l, At new.at)) (sym (ap (map placed_of) so.kept ∙ placed_kept n xs ∙ ap (λ (j : ℕ). xs ++ replicate j blank) none ∙ append-nil xs));
+      near = omega (arith, all, so.near);
+    }
+
+-- ---- the cover
+
+-- By its fields, of which those after a refusal are 0.
+cover_whole : (s : List ℕ) (c : Scan) {a t n : ℕ} {xs : List Placed} {q₁ q₂ q₃ q₄ : Scan} → field s area_width free c ≡ (a, q₁) → field s arrival_width free q₁ ≡ (t, q₂) → field s match_count_width free q₂ ≡ (n, q₃) →
+    times n (placed_read s) q₃ ≡ (xs, q₄) → cover_read s c ≡ (record { point = record { area = a; arrival = t }; placed = xs }, ended s q₄)
+unfolding cover_read
+cover_whole s c {a} {t} e₁ e₂ e₃ e₄ =
+    let last : (area arrival : ℕ) → List Placed × Scan → Cover × Scan = λ area arrival z. (record { point = record { area = area; arrival = arrival }; placed = z.0 }, ended s z.1) in
+    let more : (area arrival : ℕ) → ℕ × Scan → Cover × Scan = λ area arrival y. last area arrival (times y.0 (placed_read s) y.1) in
+    let rest : ℕ → ℕ × Scan → Cover × Scan = λ area y. more area y.0 (field s match_count_width free y.1) in
+    ap (λ (x : ℕ × Scan). rest x.0 (field s arrival_width free x.1)) e₁ ∙ ap (rest a) e₂ ∙ ap (more a t) e₃ ∙ ap (last a t) e₄
+
+no_times : (s : List ℕ) (c : Scan) → times 0 (placed_read s) c ≡ ([], c)
+unfolding times
+no_times s c = refl
+
+-- In a cover with no match the first n records keep none.
+pub none_taken : (r : CoverRecord) (n : ℕ) → r ≡ bare_cover 0 0 → n ≤ 64 → take n r.matches ≡ replicate (length (take n r.matches)) no_match
+none_taken r n none h =
+    let is : take n r.matches ≡ replicate n no_match = ap (λ (q : CoverRecord). take n q.matches) none ∙ take-replicate n 64 no_match h in
+    is ∙ ap (λ (k : ℕ). replicate k no_match) (sym (ap length is ∙ length-replicate n no_match))
+
+-- The matches that were put into the first n records.
+pub matches_on : (s : List ℕ) {mid new : Sheet} {bits k n : ℕ} (part rest : List MatchRecord) {r : Result (Unit {0}) Flaw} → mid.bytes.now ≡ s →
+    Puts mid new (λ b. times k (placed_read b)) (map placed_of part) bits r → k ≡ n → length part ≡ n → times n (placed_read s) (At mid.at) ≡ (map placed_of (take n (part ++ rest)), scan_after new.at r)
+matches_on s {mid} {new} {n = n} part rest {r} same h turns long =
+    ap₂ (λ (b : List ℕ) (j : ℕ). times j (placed_read b) (At mid.at)) (sym same) (sym turns) ∙ h.reads_are
+    ∙ ap (λ (l : List MatchRecord). (map placed_of l, scan_after new.at r)) (sym (take_at part rest n long))
+
+-- What follows the last match, refused or not.
+pub closed_put : {old new : Sheet} {c : Cover} {bits : ℕ} (r : Result (Unit {0}) Flaw) → new.bytes.now ≡ old.bytes.now → cover_read old.bytes.now (At old.at) ≡ (c, ended old.bytes.now (At new.at)) →
+    Closes (ended new.bytes.now) new.at r → place_of new.at ≤ place_of old.at + bits → Puts old new cover_read c bits r
+closed_put {new = new} {c} (Ok tt) same h g near = record { same = same; reads_are = h ∙ ap (λ (q : Scan). (c, q)) (ap (λ (b : List ℕ). ended b (At new.at)) (sym same) ∙ g); near = near }
+closed_put {new = new} {c} (Err e) same h g near =
+    record { same = same; reads_are = h ∙ ap (λ (q : Scan). (c, q)) (ap (λ (b : List ℕ). ended b (At new.at)) (sym same) ∙ g.0); near = omega (arith, g.1, near) }
+
+module _ (s : List ℕ) (c : Cursor) (r : CoverRecord) (none : r ≡ bare_cover 0 0) where
+  pub area_flawed : {i : ℕ} {e : Flaw} → Flawed (field s area_width free (At c)) i e → cover_read s (At c) ≡ (cover_of r, Refused e.fault e.place)
+  area_flawed {e = e} h =
+      cover_whole s (At c) (field_refused s area_width (At c) h) refl refl (no_times s (Refused e.fault e.place)) ∙ ap (λ (q : CoverRecord). (cover_of q, Refused e.fault e.place)) (sym none)
+
+  module _ {a i : ℕ} {d : Cursor} (area : Took (UpTo (2 ^ area_width - 1)) (field s area_width free (At c)) i d a) where
+    pub arrival_flawed : {j : ℕ} {e : Flaw} → Flawed (field s arrival_width free (At d)) j e →
+        cover_read s (At c) ≡ (cover_of (record { area = a; arrival = r.arrival; count = r.count; matches = r.matches }), Refused e.fault e.place)
+    arrival_flawed {e = e} h =
+        cover_whole s (At c) (field_read area) (field_refused s arrival_width (At d) h) refl (no_times s (Refused e.fault e.place))
+        ∙ ap (λ (q : CoverRecord). (cover_of (record { area = a; arrival = q.arrival; count = q.count; matches = q.matches }), Refused e.fault e.place)) (sym none)
+
+    module _ {t j : ℕ} {from : Cursor} (arrival : Took (UpTo (2 ^ arrival_width - 1)) (field s arrival_width free (At d)) j from t) where
+      pub count_flawed : {k : ℕ} {e : Flaw} → Flawed (field s match_count_width free (At from)) k e →
+          cover_read s (At c) ≡ (cover_of (record { area = a; arrival = t; count = r.count; matches = r.matches }), Refused e.fault e.place)
+      count_flawed {e = e} h =
+          cover_whole s (At c) (field_read area) (field_read arrival) (field_refused s match_count_width (At from) h) (no_times s (Refused e.fault e.place))
+          ∙ ap (λ (q : CoverRecord). (cover_of (record { area = a; arrival = t; count = q.count; matches = q.matches }), Refused e.fault e.place)) (sym none)
+
+      module _ {n k : ℕ} {then : Cursor} (count : Took (UpTo (2 ^ match_count_width - 1)) (field s match_count_width free (At from)) k then n) (ms : List MatchRecord) {q : Scan}
+          (matches : times n (placed_read s) (At then) ≡ (map placed_of (take n ms), q)) where
+        pub cover_put : cover_read s (At c) ≡ (cover_of (record { area = a; arrival = t; count = n; matches = ms }), ended s q)
+        cover_put = cover_whole s (At c) (field_read area) (field_read arrival) (field_read count) matches
+
+-- ---- where the scan stands
+
+-- If the scan was not refused, it stands at place i.
+abbrev Stands : ℕ → Scan → Type 0
+Stands i c = Live c → c ≡ At (cursor_at i)
+
+stands_field : (s : List ℕ) (w i : ℕ) (c : Scan) → Stands i c → Stands (i + w) (field s w free c).1
+stands_field s w i c on = field_ways s w free (λ x. Stands (i + w) x.1) c (λ f h. absurd h) (λ l g v t. ap (λ (j : ℕ). At (cursor_at (j + w))) (ap place (on l) ∙ place_at i))
+
+stands_match : (s : List ℕ) (xs : List Placed) (i : ℕ) (c : Scan) → Stands i c → Stands (i + 6 + 7 + 5) (placed_read s xs c).1
+unfolding placed_read
+stands_match s xs i c on = stands_field s 5 (i + 6 + 7) _ (stands_field s 7 (i + 6) _ (stands_field s 6 i c on))
+
+stands_times : (s : List ℕ) (n i : ℕ) (c : Scan) → Stands i c → Stands (i + 18 * n) (times n (placed_read s) c).1
+unfolding times
+stands_times s zero i c on = let here : i ≡ i + 18 * 0 = omega arith in λ l. on l ∙ ap (λ (j : ℕ). At (cursor_at j)) here
+stands_times s (suc n) i c on =
+    let far : i + 18 * n + 6 + 7 + 5 ≡ i + 18 * suc n = omega arith in
+    λ l. stands_match s (times n (placed_read s) c).0 (i + 18 * n) (times n (placed_read s) c).1 (stands_times s n i c on) l ∙ ap (λ (j : ℕ). At (cursor_at j)) far
+
+stands_tail : (wanted : ℕ → Bool) (i : ℕ) (c : Scan) → Stands i c → Stands i (tailed wanted c)
+stands_tail wanted i (At c) on = cases (wanted (place_of c)) (λ t. rw t on) (λ t. rw t (λ l. absurd l))
+stands_tail wanted i (Refused f p) on = on
+
+stands_cover : (s : List ℕ) → Stands (cover_bits (length (cover_read s start).0.placed)) (cover_read s start).1
+unfolding cover_read
+stands_cover s l =
+    let a = field s area_width free start in
+    let t = field s arrival_width free a.1 in
+    let n = field s match_count_width free t.1 in
+    let xs = times n.0 (placed_read s) n.1 in
+    let on = stands_times s n.0 52 n.1 (stands_field s 6 46 t.1 (stands_field s 24 22 a.1 (stands_field s 22 0 start (λ _. refl)))) in
+    stands_tail (ends_at s) (52 + 18 * n.0) xs.1 on l ∙ ap (λ (k : ℕ). At (cursor_at (cover_bits k))) (sym (length_times n.0 (placed_read s) n.1))
+
+-- From what was put into the cover to what is said of it.
+cover_told : (s : List ℕ) (r : CoverRecord) → Room r → CoverHolds (cover_read s start).0 r → Live (cover_read s start).1 → CoverTold (cover_read s start) r
+cover_told s r room h live = record {
+  scan_is = stands_cover s live ∙ ap (λ (k : ℕ). At (cursor_at (cover_bits k))) (sym (ap (λ (c : Cover). length c.placed) h.cover_is) ∙ many r room);
+  holds = h;
+}
+
+pub cover_taken : {s : List ℕ} {sheet new : Sheet} (r : CoverRecord) → Opens s sheet → Puts sheet new cover_read (cover_of r) (cover_bits 63) (Ok tt) → r.count < 64 → Room r → CoverTold (cover_read s start) r
+cover_taken {s} {new = new} r o h few room =
+    let e : cover_read s start ≡ (cover_of r, At new.at) = ap₂ (λ (b : List ℕ) (c : Cursor). cover_read b (At c)) (sym o.bytes_are) (sym o.at_start) ∙ h.reads_are in
+    cover_told s r room (record { cover_is = ap (λ (x : Cover × Scan). x.0) (sym e); few = few }) (subst Live (ap (λ (x : Cover × Scan). x.1) (sym e)) tt)
 
 -- Bytes that say a cover are read as that cover, and not refused.
-pub cover_back : {c : Cover} {s : List ℕ} (r : Result CoverRecord Flaw) → CoverReads c s → CoverIs s r → (k : CoverRecord) × (r ≡ Ok k) × (cover_of k ≡ c)
-cover_back (Ok k) h g = (k, refl, g.holds.cover_is ∙ ap (λ (x : Cover × Scan). x.0) h.reads)
-cover_back (Err e) h g = absurd (subst Live (sym (ap (λ (x : Cover × Scan). x.1) h.reads) ∙ g.says) tt)
+pub cover_back : {c : Cover} {s : List ℕ} (r : Result CoverRecord FlawedCover) → CoverReads c s → CoverIs s r →
+    (k : CoverRecord) × (r ≡ Ok k) × (cover_of k ≡ c) × (At (cursor_at (cover_bits k.count)) ≡ At (cursor_at (widths (cover_fields c))))
+cover_back (Ok k) h g = (k, refl, g.holds.cover_is ∙ ap (λ (x : Cover × Scan). x.0) h.reads, sym g.scan_is ∙ ap (λ (x : Cover × Scan). x.1) h.reads)
+cover_back (Err e) h g = absurd (subst Live (sym (ap (λ (x : Cover × Scan). x.1) h.reads) ∙ g.scan_is) tt)
 
 pub points_few : (count : ℕ) (ws : List ℕ) → length (points_of count ws) ≤ count
 unfolding points_of

@@ -1,12 +1,13 @@
 -- What is written and read: covers and points as the code keeps them, and a sheet at the front of an output.
-use Rattle.std.specs.Prelude.{ℕ, Result, ◌+◌, ◌*◌, ◌^◌, ◌<◌, ◌≡◌, List, ◌++◌, map, length, take, drop, replicate}
+use Rattle.std.specs.Prelude.{ℕ, Result, MatchResult, ◌+◌, ◌*◌, ◌^◌, ◌≤◌, ◌<◌, ◌≡◌, List, ◌++◌, map, length, take, drop, replicate}
 use Rattle.std.proofs.lemmas.List.Edits.{sets}
-use Rattle.fields.specs.declared.Flaw.{Flaw}
-use Rattle.fields.specs.Reading.{start, Tells}
+use Rattle.bits.specs.Bits.{cursor_at}
+use Rattle.fields.specs.Reading.{Scan, At, Refused, start}
 use Rattle.covers.specs.Cover.{Placed, Cover}
 use Rattle.covers.specs.CoverSheet.{area_width, arrival_width, match_count_width, node_width, pattern_width, crossing_width, cover_read}
 use Rattle.result_sheets.specs.declared.MatchRecord.{MatchRecord}
 use Rattle.result_sheets.specs.declared.CoverRecord.{CoverRecord}
+use Rattle.result_sheets.specs.declared.FlawedCover.{FlawedCover}
 
 -- The match that a record keeps, and the record that keeps a match.
 abbrev pub placed_of : MatchRecord → Placed
@@ -44,11 +45,22 @@ pub record Written (sheet entry exit : List ℕ) (r : ℕ) : Type 0 where
   pub bytes : r ≡ length sheet
   pub output : exit ≡ sheet ++ drop (length sheet) entry
 
--- A record keeps the cover that a sheet says.
+-- A record keeps the cover that is read, of a refused sheet too: there it is what was read before, and what was not is 0.
 pub record CoverHolds (c : Cover) (r : CoverRecord) : Type 0 where
   pub cover_is : cover_of r ≡ c
   pub few : r.count < 2 ^ match_count_width
 
--- The bytes s were read as a cover sheet: the cover, or the flaw that the sheet is refused for.
-abbrev pub CoverIs : List ℕ → Result CoverRecord Flaw → Type 0
-CoverIs s r = Tells CoverHolds (cover_read s start) (cover_bits 63) r
+-- Not refused: the scan stands after the last match.
+pub record CoverTold (x : Cover × Scan) (r : CoverRecord) : Type 0 where
+  pub scan_is : x.1 ≡ At (cursor_at (cover_bits r.count))
+  pub holds : CoverHolds x.0 r
+
+-- Refused.
+pub record CoverFlawed (x : Cover × Scan) (e : FlawedCover) : Type 0 where
+  pub scan_is : x.1 ≡ Refused e.flaw.fault e.flaw.place
+  pub holds : CoverHolds x.0 e.cover
+  pub near : e.flaw.place ≤ cover_bits 63
+
+-- The bytes s were read as a cover sheet: the cover; or the flaw that the sheet is refused for, and the cover as far as it was read.
+abbrev pub CoverIs : List ℕ → Result CoverRecord FlawedCover → Type 0
+CoverIs s r = MatchResult r (CoverTold (cover_read s start)) (CoverFlawed (cover_read s start))

@@ -4,12 +4,11 @@
 ghost use Rattle.std.specs.Prelude.{◌≡◌, [], ◌∷◌, ◌++◌, ◌+◌, ◌*◌, ◌/◌, ◌<◌, ◌≤◌, ◌^◌, map, reverse, length, drop, replicate};
 ghost use Rattle.bits.specs.Bits.{place_of};
 ghost use Rattle.fields.specs.Reading.{times};
-ghost use Rattle.fields.specs.Inside.Promises.{Reads};
 ghost use Rattle.fields.specs.Written.{written};
-ghost use Rattle.covers.specs.CoverSheet.{match_count_width, point_count_width, placed_fields, point_fields, cover_sheet, list_sheet, placed_read};
-ghost use Rattle.result_sheets.specs.Public.{placed_of, bare_cover, appended, cover_of, match_width, cover_bits, Written, CoverIs};
+ghost use Rattle.covers.specs.CoverSheet.{match_count_width, point_count_width, placed_fields, point_fields, cover_sheet, list_sheet, placed_read, cover_read};
+ghost use Rattle.result_sheets.specs.Public.{placed_of, no_match, bare_cover, appended, cover_of, match_width, cover_bits, Written, CoverIs};
 ghost use Rattle.covers.specs.Inside.Curve.{point_of};
-ghost use Rattle.result_sheets.specs.Inside.Promises.{points_of, Listable, MatchHolds};
+ghost use Rattle.result_sheets.specs.Inside.Promises.{points_of, Listable, Puts};
 
 use fields::{Flaw, Sheet};
 use sheets_rules::Limits;
@@ -57,6 +56,13 @@ pub struct CoverRecord {
     pub arrival: u32,
     pub count: usize,
     pub matches: [MatchRecord; Limits::TREE_NODES],
+}
+
+// A cover sheet that is refused: its flaw, and the cover as far as it was read: what was not is 0.
+#[derive(Clone, Copy)]
+pub struct FlawedCover {
+    pub flaw: Flaw,
+    pub cover: CoverRecord,
 }
 
 impl CoverRecord {
@@ -154,44 +160,50 @@ pub fn write_list(output: &mut [u8], points: &[u64], count: usize) -> usize
     bytes
 }
 
-// One match.
-#[tactic(auto, unfolding(covers::specs::CoverSheet::placed_read))]
-fn read_match(sheet: &mut Sheet<'_>) -> Result<MatchRecord, Flaw>
-    requires { place_of sheet.old.at ≤ cover_bits 63 }
-    ensures { Reads sheet.old sheet.new (λ s. placed_read s []) MatchHolds match_width result }
+// One match, put where none is: of a refused one what was read before.
+fn read_match(sheet: &mut Sheet<'_>, one: &mut MatchRecord) -> Result<(), Flaw>
+    requires { (one.old ≡ no_match) × (place_of sheet.old.at ≤ cover_bits 63) }
+    ensures { Puts sheet.old sheet.new (λ s. placed_read s []) (placed_of one.new) match_width result }
 {
-    let node = sheet.raw(Layout::NODE)? as u8;
-    let pattern = sheet.raw(Layout::PATTERN)? as u8;
-    let crossing = sheet.raw(Layout::CROSSING)? as u8;
-    Ok(MatchRecord {
-        node,
-        pattern,
-        crossing,
-    })
+    one.node = sheet.raw(Layout::NODE)? as u8;
+    one.pattern = sheet.raw(Layout::PATTERN)? as u8;
+    one.crossing = sheet.raw(Layout::CROSSING)? as u8;
+    Ok(())
 }
 
-// The matches, put into the cover one after another.
-fn read_matches(sheet: &mut Sheet<'_>, count: u32, cover: &mut CoverRecord) -> Result<(), Flaw>
-    requires { (cover.old.count + count ≤ 63) × (place_of sheet.old.at ≤ cover_bits 0) }
-    ensures { Reads sheet.old sheet.new (λ s. times count (placed_read s)) (λ xs _. cover.new ≡ appended cover.old xs) (match_width * count) result }
+// The matches, one after another, put where none is.
+fn read_matches(sheet: &mut Sheet<'_>, matches: &mut [MatchRecord]) -> Result<(), Flaw>
+    requires none { matches.old ≡ replicate (length matches.old) no_match }
+    requires near { (length matches.old ≤ 63) × (place_of sheet.old.at ≤ cover_bits 0) }
+    ensures { Puts sheet.old sheet.new (λ s. times (length matches.old) (placed_read s)) (map placed_of matches.new) (match_width * length matches.old) result }
 {
-    for _ in 0..count {
-        let one = read_match(sheet)?;
-        cover.push(one);
+    for one in matches.iter_mut() {
+        read_match(sheet, one)?;
     }
     Ok(())
 }
 
-// The cover that a sheet says, or what is wrong with the sheet.
-pub fn read_cover(s: &[u8]) -> Result<CoverRecord, Flaw>
+// The fields of the sheet, put into an empty cover one after another, so that it has what was read before a flaw.
+fn read_fields(sheet: &mut Sheet<'_>, cover: &mut CoverRecord) -> Result<(), Flaw>
+    requires { (cover.old ≡ bare_cover 0 0) × (place_of sheet.old.at ≡ 0) }
+    ensures put { Puts sheet.old sheet.new cover_read (cover_of cover.new) (cover_bits 63) result }
+    ensures few { (cover.new.count ≤ 63) × (cover.new.count ≤ length cover.new.matches) }
+{
+    cover.area = sheet.raw(Layout::AREA)?;
+    cover.arrival = sheet.raw(Layout::ARRIVAL)?;
+    cover.count = sheet.raw(Layout::MATCH_COUNT)? as usize;
+    read_matches(sheet, &mut cover.matches[..cover.count])?;
+    sheet.end()
+}
+
+// The cover that a sheet says, or what is wrong with the sheet, and the cover as far as it was read.
+pub fn read_cover(s: &[u8]) -> Result<CoverRecord, FlawedCover>
     ensures { CoverIs s.now result }
 {
     let mut sheet = Sheet::open(s);
-    let area = sheet.raw(Layout::AREA)?;
-    let arrival = sheet.raw(Layout::ARRIVAL)?;
-    let count = sheet.raw(Layout::MATCH_COUNT)?;
-    let mut cover = CoverRecord::bare(area, arrival);
-    read_matches(&mut sheet, count, &mut cover)?;
-    sheet.end()?;
-    Ok(cover)
+    let mut cover = CoverRecord::bare(0, 0);
+    match read_fields(&mut sheet, &mut cover) {
+        Ok(()) => Ok(cover),
+        Err(flaw) => Err(FlawedCover { flaw, cover }),
+    }
 }

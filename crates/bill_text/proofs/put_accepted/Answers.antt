@@ -24,7 +24,7 @@ pub unreachable-requires-in_default-read_cover : goal.unreachable-requires-in_de
 unreachable-requires-in_default-read_cover c =
     let a = c.args in
     let (room, (p, accepts)) = c.requires in
-    subst Live c.in_default-read_cover.ensures.says (accepted a.library.now a.tree.now a.cover.now p accepts).cover_live
+    subst Live c.in_default-read_cover.ensures.scan_is (accepted a.library.now a.tree.now a.cover.now p accepts).cover_live
 
 pub put_bill-requires : goal.put_bill-requires
 put_bill-requires c =

@@ -9,4 +9,4 @@ pub returns-in-Ok : goal.returns-in-Ok
 returns-in-Ok c = λ l t h. cover_answered c.args.cover.now l t c.in-Ok.ensures c.with_records.result (c.with_records.ensures l t h)
 
 pub returns-in-Err : goal.returns-in-Err
-returns-in-Err c = λ l t h. refused_told Reason.CoverSheet c.in-Err.flaw.place _ c.refused.ensures (cover_not_read c.args.cover.now l t c.in-Err.ensures)
+returns-in-Err c = λ l t h. refused_told Reason.CoverSheet c.in-Err.flawed.flaw.place _ c.refused.ensures (cover_not_read c.args.cover.now l t c.in-Err.ensures)

@@ -9,7 +9,7 @@ pub unreachable-requires : goal.unreachable-requires
 unreachable-requires c = answer_apart (sym (library_said_lem c.args.library.now c.requires.sound.0) ∙ c.in_default.ensures.said.0)
 
 pub unreachable-requires-in_default-read_cover : goal.unreachable-requires-in_default-read_cover
-unreachable-requires-in_default-read_cover c = subst Live c.in_default-read_cover.ensures.says c.requires.sound.1
+unreachable-requires-in_default-read_cover c = subst Live c.in_default-read_cover.ensures.scan_is c.requires.sound.1
 
 pub put_cover-requires : goal.put_cover-requires
 put_cover-requires c =
