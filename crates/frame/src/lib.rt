@@ -79,14 +79,21 @@ pub fn run<F: Fn(&[u8], &mut [u8]) -> usize>(text: &mut [u8], print: F) -> usize
     length
 }
 
+// Puts the line of a refusal with any number and place.
+pub fn put_refused(text: &mut Text, number: u32, place: usize)
+    requires { HasRoom (refusal_line number place) text.old }
+    ensures { Appended (refusal_line number place) text.old text.new }
+{
+    text.put_word(b"refused");
+    text.put_last(u64::from(number), place as u64);
+}
+
 // Puts the line of a refusal.
 pub fn put_refusal(text: &mut Text, refusal: Refusal)
     requires { HasRoom (refusal_line (number_of refusal.reason) refusal.place) text.old }
     ensures { Appended (refusal_line (number_of refusal.reason) refusal.place) text.old text.new }
 {
-    let number = refusals::number(refusal.reason);
-    text.put_word(b"refused");
-    text.put_last(u64::from(number), refusal.place as u64);
+    put_refused(text, refusals::number(refusal.reason), refusal.place);
 }
 
 // Puts the line of an input that is not what its lengths say.

@@ -9,12 +9,27 @@ ghost use Rattle.overlay.specs.Inside.Promises.{SheetsStored};
 ghost use Rattle.covers.specs.Inside.Allowed.{Allowed};
 ghost use Rattle.map_core.specs.Inside.Promises.{Started};
 ghost use Rattle.map_rules.specs.Public.{of_reply, Maps, Lists};
-ghost use Rattle.map.specs.Inside.Promises.{Lent, ListsStarted, OperatesStored};
+ghost use Rattle.map.specs.Inside.Promises.{Lent, RepliesStarted, OperatesStored};
 
 use sheets_rules::{LibraryRecord, Limits, Refusal, TreeRecord};
 
-// The cover of a tree as decoded by the cells of a library as decoded, on its sheet. The first words of the work area are zero before the
-// core begins and afterwards.
+// The cover of a tree as decoded by the cells of a library as decoded, on its sheet, from a work area of zeros.
+fn map_zeros(
+    library: &LibraryRecord,
+    tree: &TreeRecord,
+    most: usize,
+    output: &mut [u8],
+    work: &mut [u64],
+) -> Result<usize, Refusal>
+    requires long { map_bytes ≤ length output.old }
+    requires started { (l : Library) × ((t : Tree) × Started most l t library.now tree.now work.old) }
+    ensures { RepliesStarted map_answer library.now tree.now most work.old output.old output.new (of_reply result) }
+{
+    let cover = map_core::map_tree(library, tree, most, work)?;
+    Ok(result_sheets::write_cover(output, cover))
+}
+
+// The same from any work area that is long enough: its first words are zero before the core begins and, once the sheet is written, afterwards.
 #[tactic(auto, using(crate::proofs::Laws::started))]
 fn map_stored(
     library: &LibraryRecord,
@@ -29,10 +44,9 @@ fn map_stored(
 {
     let words = lending::words(most);
     lending::clear(work, most);
-    let mapped = map_core::map_tree(library, tree, most, &mut work[..words]);
+    let mapped = map_zeros(library, tree, most, output, &mut work[..words]);
     lending::clear(work, most);
-    let cover = mapped?;
-    Ok(result_sheets::write_cover(output, cover))
+    mapped
 }
 
 // The trade-offs of a tree's root on their sheet, from a work area of zeros, where their points stand until it is cleared.
@@ -46,13 +60,13 @@ fn list_zeros(
     requires long { list_bytes ≤ length output.old }
     requires allowed { Allowed most }
     requires started { (l : Library) × ((t : Tree) × Started most l t library.now tree.now work.old) }
-    ensures { ListsStarted library.now tree.now most work.old output.old output.new (of_reply result) }
+    ensures { RepliesStarted list_answer library.now tree.now most work.old output.old output.new (of_reply result) }
 {
     let count = map_core::list_tree(library, tree, most, work)?;
     Ok(result_sheets::write_list(output, work, count))
 }
 
-// The same from any work area that is long enough: its first words are zero before the core begins and afterwards.
+// The same from any work area that is long enough, as `map_stored`.
 #[tactic(auto, using(crate::proofs::Laws::started))]
 fn list_stored(
     library: &LibraryRecord,

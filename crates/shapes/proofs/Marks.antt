@@ -16,7 +16,7 @@ use Rattle.std.proofs.lemmas.List.Folds.{list_all_more}
 use Rattle.shapes_rules.specs.declared.Rules.{Rules}
 use Rattle.shapes_rules.specs.Shape.{pin_symbol}
 use Rattle.shapes_rules.specs.Drawing.{elem, has_all, leaf_verdict}
-use Rattle.shapes.specs.Inside.Promises.{Met, mark_verdict}
+use Rattle.shapes.specs.Inside.Promises.{Met, all_marked, mark_verdict}
 use Rattle.shapes_rules.proofs.Pins.{elem_append}
 
 -- ---- what the marks say
@@ -29,18 +29,23 @@ mark_leaf rules pins seen x met =
     (λ a. cases rules.pattern (λ b. rw (a, b, met b x (leb-true x rules.most a))) (λ b. rw (a, b)))
     (λ a. rw a)
 
--- All of the first pins are marked exactly when all were seen.
-marked_all : (pins : List Bool) (nodes : List ℕ) (n : ℕ) → n ≤ length pins → ((x : ℕ) → x < n → get_or pins x false ≡ elem (pin_symbol x) nodes) →
-    list_all (λ b. b) (take n pins) ≡ has_all n nodes
-unfolding has_all
-marked_all pins nodes zero l met = refl
-marked_all pins nodes (suc n) l met =
+-- All of the first pins of a list that has so many are marked.
+pub marks_all : (pins : List Bool) (n : ℕ) → n ≤ length pins → list_all (λ b. b) (take n pins) ≡ all_marked n pins
+unfolding all_marked
+marks_all pins zero l = refl
+marks_all pins (suc n) l =
     let more : list_all (λ b. b) (take (suc n) pins) ≡ (list_all (λ b. b) (take n pins) && get_or pins n false) = rw (← add-one) (list_all_more (λ b. b) pins n false (omega arith)) in
-    rw (more, met n (omega arith), marked_all pins nodes n (omega arith) (λ x h. met x (omega arith)))
+    rw (more, marks_all pins n (omega arith))
 
-pub whole_marked : (rules : Rules) (pins : List Bool) (nodes : List ℕ) → (rules.pattern ≡ true → rules.most < length pins) → Met rules pins nodes →
-    (rules.pattern && list_all (λ b. b) (take (suc rules.most) pins)) ≡ (rules.pattern && has_all (suc rules.most) nodes)
-whole_marked rules pins nodes l met = cases rules.pattern (λ p. rw p (marked_all pins nodes (suc rules.most) (l p) (λ x h. met p x (omega arith)))) (λ p. rw p)
+-- All of the first pins are marked exactly when all were seen.
+marked_all : (pins : List Bool) (nodes : List ℕ) (n : ℕ) → ((x : ℕ) → x < n → get_or pins x false ≡ elem (pin_symbol x) nodes) → all_marked n pins ≡ has_all n nodes
+unfolding all_marked has_all
+marked_all pins nodes zero met = refl
+marked_all pins nodes (suc n) met = rw (met n (omega arith), marked_all pins nodes n (λ x h. met x (omega arith)))
+
+pub whole_marked : (rules : Rules) (pins : List Bool) (nodes : List ℕ) → Met rules pins nodes →
+    (rules.pattern && all_marked (suc rules.most) pins) ≡ (rules.pattern && has_all (suc rules.most) nodes)
+whole_marked rules pins nodes met = cases rules.pattern (λ p. rw p (marked_all pins nodes (suc rules.most) (λ x h. met p x (omega arith)))) (λ p. rw p)
 
 -- ---- marks as nodes are read
 

@@ -7,7 +7,6 @@ use native.Mathlib.Nat.{zero-add}
 use native.Mathlib.Omega.{arith}
 use lib.ListN.{length, take, drop, replicate, length-replicate}
 use Rattle.std.specs.Prelude.{Result, Ok, Err}
-use Rattle.std.specs.List.{list_all}
 use Rattle.std.proofs.lemmas.List.{get_or-replicate}
 use Rattle.fields.proofs.Lists.{take_sets}
 use Rattle.bits.specs.declared.Cursor.{Cursor}
@@ -25,7 +24,7 @@ use Rattle.shapes_rules.specs.Drawing.{elem, has_all, shape, node_bits}
 use Rattle.shapes.specs.declared.Source.{Source}
 use Rattle.shapes.specs.declared.Progress.{Progress}
 use Rattle.shapes.specs.declared.ShapeRead.{ShapeRead}
-use Rattle.shapes.specs.Inside.Promises.{outcome, reached, Followed, Room, Laid, NodeEnd, Drawn, ShapeIs}
+use Rattle.shapes.specs.Inside.Promises.{all_marked, outcome, reached, Followed, Room, Laid, NodeEnd, Drawn, ShapeIs}
 use Rattle.shapes.proofs.Marks.{whole_marked}
 use Rattle.shapes.proofs.Drawn.{run_seen}
 use Rattle.shapes_rules.proofs.Shifted.{shift, shape_shift, shape_truncated}
@@ -98,7 +97,7 @@ module _ (sheet : Sheet) (rules : Rules) (b u : ℕ) (few : b ≤ length sheet.b
     symbols_long = done.1.symbols_long;
   }
 
-  pub shape_done : end ≡ Ok tt → (w : Bool) → w ≡ (rules.pattern && list_all (λ b. b) (take (suc rules.most) p'.pins)) →
+  pub shape_done : end ≡ Ok tt → (w : Bool) → w ≡ (rules.pattern && all_marked (suc rules.most) p'.pins) →
       ShapeIs sheet (record { bytes = sheet.bytes; at = next }) rules l l' (Ok (record { size = p'.nodes; whole = w }))
   shape_done sound w marked =
       let live : Live (outcome end p'.at) = rw sound tt in
@@ -111,7 +110,7 @@ module _ (sheet : Sheet) (rules : Rules) (b u : ℕ) (few : b ≤ length sheet.b
             holds = rw whole_is (record {
               symbols_are = laid.symbols live;
               size_is = omega (arith, laid.next live);
-              whole_is = marked ∙ whole_marked rules p'.pins (take p'.nodes l') (λ p. omega (arith, done.1.long, followed.pins p)) (done.1.met live)
+              whole_is = marked ∙ whole_marked rules p'.pins (take p'.nodes l') (done.1.met live)
                   ∙ ap (λ (ss : List ℕ). rules.pattern && has_all (suc rules.most) ss) seen;
               few = done.0.went.upto;
             });

@@ -2,11 +2,10 @@
 #![tactic(auto)]
 
 ghost use Rattle.std.specs.Prelude.{◌≡◌, true, false, ◌&&◌, suc, ◌+◌, ◌*◌, ◌<◌, ◌≤◌, length, get_or, take};
-ghost use Rattle.std.specs.List.{list_all};
 ghost use Rattle.bits.specs.Bits.{place_of};
 ghost use Rattle.fields.specs.Inside.Promises.{verdict_of};
 ghost use Rattle.shapes_rules.specs.Drawing.{code_verdict, node_bits};
-ghost use Rattle.shapes.specs.Inside.Promises.{reach, mark_verdict, Followed, LeafRoom, Room, FieldRoom, Done, FieldFound, CodeRead, LeafEnd, DrivenEnd, NodeEnd, PairEnd, Counted, ShapeIs, Preorder, SizesSet};
+ghost use Rattle.shapes.specs.Inside.Promises.{reach, all_marked, mark_verdict, Followed, LeafRoom, Room, FieldRoom, Done, FieldFound, CodeRead, LeafEnd, DrivenEnd, NodeEnd, PairEnd, Counted, ShapeIs, Preorder, SizesSet};
 
 use bits::Cursor;
 use fields::{Fault, Flaw, Sheet};
@@ -169,7 +168,7 @@ impl Progress {
     // Whether it is a pattern and each pin up to the greatest is marked.
     fn has_pins(&self, rules: Rules) -> bool
         requires { rules.pattern ≡ true → rules.most ≤ 12 }
-        ensures { result ≡ (rules.pattern && list_all (λ b. b) (take (suc rules.most) self.now.pins)) }
+        ensures { result ≡ (rules.pattern && all_marked (suc rules.most) self.now.pins) }
     {
         rules.pattern
             && self.pins[..rules.most as usize + 1]

@@ -1,17 +1,7 @@
-use native.Mathlib.Omega.{arith}
-use Rattle.sheets_rules.specs.Report.{number_of}
-use Rattle.text.specs.Text.{line}
-use Rattle.text.proofs.Laws.{appended_both}
-use Rattle.frame.specs.Framed.{refusal_line}
-use Rattle.frame.proofs.Laws.{refusal_length}
 use Rattle.frame.proofs.put_refusal.Goals as goal
 
-pub put_word-requires : goal.put_word-requires
-put_word-requires c = let a = c.args in omega (arith, refusal_length (number_of a.refusal.reason) a.refusal.place)
-
-pub put_last-requires : goal.put_last-requires
-put_last-requires c = let a = c.args in rw (c.from.ensures, c.number-number.ensures.0) (omega (arith, refusal_length (number_of a.refusal.reason) a.refusal.place))
+pub put_refused-requires : goal.put_refused-requires
+put_refused-requires c = rw c.number.ensures.0 c.requires
 
 pub returns : goal.returns
-unfolding refusal_line line
-returns c = appended_both c.put_word.ensures (rw (c.from.ensures, c.number-number.ensures.0) at c.put_last.ensures)
+returns c = rw c.number.ensures.0 at c.put_refused.ensures

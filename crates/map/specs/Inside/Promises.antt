@@ -4,7 +4,6 @@ use Rattle.fields.specs.Answer.{Answer, Bounded}
 use Rattle.sheets_rules.specs.declared.LibraryRecord.{LibraryRecord}
 use Rattle.sheets_rules.specs.declared.TreeRecord.{TreeRecord}
 use Rattle.sheets_rules.specs.Model.{Library, Tree}
-use Rattle.covers.specs.Answer.{list_answer}
 use Rattle.covers.specs.Capacity.{work_words, allowed}
 use Rattle.covers.specs.Lending.{told, output_after}
 use Rattle.covers.specs.Inside.Allowed.{Allowed}
@@ -25,9 +24,9 @@ pub record Replied (o : Answer (List ℕ)) (output output' : List ℕ) (a : Answ
   pub output_is : output' ≡ output_after o output
   pub bounded : Bounded a
 
--- List's answer for whichever library and tree the records hold, where the core starts.
-abbrev pub ListsStarted : LibraryRecord → TreeRecord → (most : ℕ) → (work output output' : List ℕ) → Answer ℕ → Type 0
-ListsStarted library tree most work output output' a = (l : Library) (t : Tree) → Started most l t library tree work → Replied (list_answer most l t) output output' a
+-- The answer of map or of list for whichever library and tree the records hold, where the core starts.
+abbrev pub RepliesStarted : (ℕ → Library → Tree → Answer (List ℕ)) → LibraryRecord → TreeRecord → (most : ℕ) → (work output output' : List ℕ) → Answer ℕ → Type 0
+RepliesStarted answer library tree most work output output' a = (l : Library) (t : Tree) → Started most l t library tree work → Replied (answer most l t) output output' a
 
 -- The outcome of map or of list for whichever library and tree the records hold.
 abbrev pub OperatesStored : (ℕ → Library → Tree → Answer (List ℕ)) → LibraryRecord → TreeRecord → (most : ℕ) → (output output' work work' : List ℕ) → Answer ℕ → Type 0

@@ -1,5 +1,5 @@
 -- What the readers of this crate promise, each by the definitions of Reading and Drawing.
-use Rattle.std.specs.Prelude.{ℕ, suc, ◌+◌, ◌-◌, ◌*◌, ◌≤◌, ◌<◌, ◌≡◌, List, ◌++◌, Bool, true, false, cond, ◌&&◌, leb, length, take, get_or, set, Some, None, Result, Ok, Err, MatchResult}
+use Rattle.std.specs.Prelude.{ℕ, zero, suc, ◌+◌, ◌-◌, ◌*◌, ◌≤◌, ◌<◌, ◌≡◌, List, ◌++◌, Bool, true, false, cond, ◌&&◌, leb, length, take, get_or, set, Some, None, Result, Ok, Err, MatchResult}
 use Rattle.std.proofs.lemmas.List.Edits.{sets}
 use Rattle.bits.specs.declared.Cursor.{Cursor}
 use Rattle.bits.specs.Bits.{place_of, field_at}
@@ -22,6 +22,11 @@ use Rattle.shapes_rules.specs.Drawing.{elem, has_all, code_verdict, leaf_node, d
 -- The pins of a pattern that stand among the symbols seen.
 abbrev pub Met : Rules → List Bool → List ℕ → Type 0
 Met rules pins seen = rules.pattern ≡ true → (x : ℕ) → x ≤ rules.most → get_or pins x false ≡ elem (pin_symbol x) seen
+
+-- Whether each of the first n pins is marked.
+unfoldable pub all_marked : ℕ → List Bool → Bool
+all_marked zero pins = true
+all_marked (suc n) pins = all_marked n pins && get_or pins n false
 
 -- A leaf's number, by its range and its mark.
 abbrev pub mark_verdict : Rules → Bool → ℕ → Verdict
