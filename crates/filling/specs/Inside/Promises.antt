@@ -1,5 +1,5 @@
 -- What the functions of this crate are lent and what they promise.
-use Rattle.std.specs.Prelude.{ℕ, suc, ◌+◌, ◌*◌, ◌≤◌, ◌<◌, ◌≡◌, List, Result, Ok, Err, length, get_or}
+use Rattle.std.specs.Prelude.{ℕ, suc, ◌+◌, ◌*◌, ◌≤◌, ◌<◌, ◌≡◌, Bool, true, false, List, Result, Ok, Err, length, get_or, take}
 use Rattle.std.proofs.Math.Option.{none, some}
 use Rattle.sheets_rules.specs.declared.Bins.{Bins}
 use Rattle.sheets_rules.specs.declared.TreeRecord.{TreeRecord}
@@ -18,6 +18,7 @@ use Rattle.curves.specs.Inside.Best.{SourcesSafe, Above}
 use Rattle.curves.specs.Inside.Promises.{PointsFit, node_points}
 use Rattle.curves.specs.Inside.Stored.{CurvesStored}
 use Rattle.filling.specs.declared.Turn.{Turn}
+use Rattle.filling.specs.declared.Counts.{Counts}
 
 -- ---- the curves of a node, from the tables
 
@@ -47,17 +48,13 @@ module _ (symbols work rows : List ℕ) (hits : List Hit) (turn : Turn) where
     pub fit : (b : ℕ) → b < turn.bins.count → PointsFit turn.most symbols work rows hits (load_at turn b)
     pub zero : ZeroBelow turn.most (next_curve turn) work
 
-  -- A node's curves, which are not too long, and nothing changed above the node.
-  pub record NodeStored (work' : List ℕ) : Type 0 where
-    pub stored : (b : ℕ) → b < turn.bins.count → (length (points_under b) ≤ turn.most) × (table_of turn.most work' turn.node b ≡ points_under b)
+  -- A node's curves: how many points under each load, the curves themselves where they are not too many, and nothing changed above the node.
+  pub record NodeFilled (work' : List ℕ) (r : Counts) : Type 0 where
+    pub counted : (b : ℕ) → b < turn.bins.count → get_or r.points b 0 ≡ length (points_under b)
+    pub stored : (b : ℕ) → b < turn.bins.count → length (points_under b) ≤ turn.most → table_of turn.most work' turn.node b ≡ points_under b
     pub zero : ZeroBelow turn.most (first_curve turn) work'
     pub agree : AgreeFrom turn.most (next_curve turn) work' work
     pub small : Small work'
-
-  -- They are stored, or there are too many points under one of the loads.
-  abbrev pub NodeFilled : List ℕ → Result (Unit {0}) ℕ → Type 0
-  NodeFilled work' (Ok _) = NodeStored work'
-  NodeFilled work' (Err n) = (n ≡ turn.node) × ((b : ℕ) × ((b < turn.bins.count) × (turn.most < length (points_under b))))
 
 -- ---- the curves of a node, as the covers have them
 
@@ -74,31 +71,28 @@ module _ (l : Library) (s : Shape) (turn : Turn) where
   abbrev pub curve_under : ℕ → List Point
   curve_under b = curve (covers l (load_at turn b) turn.node s)
 
-  -- The node's curves under its loads, none of which is too long; a leaf has none.
-  pub record CurvesIn (work work' : List ℕ) : Type 0 where
-    pub stored : 0 < gates s → (b : ℕ) → b < turn.bins.count → (length (curve_under b) ≤ turn.most) × (table_of turn.most work' turn.node b ≡ curve_under b)
+  -- The node's curves under its loads; a leaf has none.
+  pub record NodeDone (work work' : List ℕ) (r : Counts) : Type 0 where
+    pub counted : 0 < gates s → (b : ℕ) → b < turn.bins.count → get_or r.points b 0 ≡ length (take (turn.most + 1) (curve_under b))
+    pub stored : 0 < gates s → (b : ℕ) → b < turn.bins.count → length (curve_under b) ≤ turn.most → table_of turn.most work' turn.node b ≡ curve_under b
+    pub none : gates s ≡ 0 → (b : ℕ) → get_or r.points b 0 ≡ 0
     pub zero : ZeroBelow turn.most (first_curve turn) work'
     pub agree : AgreeFrom turn.most (next_curve turn) work' work
     pub small : Small work'
 
-  -- A gate has a curve that is too long.
-  pub record CurveTooLong : Type 0 where
-    pub gate : 0 < gates s
-    pub bin : ℕ
-    pub within : bin < turn.bins.count
-    pub long : turn.most < length (curve_under bin)
-
-  abbrev pub NodeDone : (work work' : List ℕ) → Result (Unit {0}) ℕ → Type 0
-  NodeDone work work' (Ok _) = CurvesIn work work'
-  NodeDone work work' (Err n) = (n ≡ turn.node) × CurveTooLong
-
--- The node's curves are filled, or it is named, whichever library and tree are stored.
-abbrev pub FillsNode : (rows ss zs : List ℕ) → Turn → (room : ℕ) → (work work' : List ℕ) → Result (Unit {0}) ℕ → Type 0
+-- The node's curves are filled, whichever library and tree are stored.
+abbrev pub FillsNode : (rows ss zs : List ℕ) → Turn → (room : ℕ) → (work work' : List ℕ) → Counts → Type 0
 FillsNode rows ss zs turn room work work' r = (l : Library) (t : Tree) (s : Shape) → FillReady l t rows ss zs turn room work s → NodeDone l s turn work work' r
+
+-- Some count of the turn's loads is above what the node may have, or none is.
+abbrev pub Exceeds : Turn → Bool → Counts → Type 0
+Exceeds turn true r = (b : ℕ) × (b < turn.bins.count) × (turn.most < get_or r.points b 0)
+Exceeds turn false r = (b : ℕ) → b < turn.bins.count → get_or r.points b 0 ≤ turn.most
 
 -- ---- every node
 
--- The library l and the tree t as decoded, and a work area of zeros. A leaf at the root has one trade-off, so a node may have one.
+-- The library l and the tree t as decoded, and a work area of zeros. A leaf at the root has one trade-off, so a node may have one; a count is told
+-- in a byte.
 pub record FillStart (l : Library) (t : Tree) (rows : List ℕ) (bins : Bins) (tree : TreeRecord) (most : ℕ) (work : List ℕ) : Type 0 where
   pub decoded : Decoded l t rows tree.symbols tree.sizes
   pub bins_are : bins ≡ (library_laid l).bins
