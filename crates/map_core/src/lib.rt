@@ -110,7 +110,9 @@ fn map_root(
 
 // The cover that map hands over, for a sound library and a sound tree as decoded, where a node may have `most` trade-offs under a load, in
 // a work area of zeros.
+// Put in place where it is called: as a call of its own it made its table of hits zero twice.
 #[tactic(auto, using(crate::proofs::Core::map_overfull))]
+#[inline(always)]
 pub fn map_tree(
     library: &LibraryRecord,
     tree: &TreeRecord,
