@@ -1,7 +1,9 @@
 -- From a cover sheet, sound or not, to what is said of it; and what that is worth.
 use Prim.Native.Nat.{ℕ}
-use mathlib.Core.Path.{◌≡◌, refl, sym, ap, subst, ◌∙◌}
+use mathlib.Core.Path.{◌≡◌, refl, sym, ap, ◌∙◌}
 use mathlib.Core.List.{List}
+use Rattle.fields.specs.declared.Flaw.{Flaw}
+use Rattle.fields.specs.Inside.Promises.{Told, Flawed}
 use Rattle.fields.specs.Reading.{Scan, Live}
 use Rattle.fields.specs.Reading.{At, Refused}
 use Rattle.fields.specs.Reading.{start}
@@ -11,8 +13,7 @@ use Rattle.sheets_rules.specs.Report.{library_said, tree_said, number_of, refusa
 use Rattle.covers.specs.Cover.{Point, Cover}
 use Rattle.covers.specs.CoverSheet.{cover_read}
 use Rattle.result_sheets.specs.declared.CoverRecord.{CoverRecord}
-use Rattle.result_sheets.specs.declared.FlawedCover.{FlawedCover}
-use Rattle.result_sheets.specs.Public.{cover_of, CoverTold, CoverFlawed}
+use Rattle.result_sheets.specs.Public.{cover_of, cover_bits, CoverHolds}
 use Rattle.judge_rules.specs.Walk.{started, walk}
 use Rattle.judge_rules.specs.Judgement.{sheet_number, figures, cover_judged, judgement}
 use Rattle.judge_rules.specs.Public.{of_cover_judged, Judges}
@@ -37,18 +38,18 @@ figures_refused stated q e = ap (figures stated) e
 -- ---- a cover sheet
 
 module _ (cs : List ℕ) (l : Library) (t : Tree) where
-  pub cover_answered : {c : CoverRecord} → CoverTold (cover_read cs start) c → (r : Result Figures Refusal) → of_cover_judged r ≡ figures (cover_of c).point (walk l 0 (cover_of c).placed (started t)) →
+  pub cover_answered : {c : CoverRecord} → Told CoverHolds (cover_read cs start) c → (r : Result Figures Refusal) → of_cover_judged r ≡ figures (cover_of c).point (walk l 0 (cover_of c).placed (started t)) →
       of_cover_judged r ≡ cover_judged (cover_read cs start) l t
   unfolding cover_judged
-  cover_answered {c} h r said = go (cover_read cs start) (subst Live (sym h.scan_is) tt) h.holds.cover_is
+  cover_answered {c} h r said = go (cover_read cs start) h.live h.holds.cover_is
     where
       go : (x : Cover × Scan) → Live x.1 → cover_of c ≡ x.0 → of_cover_judged r ≡ cover_judged x l t
       go (k, At q) live e = said ∙ ap (λ (k : Cover). cover_judged (k, At q) l t) e
       go (k, Refused f p) live e = absurd live
 
-  pub cover_not_read : {e : FlawedCover} → CoverFlawed (cover_read cs start) e → refused sheet_number e.flaw.place ≡ cover_judged (cover_read cs start) l t
+  pub cover_not_read : {e : Flaw} → Flawed (cover_read cs start) (cover_bits 63) e → refused sheet_number e.place ≡ cover_judged (cover_read cs start) l t
   unfolding cover_judged
-  cover_not_read h = ap (λ (z : Scan). cover_judged ((cover_read cs start).0, z) l t) (sym h.scan_is)
+  cover_not_read h = ap (λ (z : Scan). cover_judged ((cover_read cs start).0, z) l t) (sym h.says)
 
 -- ---- the whole answer
 
